@@ -1,0 +1,14 @@
+pub mod Says
+pub mod Codes
+pub mod Formats
+pub mod Rates
+pub mod Flags
+pub mod Events
+pub mod Requests
+pub mod Statuses
+pub mod Answers
+pub mod SaysLaws
+pub mod CodesLaws
+pub mod FlagsLaws
+pub mod TableLaws
+pub mod RatesLaws

@@ -1,0 +1,42 @@
+// Status codes of an answer.
+ghost use mathlib.Core.Path.{_≡_};
+ghost use Rattle.codes.specs.Codes.{codeSays};
+ghost use Rattle.codes.specs.Statuses.{statusCodes, statusCode, saysStatus};
+
+pub enum StatusCode {
+    SOk,
+    SBadMsg,
+    SNotSupp,
+    SIoErr,
+}
+
+// What the status of an answer is.
+pub enum FoundStatus {
+    Is(StatusCode),
+    IoError,
+}
+
+impl StatusCode {
+    pub fn code(self) -> u32
+        ensures { λ r. ⌜ r ≡ statusCode self ⌝ }
+    {
+        match self {
+            StatusCode::SOk => 0x8000,
+            StatusCode::SBadMsg => 0x8001,
+            StatusCode::SNotSupp => 0x8002,
+            StatusCode::SIoErr => 0x8003,
+        }
+    }
+
+    pub fn from_code(code: u32) -> FoundStatus
+        ensures { λ r. ⌜ saysStatus r ≡ codeSays statusCodes 2 code ⌝ }
+    {
+        match code {
+            0x8000 => FoundStatus::Is(StatusCode::SOk),
+            0x8001 => FoundStatus::Is(StatusCode::SBadMsg),
+            0x8002 => FoundStatus::Is(StatusCode::SNotSupp),
+            0x8003 => FoundStatus::Is(StatusCode::SIoErr),
+            _ => FoundStatus::IoError,
+        }
+    }
+}
