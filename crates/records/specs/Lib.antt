@@ -1,0 +1,10 @@
+pub mod Slice
+pub mod Records
+pub mod Positions
+pub mod Notice
+pub mod SliceLaws
+pub mod BackLaws
+pub mod RoundLaws
+pub mod RowLaws
+pub mod PositionLaws
+pub mod NoticeLaws

@@ -1,0 +1,5 @@
+// What writing a record says.
+pub enum Written {
+    Done,
+    BadLength,
+}
