@@ -1,0 +1,3 @@
+# Every .rt and .antt file is as `rt fmt` lays it out.
+cd "$(dirname "$0")/.." || exit 2
+rt fmt --check
