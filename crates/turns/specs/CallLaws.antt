@@ -1,0 +1,75 @@
+-- What the code of the calls leans on: a test that a callee answered, a part of the frames, the ring after a step.
+-- Assumes nothing.
+use Prim.Native.Nat.{ℕ, _+_, _-_, _≤_}
+use native.Mathlib.Omega.{arith}
+use native.Mathlib.Nat.{add-sub-cancel-left}
+use mathlib.Core.Path.{_≡_, sym, ap, _∙_}
+use mathlib.Core.Bool.{Bool, true, false, _&&_, not}
+use mathlib.Core.List.{List, [], _∷_}
+use borrow.Author.Tests.{lt-ltb, le-ltb, not-true, not-false}
+use lib.Dec.{ltb}
+use lib.ListN.{length, take, drop, set, length-drop, drop-of-length-le}
+use lib.Seq.{drop-length, take-nil, take-all, set-out}
+use Rattle.codes.specs.Says.{pick}
+use Rattle.turns.specs.Calls.{carry, ringAfter}
+use Rattle.turns.specs.Reads.{readOf, runningOf}
+use Rattle.turns.specs.declared.ring.Track.{Track}
+use Rattle.turns.specs.declared.ring.Ring.{Ring}
+use Rattle.turns.specs.declared.ring.Slot.{Slot}
+use Rattle.turns.specs.declared.ring.Step.{Step}
+use Rattle.turns.specs.declared.ring.Sent.{Sent}
+use Rattle.turns.specs.declared.ring.Sent.the-variants.{Nothing, Period}
+
+-- ---- r is what a callee said of the test t, and the code went by r
+
+pub failed : {r t : Bool} → r ≡ t → not r ≡ true → t ≡ false
+failed {r} e h = sym e ∙ not-true r h
+
+pub passed : {r t : Bool} → r ≡ t → not r ≡ false → t ≡ true
+passed {r} e h = sym e ∙ not-false r h
+
+pub both-fails : (a b : Bool) → a ≡ false → false ≡ (a && b)
+both-fails a b e = rw e
+
+pub both-rest : {r : Bool} (a b : Bool) → a ≡ true → r ≡ b → r ≡ (a && b)
+both-rest a b e p = rw e p
+
+pub positive : (n : ℕ) → (n ≡ 0 → ⊥) → ltb 0 n ≡ true
+positive n h = lt-ltb 0 n (omega arith)
+
+pub nought : (n : ℕ) → n ≡ 0 → ltb 0 n ≡ false
+nought n h = le-ltb 0 n (omega arith)
+
+-- ---- a part of the frames: what there is of len bytes from an offset on
+
+module _ {A : Type 0} (l : List A) (len off : ℕ) where
+  pub part-none : length l ≤ off → take (length l - length l) (drop (length l) l) ≡ take len (drop off l)
+  part-none h = rw (drop-of-length-le l h, drop-length l, take-nil {A = A} len, take-nil {A = A} (length l - length l))
+
+  pub part-rest : length l - off ≤ len → take (length l - off) (drop off l) ≡ take len (drop off l)
+  part-rest h =
+      let e = length-drop off l in
+      take-all (length l - off) (drop off l) (omega arith) ∙ sym (take-all len (drop off l) (omega arith))
+
+  pub part-within : take (off + len - off) (drop off l) ≡ take len (drop off l)
+  part-within = rw (add-sub-cancel-left off len)
+
+-- ---- the ring after a step, by what the step sent
+
+module _ (r : Ring) (s : Step) where
+  abbrev pub with-slots : List Slot → Ring
+  with-slots slots = record { track = s .track; slots = slots }
+
+  pub after-none : s .sent ≡ Nothing → with-slots (r .slots) ≡ ringAfter r s
+  after-none e = ap (λ (x : Sent). with-slots (carry (r .slots) x)) (sym e)
+
+  pub after-period : (slot offset len : ℕ) → s .sent ≡ Period slot offset len → with-slots (set (r .slots) slot (record { offset = offset; len = len })) ≡ ringAfter r s
+  after-period slot offset len e = ap (λ (x : Sent). with-slots (carry (r .slots) x)) (sym e)
+
+  pub after-out : (slot offset len : ℕ) → s .sent ≡ Period slot offset len → length (r .slots) ≤ slot → with-slots (r .slots) ≡ ringAfter r s
+  after-out slot offset len e h = ap with-slots (sym (set-out (r .slots) slot (record { offset = offset; len = len }) h)) ∙ after-period slot offset len e
+
+-- ---- whether a transfer runs, as a number
+
+pub told-running : (t : Track) (b : Bool) → t .running ≡ b → readOf t (pick b 1 0 ∷ []) ≡ runningOf t
+told-running t b e = ap (λ (x : Bool). readOf t (pick x 1 0 ∷ [])) (sym e)

@@ -1,0 +1,139 @@
+-- The calls on a ring, with their refusals: a turn, a drain turn, the start of a transfer, and what the next turn submits.
+-- Assumes nothing.
+use mathlib.Core.Bool.{Bool, true, false, _&&_, _||_, not}
+use mathlib.Core.List.{List, [], _∷_}
+use Prim.Native.Nat.{ℕ}
+use lib.Dec.{ltb, eqb}
+use lib.ListN.{length, getD, set}
+use Rattle.codes.specs.Says.{Says, says, pick, guard}
+use Rattle.codes.specs.declared.answers.Answer.{Answer}
+use Rattle.codes.specs.declared.answers.Answer.the-variants.{Ok, WrongToken}
+use Rattle.codes.specs.declared.answers.Refusal.{Refusal}
+use Rattle.codes.specs.declared.answers.Refusal.the-variants.{InvalidParam, Busy, OutOfTurns, BadLength}
+use Rattle.turns.specs.Cut.{payload}
+use Rattle.turns.specs.Ring.{blankSlot, free}
+use Rattle.turns.specs.Rules.{chooseOf, sentOf, judgeOf, release, turnOf, countedOf}
+use Rattle.turns.specs.Consistent.{consistentOf}
+use Rattle.turns.specs.declared.ring.Slot.{Slot}
+use Rattle.turns.specs.declared.ring.Track.{Track}
+use Rattle.turns.specs.declared.ring.Ring.{Ring}
+use Rattle.turns.specs.declared.ring.Step.{Step}
+use Rattle.turns.specs.declared.ring.Turned.{Turned}
+use Rattle.turns.specs.declared.ring.Sent.{Sent}
+use Rattle.turns.specs.declared.ring.Sent.the-variants.{Nothing, Period}
+use Rattle.turns.specs.declared.ring.Heard.the-variants.{Silent, Freed}
+use Rattle.turns.specs.declared.ring.Said.the-variants.{Going, Ended, Refused}
+use Rattle.turns.specs.declared.reading.Reading.{Reading}
+use Rattle.turns.specs.declared.reading.Reading.the-variants.{Quiet, Completed}
+use Rattle.turns.specs.declared.rules.Choice.{Choice}
+use Rattle.turns.specs.declared.rules.Choice.the-variants.{Submit, Finish, Wait}
+use Rattle.turns.specs.declared.rules.Verdict.{Verdict}
+use Rattle.turns.specs.declared.rules.Verdict.the-variants.{Stranger, Good, Bad}
+use Rattle.turns.specs.declared.calls.Offer.{Offer}
+use Rattle.turns.specs.declared.calls.Offer.the-variants as offer
+
+-- a refusal changes nothing; an answer that frees nothing changes nothing either
+abbrev pub refusedOf : Refusal → Track → Step
+refusedOf r t = record { track = t; sent = Nothing; heard = Silent; said = Refused r }
+
+abbrev pub answeredOf : Answer → Track → Step
+answeredOf a t = record { track = t; sent = Nothing; heard = Silent; said = Ended a }
+
+-- "A turn's frames not as long as at the start" get 10; where no transfer runs there is no start to compare with
+abbrev pub lengthAgrees : Track → ℕ → Bool
+lengthAgrees t len = not (t .running) || eqb len (t .total)
+
+-- A TURN, lent frames of some length: 10, then 1 for an inconsistent ring, 1 where no transfer runs
+unfoldable pub turnCall : ℕ → Track → ℕ → Reading → Step
+turnCall least t len reading =
+    guard (lengthAgrees t len)
+    (guard (consistentOf t)
+    (guard (t .running) (countedOf (turnOf least t reading)) (refusedOf InvalidParam t))
+    (refusedOf InvalidParam t))
+    (refusedOf BadLength t)
+
+-- "After 2, 6 or 9 drain turns free owed slots, oldest first, ignoring status; a wrong slot, or any when none is owed, gives 6 and frees none;
+-- a right slot or a quiet reading gives Ok."
+abbrev pub drainBy : Verdict → Track → ℕ → ℕ → Step
+drainBy Stranger t slot status = answeredOf WrongToken t
+drainBy Good t slot status = record { track = release t; sent = Nothing; heard = Freed slot status; said = Ended Ok }
+drainBy (Bad a) t slot status = record { track = release t; sent = Nothing; heard = Freed slot status; said = Ended Ok }
+
+abbrev pub drained : Track → Reading → Step
+drained t Quiet = answeredOf Ok t
+drained t (Completed slot status) = drainBy (judgeOf t slot status) t slot status
+
+-- A DRAIN TURN: 1 for an inconsistent ring, 1 while a transfer runs
+unfoldable pub drainCall : Track → Reading → Step
+drainCall t reading =
+    guard (consistentOf t)
+    (guard (t .running) (refusedOf InvalidParam t) (drained t reading))
+    (refusedOf InvalidParam t)
+
+-- "A transfer starts with 32 free descriptors, head and tail 0."
+abbrev pub begun : Track → ℕ → ℕ → ℕ → ℕ → Track
+begun t stream total period budget =
+    record {
+      per = t .per;
+      head = 0;
+      tail = 0;
+      held = 0;
+      stream = stream;
+      total = total;
+      period = period;
+      next = 0;
+      budget = budget;
+      turns = 0;
+      running = true;
+    }
+
+-- no transfer runs and no slot is in flight
+abbrev pub idleOf : Track → Bool
+idleOf t = not (t .running) && eqb (t .held) 0
+
+-- THE START of a transfer: 1 for an inconsistent ring, 8, 1 for a period of 0, 9 for a budget of 0, "nothing submitted"
+unfoldable pub startCall : Track → ℕ → ℕ → ℕ → ℕ → Step
+startCall t stream total period budget =
+    guard (consistentOf t)
+    (guard (idleOf t)
+    (guard (ltb 0 period)
+    (guard (ltb 0 budget) (record { track = begun t stream total period budget; sent = Nothing; heard = Silent; said = Going }) (refusedOf OutOfTurns t))
+    (refusedOf InvalidParam t))
+    (refusedOf Busy t))
+    (refusedOf InvalidParam t)
+
+-- ---- the same of the ring: what was submitted stands in its slot
+
+abbrev pub carry : List Slot → Sent → List Slot
+carry slots Nothing = slots
+carry slots (Period slot offset len) = set slots slot (record { offset = offset; len = len })
+
+abbrev pub ringAfter : Ring → Step → Ring
+ringAfter r s = record { track = s .track; slots = carry (r .slots) (s .sent) }
+
+-- the number of turns run in this transfer is the ring's; a start has run none
+abbrev pub turnedOf : Ring → Step → Turned
+turnedOf r s = record { ring = ringAfter r s; sent = s .sent; heard = s .heard; said = s .said; turns = s .track .turns }
+
+abbrev pub startedOf : Ring → Step → Turned
+startedOf r s = record { ring = ringAfter r s; sent = s .sent; heard = s .heard; said = s .said; turns = 0 }
+
+-- ---- what the next turn submits, and its refusals: those of the turn
+
+abbrev pub offerBy : Choice → Track → Sent
+offerBy Submit t = sentOf t
+offerBy Finish t = Nothing
+offerBy Wait t = Nothing
+
+unfoldable pub offerCall : ℕ → Track → ℕ → Offer
+offerCall least t len =
+    guard (lengthAgrees t len)
+    (guard (consistentOf t)
+    (guard (t .running) (offer.Is (offerBy (chooseOf least t) t)) (offer.Refused InvalidParam))
+    (offer.Refused InvalidParam))
+    (offer.Refused BadLength)
+
+-- the period itself, as a part of the frames; where there is none, or the turn would be refused, an empty part
+abbrev pub shownBy : {A : Type 0} → Offer → List A → List A
+shownBy (offer.Is sent) frames = payload frames sent
+shownBy (offer.Refused r) frames = []

@@ -1,0 +1,107 @@
+-- What the consistency test says of a track, as facts, and back.
+-- Assumes nothing.
+use Prim.Native.Nat.{ℕ, _+_, _*_, _%_, _≤_, _<_}
+use native.Mathlib.Omega.{arith}
+use mathlib.Core.Path.{_≡_, refl, sym, ap, _∙_}
+use mathlib.Core.Bool.{Bool, true, false, _&&_, _||_, not, false≢true}
+use lib.Dec.{ltb, leb, eqb}
+use borrow.Author.Tests.{lt-ltb, ltb-true, le-leb, leb-true, eq-eqb, eqb-true}
+use Rattle.turns.specs.Consistent.{placedOf, pacedOf, consistentOf}
+use Rattle.turns.specs.declared.ring.Track.{Track}
+
+pub record Placed (t : Track) : Type 0 where
+  pub direct : t .per ≡ 3
+  pub head-in : t .head < 32
+  pub tail-in : t .tail < 32
+  pub room : t .held * t .per ≤ 32
+  pub line : (t .tail + t .held) % 32 ≡ t .head
+
+pub record Paced (t : Track) : Type 0 where
+  pub within : t .next ≤ t .total
+  pub some : t .running ≡ true → 0 < t .period
+  pub left : t .running ≡ true → t .turns < t .budget
+
+pub both : (a b : Bool) → (a && b) ≡ true → (a ≡ true) × (b ≡ true)
+both true b e = (refl, e)
+both false b e = absurd (false≢true e)
+
+either : (run p t : Bool) → (not run || (p && t)) ≡ true → run ≡ true → (p ≡ true) × (t ≡ true)
+either true p t e h = both p t e
+either false p t e h = absurd (false≢true h)
+
+-- a test that cannot hold fails
+pub refuted : (b : Bool) → (b ≡ true → ⊥) → false ≡ b
+refuted true h = absurd (h refl)
+refuted false h = refl
+
+pub placed-facts : (t : Track) → placedOf t ≡ true → Placed t
+unfolding placedOf
+placed-facts t e =
+    let e₁ = both _ _ e in
+    let e₂ = both _ _ (e₁ .1) in
+    let e₃ = both _ _ (e₂ .1) in
+    let e₄ = both _ _ (e₃ .1) in
+    record {
+      direct = eqb-true _ _ (e₁ .0);
+      head-in = ltb-true _ _ (e₂ .0);
+      tail-in = ltb-true _ _ (e₃ .0);
+      room = leb-true _ _ (e₄ .0);
+      line = eqb-true _ _ (e₄ .1);
+    }
+
+pub placed-true : (t : Track) → Placed t → true ≡ placedOf t
+unfolding placedOf
+placed-true t p = simp (eq-eqb _ _ (p .direct), lt-ltb _ _ (p .head-in), lt-ltb _ _ (p .tail-in), le-leb _ _ (p .room), eq-eqb _ _ (p .line))
+
+pub paced-facts : (t : Track) → pacedOf t ≡ true → Paced t
+unfolding pacedOf
+paced-facts t e =
+    let e₁ = both _ _ e in
+    record {
+      within = leb-true _ _ (e₁ .0);
+      some = λ h. ltb-true _ _ (either (t .running) (ltb 0 (t .period)) (ltb (t .turns) (t .budget)) (e₁ .1) h .0);
+      left = λ h. ltb-true _ _ (either (t .running) (ltb 0 (t .period)) (ltb (t .turns) (t .budget)) (e₁ .1) h .1);
+    }
+
+paced-by : (run p t : Bool) → (run ≡ true → p ≡ true) → (run ≡ true → t ≡ true) → true ≡ (not run || (p && t))
+paced-by true p t a b = rw (a refl, b refl)
+paced-by false p t a b = refl
+
+pub paced-true : (t : Track) → Paced t → true ≡ pacedOf t
+unfolding pacedOf
+paced-true t p = rw (le-leb _ _ (p .within)) (paced-by (t .running) _ _ (λ h. lt-ltb _ _ (p .some h)) (λ h. lt-ltb _ _ (p .left h)))
+
+-- at 3 descriptors a submission, at most 10 are in flight
+pub few : (t : Track) → Placed t → t .held ≤ 10
+few t p = let room : t .held * 3 ≤ 32 = rw (← (p .direct)) (p .room) in omega arith
+
+-- the last test of each is what the whole comes to once the others passed
+pub placed-last : (t : Track) (b : Bool) → t .per ≡ 3 → t .head < 32 → t .tail < 32 → t .held ≤ 10 → b ≡ eqb ((t .tail + t .held) % 32) (t .head) → b ≡ placedOf t
+unfolding placedOf
+placed-last t b p h l m e =
+    let room : t .held * t .per ≤ 32 = rw p (omega arith) in
+    simp (eq-eqb _ _ p, lt-ltb _ _ h, lt-ltb _ _ l, le-leb _ _ room) e
+
+pub paced-idle : (t : Track) → t .next ≤ t .total → t .running ≡ false → true ≡ pacedOf t
+unfolding pacedOf
+paced-idle t h e = rw (le-leb _ _ h, e)
+
+pub paced-last : (t : Track) (b : Bool) → t .next ≤ t .total → t .running ≡ true → 0 < t .period → b ≡ ltb (t .turns) (t .budget) → b ≡ pacedOf t
+unfolding pacedOf
+paced-last t b h r p e = rw (le-leb _ _ h, r, lt-ltb _ _ p) e
+
+-- the invariant behind the test
+pub record Consistent (t : Track) : Type 0 where
+  pub placed : Placed t
+  pub paced : Paced t
+
+pub consistent-facts : (t : Track) → consistentOf t ≡ true → Consistent t
+consistent-facts t e =
+    let b = both (placedOf t) (pacedOf t) e in
+    record { placed = placed-facts t (b .0); paced = paced-facts t (b .1) }
+
+pub consistent-true : (t : Track) → Consistent t → consistentOf t ≡ true
+consistent-true t c =
+    let p : placedOf t ≡ true = sym (placed-true t (c .placed)) in
+    let q : pacedOf t ≡ true = sym (paced-true t (c .paced)) in
+    rw (p, q)

@@ -1,0 +1,159 @@
+-- One log: the host's loop over the call of a turn and the run of the rules say the same, and both come to an answer within the budget.
+-- Assumes nothing.
+use Prim.Native.Nat.{ℕ, zero, suc, _+_, _≤_, _<_}
+use native.Mathlib.Omega.{arith}
+use mathlib.Core.Path.{_≡_, refl, sym, ap, _∙_, subst}
+use mathlib.Core.Bool.{Bool, true, false, not, _||_, _&&_}
+use mathlib.Core.List.{List}
+use lib.Dec.{eqb}
+use lib.ListN.{length}
+use borrow.Author.Tests.{eq-eqb, lt-ltb, ltb-true}
+use Rattle.codes.specs.SaysLaws.{passes, guarded-by}
+use Rattle.codes.specs.declared.answers.Refusal.{Refusal}
+use Rattle.turns.specs.Rules.{turnOf, countedOf}
+use Rattle.turns.specs.ConsistentLaws.{Consistent, consistent-facts, consistent-true}
+use Rattle.turns.specs.Calls.{turnCall, begun, startCall}
+use Rattle.turns.specs.KeepLaws.{After, turn-after, turn-keeps, turn-runs}
+use Rattle.turns.specs.PassLaws.{begun-keeps}
+use Rattle.turns.specs.Log.{Line, Ran, onward, Told, firstOf, restOf, loop, ruled, run, called, hosted}
+use Rattle.turns.specs.declared.ring.Track.{Track}
+use Rattle.turns.specs.declared.ring.Ring.{Ring}
+use Rattle.turns.specs.declared.ring.Step.{Step}
+use Rattle.turns.specs.declared.ring.Sent.the-variants.{Nothing}
+use Rattle.turns.specs.declared.ring.Said.{Said}
+use Rattle.turns.specs.declared.ring.Said.the-variants.{Going, Ended, Refused}
+use Rattle.turns.specs.declared.reading.Reading.{Reading}
+
+-- ---- two loops that say the same: one seen through a view of its state
+
+abbrev pub seen : {A B : Type 0} → (A → B) → Ran A → Ran B
+seen view r = record { said = r .said; at = view (r .at); log = r .log }
+
+onward-alike : {A B : Type 0} (view : A → B) (said : Said) (line : Line) (a : A) (r : Ran A) (q : Ran B) → (said ≡ Going → seen view r ≡ q) → seen view (onward said line a r) ≡ onward said line (view a) q
+onward-alike view Going line a r q h = ap (λ (x : Ran _). onward Going line (view a) x) (h refl)
+onward-alike view (Ended x) line a r q h = refl
+onward-alike view (Refused x) line a r q h = refl
+
+-- f and g leave the same line, and the same state in view, wherever the invariant holds; a turn of f that goes on keeps it
+pub loops-alike : {A B : Type 0} (f : A → Reading → Told A) (g : B → Reading → Told B) (view : A → B) (Inv : A → Type 0)
+    → ((a : A) (x : Reading) → Inv a → (f a x .line ≡ g (view a) x .line) × (view (f a x .left) ≡ g (view a) x .left) × (f a x .line .said ≡ Going → Inv (f a x .left)))
+    → (fuel : ℕ) (a : A) (script : List Reading) → Inv a → seen view (loop f fuel a script) ≡ loop g fuel (view a) script
+unfolding loop
+loops-alike f g view Inv step zero a script i = refl
+loops-alike {A} {B} f g view Inv step (suc fuel) a script i =
+    let x = firstOf script in
+    let s = step a x i in
+    let rest : B → Ran B = λ b. loop g fuel b (restOf script) in
+    onward-alike view (f a x .line .said) (f a x .line) (f a x .left) (loop f fuel (f a x .left) (restOf script)) (rest (view (f a x .left)))
+    (λ going. loops-alike f g view Inv step fuel (f a x .left) (restOf script) (s .2 going))
+    ∙ ap (λ (l : Line). onward (l .said) l (view (f a x .left)) (rest (view (f a x .left)))) (s .0)
+    ∙ ap (λ (b : B). onward (g (view a) x .line .said) (g (view a) x .line) b (rest b)) (s .1)
+
+-- ---- THE LINK
+
+-- a transfer runs on frames of a length
+pub record Runs (len : ℕ) (t : Track) : Type 0 where
+  pub consistent : Consistent t
+  pub running : t .running ≡ true
+  pub whole : len ≡ t .total
+
+agrees : (running same : Bool) → same ≡ true → (not running || same) ≡ true
+agrees true same e = e
+agrees false same e = refl
+
+-- the call of a turn is the counted turn
+pub call-turns : (least len : ℕ) (t : Track) (reading : Reading) → Runs len t → countedOf (turnOf least t reading) ≡ turnCall least t len reading
+unfolding turnCall
+call-turns least len t reading r =
+    passes _ _ _ (agrees (t .running) (eqb len (t .total)) (eq-eqb _ _ (r .whole))) (passes _ _ _ (consistent-true t (r .consistent)) (passes _ _ _ (r .running) refl))
+
+-- a turn that goes on leaves a transfer that runs
+pub runs-on : (least len : ℕ) (t : Track) (reading : Reading) → 3 ≤ least → Runs len t → countedOf (turnOf least t reading) .said ≡ Going → Runs len (countedOf (turnOf least t reading) .track)
+runs-on least len t reading le r e =
+    record {
+      consistent = turn-keeps least t reading le (r .consistent) (r .running);
+      running = turn-runs least t reading e;
+      whole = r .whole ∙ sym (ap (λ (x : ℕ × ℕ × ℕ × ℕ × ℕ). x .2) (turn-after least t reading .0));
+    }
+
+-- THE HOST'S LOOP and THE RUN of the rules say the same, line for line, and leave the same track
+pub link : (least len fuel : ℕ) (r : Ring) (script : List Reading) → 3 ≤ least → Runs len (r .track) → seen (λ (x : Ring). x .track) (hosted least len fuel r script) ≡ run least fuel (r .track) script
+link least len fuel r script le i =
+    loops-alike (called least len) (ruled least) (λ (x : Ring). x .track) (λ x. Runs len (x .track))
+    (λ a x h.
+    let e = sym (call-turns least len (a .track) x h) in (
+      ap (λ (s : Step). record { sent = s .sent; waiting = ruled least (a .track) x .line .waiting; reading = x; heard = s .heard; said = s .said }) e,
+      ap (λ (s : Step). s .track) e,
+      subst (λ (s : Step). s .said ≡ Going → Runs len (s .track)) (sym e) (runs-on least len (a .track) x le h),
+    ))
+    fuel r script i
+
+-- ---- how a run ends
+
+pub record Ends (fuel : ℕ) (t : Track) (o : Ran Track) : Type 0 where
+  -- with fuel for the budget that is left there is an answer
+  pub answered : t .budget ≤ t .turns + fuel → o .said ≡ Going → ⊥
+  -- within the budget
+  pub within : t .turns + length (o .log) ≤ t .budget
+  -- the transfer is the same, and its count is of the lines of the log
+  pub after : After (length (o .log)) t (o .at)
+  pub consistent : Consistent (o .at)
+
+ends-by : (fuel : ℕ) (t n : Track) (said : Said) (line : Line) (rest : Ran Track) → After 1 t n → t .turns < t .budget → Consistent n → (said ≡ Going → Ends fuel n rest) → Ends (suc fuel) t (onward said line n rest)
+ends-by fuel t n Going line rest a l c h =
+    let k = h refl in
+    let budget = ap (λ (x : ℕ × ℕ × ℕ × ℕ × ℕ). x .4) (a .0) in
+    record { answered = λ f. k .answered (omega arith); within = omega (arith, k .within); after = (k .after .0 ∙ a .0, omega (arith, k .after .1)); consistent = k .consistent }
+ends-by fuel t n (Ended x) line rest a l c h = record { answered = λ f e. let z : _≡_ {A = ℕ} 0 1 = cc in omega arith; within = omega arith; after = a; consistent = c }
+ends-by fuel t n (Refused x) line rest a l c h = record { answered = λ f e. let z : _≡_ {A = ℕ} 0 1 = cc in omega arith; within = omega arith; after = a; consistent = c }
+
+pub run-ends : (least len fuel : ℕ) (t : Track) (script : List Reading) → 3 ≤ least → Runs len t → Ends fuel t (run least fuel t script)
+unfolding loop
+run-ends least len zero t script le r =
+    let left = r .consistent .paced .left (r .running) in
+    record { answered = λ f e. omega arith; within = omega arith; after = (refl, omega arith); consistent = r .consistent }
+run-ends least len (suc fuel) t script le r =
+    let s = ruled least t (firstOf script) in
+    ends-by fuel t (s .left) (s .line .said) (s .line) (run least fuel (s .left) (restOf script)) (turn-after least t (firstOf script)) (r .consistent .paced .left (r .running))
+    (turn-keeps least t (firstOf script) le (r .consistent) (r .running))
+    (λ e. run-ends least len fuel (s .left) (restOf script) le (runs-on least len t (firstOf script) le r e))
+
+-- THE HOST'S LOOP likewise
+pub host-ends : (least len fuel : ℕ) (r : Ring) (script : List Reading) → 3 ≤ least → Runs len (r .track) → Ends fuel (r .track) (seen (λ (x : Ring). x .track) (hosted least len fuel r script))
+host-ends least len fuel r script le i = subst (Ends fuel (r .track)) (sym (link least len fuel r script le i)) (run-ends least len fuel (r .track) script le i)
+
+-- ---- THE START of a transfer
+
+-- a start that goes on has begun a transfer
+pub record Begins (t : Track) (stream total period budget : ℕ) (s : Step) : Type 0 where
+  pub track : s .track ≡ begun t stream total period budget
+  pub sent : s .sent ≡ Nothing
+  pub runs : Runs total (begun t stream total period budget)
+
+never : (x : Refusal) → Refused x ≡ Going → ⊥
+never x e = let z : _≡_ {A = ℕ} 0 1 = cc in omega arith
+
+pub begins : (t : Track) (stream total period budget : ℕ) → startCall t stream total period budget .said ≡ Going → Begins t stream total period budget (startCall t stream total period budget)
+unfolding startCall
+begins t stream total period budget =
+    let P : Step → Type 0 = λ s. s .said ≡ Going → Begins t stream total period budget s in
+    guarded-by P _ _ _
+    (λ c. guarded-by P _ _ _
+    (λ _. guarded-by P _ _ _
+    (λ p. guarded-by P _ _ _
+    (λ b _. record { track = refl; sent = refl; runs = record { consistent = begun-keeps t stream total period budget (consistent-facts t c .placed .direct) (ltb-true _ _ p) (ltb-true _ _ b); running = refl; whole = refl } })
+    (λ _ e. absurd (never _ e)))
+    (λ _ e. absurd (never _ e)))
+    (λ _ e. absurd (never _ e)))
+    (λ _ e. absurd (never _ e))
+
+rests : (running empty : Bool) → running ≡ false → empty ≡ true → (not running && empty) ≡ true
+rests running empty p q = rw (p, q)
+
+-- a consistent ring that runs nothing and has nothing in flight can begin one
+pub goes : (t : Track) (stream total period budget : ℕ) → Consistent t → t .running ≡ false → t .held ≡ 0 → 0 < period → 0 < budget → Going ≡ startCall t stream total period budget .said
+unfolding startCall
+goes t stream total period budget c off none p b =
+    ap (λ (s : Step). s .said)
+    (passes _ _ _ (consistent-true t c)
+    (passes _ _ _ (rests (t .running) (eqb (t .held) 0) off (eq-eqb _ _ none)) (passes _ _ _ (lt-ltb _ _ p) (passes _ _ _ (lt-ltb _ _ b) refl))))

@@ -1,0 +1,113 @@
+-- Turn after turn: a loop over a script of readings, with a log of what each turn sent, heard and said. One definition serves the rules' run and the host's loop.
+-- Assumes nothing.
+use mathlib.Core.List.{List, [], _∷_}
+use Prim.Native.Nat.{ℕ, zero, suc, _+_}
+use lib.ListN.{length}
+use Rattle.turns.specs.Rules.{chooseOf, turnOf, countedOf}
+use Rattle.turns.specs.Calls.{turnCall, turnedOf, startCall, startedOf}
+use Rattle.turns.specs.declared.ring.Track.{Track}
+use Rattle.turns.specs.declared.ring.Ring.{Ring}
+use Rattle.turns.specs.declared.ring.Step.{Step}
+use Rattle.turns.specs.declared.ring.Turned.{Turned}
+use Rattle.turns.specs.declared.ring.Sent.{Sent}
+use Rattle.turns.specs.declared.ring.Sent.the-variants.{Nothing, Period}
+use Rattle.turns.specs.declared.ring.Heard.{Heard}
+use Rattle.turns.specs.declared.ring.Heard.the-variants.{Silent, Freed}
+use Rattle.turns.specs.declared.ring.Said.{Said}
+use Rattle.turns.specs.declared.ring.Said.the-variants.{Going, Ended, Refused}
+use Rattle.turns.specs.declared.reading.Reading.{Reading}
+use Rattle.turns.specs.declared.reading.Reading.the-variants.{Quiet, Completed}
+use Rattle.turns.specs.declared.rules.Choice.{Choice}
+use Rattle.turns.specs.declared.rules.Choice.the-variants.{Submit, Finish, Wait}
+
+-- one line of a log: what the turn submitted, how many were in flight at its reading, the reading, what it freed, what it said
+pub record Line : Type 0 where
+  pub sent : Sent
+  pub waiting : ℕ
+  pub reading : Reading
+  pub heard : Heard
+  pub said : Said
+
+-- how many are in flight when a turn looks at its reading
+abbrev pub waitingBy : Choice → Track → ℕ
+waitingBy Submit t = t .held + 1
+waitingBy Finish t = 0
+waitingBy Wait t = t .held
+
+-- "Readings past the end of the script are quiet."
+abbrev pub firstOf : List Reading → Reading
+firstOf [] = Quiet
+firstOf (x ∷ xs) = x
+
+abbrev pub restOf : List Reading → List Reading
+restOf [] = []
+restOf (x ∷ xs) = xs
+
+-- how a loop ended, where, and its log
+pub record Ran (A : Type 0) : Type 0 where
+  pub said : Said
+  pub at : A
+  pub log : List Line
+
+abbrev pub onward : {A : Type 0} → Said → Line → A → Ran A → Ran A
+onward Going line a rest = record { said = rest .said; at = rest .at; log = line ∷ rest .log }
+onward (Ended x) line a rest = record { said = Ended x; at = a; log = line ∷ [] }
+onward (Refused x) line a rest = record { said = Refused x; at = a; log = line ∷ [] }
+
+-- a turn leaves a state, and a line for the log
+pub record Told (A : Type 0) : Type 0 where
+  pub left : A
+  pub line : Line
+
+-- turn after turn as long as they go on, at most fuel of them
+unfoldable pub loop : {A : Type 0} → (A → Reading → Told A) → ℕ → A → List Reading → Ran A
+loop turn zero a script = record { said = Going; at = a; log = [] }
+loop turn (suc fuel) a script =
+    let t = turn a (firstOf script) in
+    onward (t .line .said) (t .line) (t .left) (loop turn fuel (t .left) (restOf script))
+
+abbrev pub lineOf : ℕ → Reading → Step → Line
+lineOf waiting reading s = record { sent = s .sent; waiting = waiting; reading = reading; heard = s .heard; said = s .said }
+
+-- ---- THE RUN of the rules: each turn by rule 1 and rule 2, counted against the budget
+
+abbrev pub ruled : ℕ → Track → Reading → Told Track
+ruled least t reading =
+    let s = countedOf (turnOf least t reading) in
+    record { left = s .track; line = lineOf (waitingBy (chooseOf least t) t) reading s }
+
+abbrev pub run : ℕ → ℕ → Track → List Reading → Ran Track
+run least = loop (ruled least)
+
+-- ---- THE HOST'S LOOP: the call of a turn, again and again, lent frames of one length
+
+abbrev pub called : ℕ → ℕ → Ring → Reading → Told Ring
+called least len r reading =
+    let u = turnedOf r (turnCall least (r .track) len reading) in
+    record {
+      left = u .ring;
+      line = record { sent = u .sent; waiting = waitingBy (chooseOf least (r .track)) (r .track); reading = reading; heard = u .heard; said = u .said };
+    }
+
+abbrev pub hosted : ℕ → ℕ → ℕ → Ring → List Reading → Ran Ring
+hosted least len = loop (called least len)
+
+-- ---- what a log says
+
+-- what went out, in order
+abbrev pub sendsMore : Sent → List Sent → List Sent
+sendsMore Nothing rest = rest
+sendsMore (Period slot offset len) rest = Period slot offset len ∷ rest
+
+abbrev pub sends : List Line → List Sent
+sends [] = []
+sends (l ∷ ls) = sendsMore (l .sent) (sends ls)
+
+-- what was completed, in order
+abbrev pub freesMore : Heard → List Heard → List Heard
+freesMore Silent rest = rest
+freesMore (Freed slot status) rest = Freed slot status ∷ rest
+
+abbrev pub frees : List Line → List Heard
+frees [] = []
+frees (l ∷ ls) = freesMore (l .heard) (frees ls)

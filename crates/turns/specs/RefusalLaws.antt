@@ -1,0 +1,121 @@
+-- Calls: a refusal changes nothing, and what is offered is what the turn submits.
+-- Assumes nothing.
+use Prim.Native.Nat.{ℕ}
+use native.Mathlib.Omega.{arith}
+use mathlib.Core.Path.{_≡_, refl, ap, _∙_}
+use mathlib.Core.Bool.{Bool, true, false}
+use Rattle.codes.specs.Says.{guard}
+use Rattle.codes.specs.SaysLaws.{guarded-by}
+use Rattle.codes.specs.declared.answers.Refusal.{Refusal}
+use Rattle.turns.specs.Rules.{chooseOf, submit, sentOf, judgeOf, hear, act, turnOf, countedOf}
+use Rattle.turns.specs.CaseLaws.{Plain, plain, hear-cases, counted-cases}
+use Rattle.turns.specs.KeepLaws.{turn-plain}
+use Rattle.turns.specs.Calls.{refusedOf, turnCall, drainBy, drained, drainCall, startCall, ringAfter, offerBy, offerCall}
+use Rattle.turns.specs.declared.ring.Track.{Track}
+use Rattle.turns.specs.declared.ring.Ring.{Ring}
+use Rattle.turns.specs.declared.ring.Step.{Step}
+use Rattle.turns.specs.declared.ring.Sent.{Sent}
+use Rattle.turns.specs.declared.ring.Sent.the-variants.{Nothing}
+use Rattle.turns.specs.declared.ring.Said.the-variants.{Going, Refused}
+use Rattle.turns.specs.declared.reading.Reading.{Reading}
+use Rattle.turns.specs.declared.reading.Reading.the-variants.{Quiet, Completed}
+use Rattle.turns.specs.declared.rules.Choice.{Choice}
+use Rattle.turns.specs.declared.rules.Choice.the-variants.{Submit, Finish, Wait}
+use Rattle.turns.specs.declared.rules.Verdict.{Verdict}
+use Rattle.turns.specs.declared.rules.Verdict.the-variants.{Stranger, Good, Bad}
+use Rattle.turns.specs.declared.calls.Offer.{Offer}
+use Rattle.turns.specs.declared.calls.Offer.the-variants as offer
+
+-- ---- a refusal changes nothing
+
+-- a step that refuses leaves the track, and has sent and heard nothing
+abbrev pub Untouched : Track → Step → Type 0
+Untouched t s = (x : Refusal) → s .said ≡ Refused x → s ≡ refusedOf x t
+
+refuses : (t : Track) (r : Refusal) → Untouched t (refusedOf r t)
+refuses t r x e = let same : r ≡ x = cc in ap (λ (y : Refusal). refusedOf y t) same
+
+-- a counted turn is never a refusal
+turn-answers : (least : ℕ) (t : Track) (reading : Reading) → Plain (countedOf (turnOf least t reading) .said)
+turn-answers least t reading = counted-cases (λ s. Plain (s .said)) (turnOf least t reading) (turn-plain least t reading) (λ _. tt) (λ _. tt)
+
+drain-answers : (v : Verdict) (t : Track) (slot status : ℕ) → Plain (drainBy v t slot status .said)
+drain-answers Stranger t slot status = tt
+drain-answers Good t slot status = tt
+drain-answers (Bad a) t slot status = tt
+
+drained-answers : (t : Track) (reading : Reading) → Plain (drained t reading .said)
+drained-answers t Quiet = tt
+drained-answers t (Completed slot status) = drain-answers (judgeOf t slot status) t slot status
+
+module _ (t : Track) where
+  abbrev P : Step → Type 0
+  P s = Untouched t s
+
+  pub turn-refused : (least len : ℕ) (reading : Reading) → Untouched t (turnCall least t len reading)
+  unfolding turnCall
+  turn-refused least len reading =
+      guarded-by P _ _ _
+      (λ _. guarded-by P _ _ _ (λ _. guarded-by P _ _ _ (λ _ x e. absurd (plain _ (turn-answers least t reading) x e)) (λ _. refuses t _)) (λ _. refuses t _))
+      (λ _. refuses t _)
+
+  pub drain-refused : (reading : Reading) → Untouched t (drainCall t reading)
+  unfolding drainCall
+  drain-refused reading = guarded-by P _ _ _ (λ _. guarded-by P _ _ _ (λ _. refuses t _) (λ _ x e. absurd (plain _ (drained-answers t reading) x e))) (λ _. refuses t _)
+
+  pub start-refused : (stream total period budget : ℕ) → Untouched t (startCall t stream total period budget)
+  unfolding startCall
+  start-refused stream total period budget =
+      guarded-by P _ _ _
+      (λ _. guarded-by P _ _ _
+      (λ _. guarded-by P _ _ _ (λ _. guarded-by P _ _ _ (λ _ x e. absurd (plain Going tt x e)) (λ _. refuses t _)) (λ _. refuses t _))
+      (λ _. refuses t _))
+      (λ _. refuses t _)
+
+-- the ring is then as it was, slots included
+pub ring-untouched : (r : Ring) (s : Step) → Untouched (r .track) s → (x : Refusal) → s .said ≡ Refused x → ringAfter r s ≡ r
+ring-untouched r s h x e = ap (ringAfter r) (h x e)
+
+-- ---- what is offered
+
+guarded-both : {A B : Type 0} (P : A → B → Type 0) (t : Bool) (a b : A) (c d : B) → P a c → P b d → P (guard t a b) (guard t c d)
+unfolding guard
+guarded-both P true a b c d p q = p
+guarded-both P false a b c d p q = q
+
+hear-sent : (sent : Sent) (t : Track) (reading : Reading) → hear sent t reading .sent ≡ sent
+hear-sent sent t reading = hear-cases (λ s. s .sent ≡ sent) sent t reading (λ _ _. refl) (λ _ _ _ _ _. refl)
+
+act-sent : (c : Choice) (t : Track) (reading : Reading) → act c t reading .sent ≡ offerBy c t
+act-sent Submit t reading = hear-sent (sentOf t) (submit t) reading
+act-sent Finish t reading = refl
+act-sent Wait t reading = hear-sent Nothing t reading
+
+turn-sent : (least : ℕ) (t : Track) (reading : Reading) → countedOf (turnOf least t reading) .sent ≡ offerBy (chooseOf least t) t
+unfolding turnOf
+turn-sent least t reading =
+    let e = act-sent (chooseOf least t) t reading in
+    counted-cases (λ s. s .sent ≡ offerBy (chooseOf least t) t) (turnOf least t reading) (turn-plain least t reading) (λ _. e) (λ _. e)
+
+-- the turn submits what was offered, and is refused where the offer is
+pub record Offered (t : Track) (o : Offer) (s : Step) : Type 0 where
+  pub is : (sent : Sent) → o ≡ offer.Is sent → s .sent ≡ sent
+  pub refused : (x : Refusal) → o ≡ offer.Refused x → s ≡ refusedOf x t
+
+bars : (t : Track) (r : Refusal) → Offered t (offer.Refused r) (refusedOf r t)
+bars t r =
+    record {
+      is = λ sent e. let z : _≡_ {A = ℕ} 0 1 = cc in absurd (omega arith);
+      refused = λ x e. let same : r ≡ x = cc in ap (λ (y : Refusal). refusedOf y t) same;
+    }
+
+pub offered : (least : ℕ) (t : Track) (len : ℕ) (reading : Reading) → Offered t (offerCall least t len) (turnCall least t len reading)
+unfolding offerCall turnCall
+offered least t len reading =
+    let P : Offer → Step → Type 0 = Offered t in
+    let shows : Offered t (offer.Is (offerBy (chooseOf least t) t)) (countedOf (turnOf least t reading)) =
+    record {
+      is = λ sent e. let same : offerBy (chooseOf least t) t ≡ sent = cc in turn-sent least t reading ∙ same;
+      refused = λ x e. let z : _≡_ {A = ℕ} 0 1 = cc in absurd (omega arith);
+    } in
+    guarded-both P _ _ _ _ _ (guarded-both P _ _ _ _ _ (guarded-both P _ _ _ _ _ shows (bars t _)) (bars t _)) (bars t _)

@@ -1,0 +1,345 @@
+// The calls on a ring: each refusal leaves the ring as it was.
+ghost use mathlib.Core.Path.{_≡_};
+ghost use Prim.Native.Nat.{_≤_, _<_};
+ghost use lib.ListN.{length, take, drop};
+ghost use Rattle.turns.specs.Cut.{payload};
+ghost use Rattle.turns.specs.Rules.{judgeOf};
+ghost use Rattle.turns.specs.declared.rules.Verdict.the-variants.{Good};
+ghost use Rattle.turns.specs.Calls.{refusedOf, answeredOf, lengthAgrees, turnCall, drainBy, drained, drainCall, begun, idleOf, startCall, ringAfter, turnedOf, startedOf, offerBy, offerCall, shownBy};
+use crate::consistent::consistent;
+use crate::reading::Reading;
+use crate::ring::Heard;
+use crate::ring::Ring;
+use crate::ring::Said;
+use crate::ring::Sent;
+use crate::ring::Slot;
+use crate::ring::Step;
+use crate::ring::Track;
+use crate::ring::Turned;
+use crate::rules;
+use crate::rules::Choice;
+use crate::rules::Verdict;
+use codes::Answer;
+use codes::Refusal;
+
+// The least room that a submission needs, with direct descriptors.
+const LEAST: usize = 3;
+
+// What the next turn submits, or why it would be refused.
+pub enum Offer {
+    Is(Sent),
+    Refused(Refusal),
+}
+
+fn refused(refusal: Refusal, t: Track) -> Step
+    ensures { λ r. ⌜ r ≡ refusedOf refusal t ⌝ }
+{
+    Step {
+        track: t,
+        sent: Sent::Nothing,
+        heard: Heard::Silent,
+        said: Said::Refused(refusal),
+    }
+}
+
+fn answered(answer: Answer, t: Track) -> Step
+    ensures { λ r. ⌜ r ≡ answeredOf answer t ⌝ }
+{
+    Step {
+        track: t,
+        sent: Sent::Nothing,
+        heard: Heard::Silent,
+        said: Said::Ended(answer),
+    }
+}
+
+fn length_agrees(t: Track, len: usize) -> bool
+    ensures { λ r. ⌜ r ≡ lengthAgrees t len ⌝ }
+{
+    if t.running {
+        return len == t.total;
+    }
+    true
+}
+
+// A turn of the track, lent frames of some length.
+pub(crate) fn turn_track(least: usize, t: Track, len: usize, reading: Reading) -> Step
+    ensures { λ r. ⌜ r ≡ turnCall least t len reading ⌝ }
+{
+    let agrees = length_agrees(t, len);
+    if !agrees {
+        return refused(Refusal::BadLength, t);
+    }
+    let sound = consistent(t);
+    if !sound {
+        return refused(Refusal::InvalidParam, t);
+    }
+    if !t.running {
+        return refused(Refusal::InvalidParam, t);
+    }
+    let s = rules::step(least, t, reading);
+    rules::counted(s)
+}
+
+// What an owed slot's completion comes to: its status plays no part.
+fn drained_by(v: Verdict, t: Track, slot: u32, status: u32) -> Step
+    requires { ⌜ (t .tail < 32) × (v ≡ judgeOf t slot status) ⌝ }
+    ensures { λ r. ⌜ r ≡ drainBy v t slot status ⌝ }
+{
+    match v {
+        Verdict::Stranger => answered(Answer::WrongToken, t),
+        Verdict::Good => freed(t, slot, status),
+        Verdict::Bad(_) => freed(t, slot, status),
+    }
+}
+
+fn freed(t: Track, slot: u32, status: u32) -> Step
+    requires { ⌜ (t .tail < 32) × (0 < t .held) ⌝ }
+    ensures { λ r. ⌜ r ≡ drainBy Good t slot status ⌝ }
+{
+    Step {
+        track: rules::released(t),
+        sent: Sent::Nothing,
+        heard: Heard::Freed {
+            slot: slot as usize,
+            status,
+        },
+        said: Said::Ended(Answer::Ok),
+    }
+}
+
+fn drain(t: Track, reading: Reading) -> Step
+    requires { ⌜ t .tail < 32 ⌝ }
+    ensures { λ r. ⌜ r ≡ drained t reading ⌝ }
+{
+    match reading {
+        Reading::Quiet => answered(Answer::Ok, t),
+        Reading::Completed { slot, status } => {
+            let v = rules::judge(t, slot, status);
+            drained_by(v, t, slot, status)
+        }
+    }
+}
+
+// A drain turn of the track.
+pub(crate) fn drain_track(t: Track, reading: Reading) -> Step
+    ensures { λ r. ⌜ r ≡ drainCall t reading ⌝ }
+{
+    let sound = consistent(t);
+    if !sound {
+        return refused(Refusal::InvalidParam, t);
+    }
+    if t.running {
+        return refused(Refusal::InvalidParam, t);
+    }
+    drain(t, reading)
+}
+
+// The track with which a transfer starts.
+fn fresh(t: Track, stream: u32, total: usize, period: usize, budget: u64) -> Track
+    ensures { λ r. ⌜ r ≡ begun t stream total period budget ⌝ }
+{
+    Track {
+        per: t.per,
+        head: 0,
+        tail: 0,
+        held: 0,
+        stream,
+        total,
+        period,
+        next: 0,
+        budget,
+        turns: 0,
+        running: true,
+    }
+}
+
+// The start of a transfer on the track.
+pub(crate) fn start_track(t: Track, stream: u32, total: usize, period: usize, budget: u64) -> Step
+    ensures { λ r. ⌜ r ≡ startCall t stream total period budget ⌝ }
+{
+    let sound = consistent(t);
+    if !sound {
+        return refused(Refusal::InvalidParam, t);
+    }
+    let free = idle(t);
+    if !free {
+        return refused(Refusal::Busy, t);
+    }
+    if period == 0 {
+        return refused(Refusal::InvalidParam, t);
+    }
+    if budget == 0 {
+        return refused(Refusal::OutOfTurns, t);
+    }
+    Step {
+        track: fresh(t, stream, total, period, budget),
+        sent: Sent::Nothing,
+        heard: Heard::Silent,
+        said: Said::Going,
+    }
+}
+
+// No transfer runs and no slot is in flight.
+fn idle(t: Track) -> bool
+    ensures { λ r. ⌜ r ≡ idleOf t ⌝ }
+{
+    if t.running {
+        return false;
+    }
+    t.held == 0
+}
+
+// The same, for who is handed a ring: else a new call is Busy.
+pub fn is_idle(t: Track) -> bool
+    ensures { λ r. ⌜ r ≡ idleOf t ⌝ }
+{
+    idle(t)
+}
+
+// The ring after a step: what was submitted stands in its slot. The rules submit below 32, and no
+// other slot would be stored.
+fn after(r: Ring, s: Step) -> Ring
+    ensures { λ x. ⌜ x ≡ ringAfter r s ⌝ }
+{
+    let track = s.track;
+    let sent = s.sent;
+    let mut ring = Ring { track, ..r };
+    let Sent::Period { slot, offset, len } = sent else {
+        return ring;
+    };
+    if 32 <= slot {
+        return ring;
+    }
+    ring.slots[slot] = Slot { offset, len };
+    ring
+}
+
+fn turned(r: Ring, s: Step) -> Turned
+    ensures { λ x. ⌜ x ≡ turnedOf r s ⌝ }
+{
+    let track = s.track;
+    let sent = s.sent;
+    let heard = s.heard;
+    let said = s.said;
+    Turned {
+        ring: after(r, s),
+        sent,
+        heard,
+        said,
+        turns: track.turns,
+    }
+}
+
+// A turn of the ring, lent frames of some length.
+pub(crate) fn turn_of(r: Ring, len: usize, reading: Reading) -> Turned
+    ensures { λ x. ⌜ x ≡ turnedOf r (turnCall 3 (r .track) len reading) ⌝ }
+{
+    let s = turn_track(LEAST, r.track, len, reading);
+    turned(r, s)
+}
+
+// A turn of a transfer, lent the frames again: rule 1 and rule 2, counted.
+pub fn turn(r: Ring, frames: &[u8], reading: Reading) -> Turned
+    ensures { λ x. ⌜ x ≡ turnedOf r (turnCall 3 (r .track) (length (now (frames .entry))) reading) ⌝ }
+{
+    turn_of(r, frames.len(), reading)
+}
+
+// A drain turn: frees an owed slot, oldest first.
+pub fn drain_turn(r: Ring, reading: Reading) -> Turned
+    ensures { λ x. ⌜ x ≡ turnedOf r (drainCall (r .track) reading) ⌝ }
+{
+    let s = drain_track(r.track, reading);
+    turned(r, s)
+}
+
+// The start of a transfer of some frames: nothing is submitted yet.
+pub fn start(r: Ring, stream: u32, frames: &[u8], period: usize, budget: u64) -> Turned
+    ensures { λ x. ⌜ x ≡ startedOf r (startCall (r .track) stream (length (now (frames .entry))) period budget) ⌝ }
+{
+    let s = start_track(r.track, stream, frames.len(), period, budget);
+    Turned {
+        turns: 0,
+        ..turned(r, s)
+    }
+}
+
+// What the next turn of the track submits.
+fn next_sent(choice: Choice, t: Track) -> Sent
+    requires { ⌜ t .next ≤ t .total ⌝ }
+    ensures { λ r. ⌜ r ≡ offerBy choice t ⌝ }
+{
+    match choice {
+        Choice::Submit => rules::outgoing(t),
+        Choice::Finish => Sent::Nothing,
+        Choice::Wait => Sent::Nothing,
+    }
+}
+
+// What the next turn of the track submits, or its refusal.
+pub(crate) fn offer_track(least: usize, t: Track, len: usize) -> Offer
+    ensures { λ r. ⌜ r ≡ offerCall least t len ⌝ }
+{
+    let agrees = length_agrees(t, len);
+    if !agrees {
+        return Offer::Refused(Refusal::BadLength);
+    }
+    let sound = consistent(t);
+    if !sound {
+        return Offer::Refused(Refusal::InvalidParam);
+    }
+    if !t.running {
+        return Offer::Refused(Refusal::InvalidParam);
+    }
+    let choice = rules::choose(least, t);
+    Offer::Is(next_sent(choice, t))
+}
+
+// What the next turn submits: slot, offset and length, or nothing; refused as the turn would be.
+// The ring is unchanged: submit the period to the device, poll, then call `turn`.
+pub fn next_offer(r: Ring, frames: &[u8]) -> Offer
+    ensures { λ x. ⌜ x ≡ offerCall 3 (r .track) (length (now (frames .entry))) ⌝ }
+{
+    offer_track(LEAST, r.track, frames.len())
+}
+
+// What there is of len bytes of some frames from an offset on.
+fn part<'a>(frames: &'a [u8], offset: usize, len: usize) -> &'a [u8]
+    ensures { λ x. ⌜ now x ≡ take len (drop offset (now (frames .entry))) ⌝ }
+{
+    let n = frames.len();
+    if n <= offset {
+        return &frames[n..];
+    }
+    if n - offset <= len {
+        return &frames[offset..];
+    }
+    let end = offset + len;
+    &frames[offset..end]
+}
+
+// The part of the frames that a submission shows.
+fn part_of<'a>(frames: &'a [u8], sent: Sent) -> &'a [u8]
+    ensures { λ x. ⌜ now x ≡ payload (now (frames .entry)) sent ⌝ }
+{
+    match sent {
+        Sent::Nothing => &frames[..0],
+        Sent::Period {
+            slot: _,
+            offset,
+            len,
+        } => part(frames, offset, len),
+    }
+}
+
+// The period that the next turn submits, as a part of the caller's frames itself.
+pub fn offered<'a>(r: Ring, frames: &'a [u8]) -> &'a [u8]
+    ensures { λ x. ⌜ now x ≡ shownBy (offerCall 3 (r .track) (length (now (frames .entry)))) (now (frames .entry)) ⌝ }
+{
+    let o = next_offer(r, frames);
+    match o {
+        Offer::Is(sent) => part_of(frames, sent),
+        Offer::Refused(_) => &frames[..0],
+    }
+}

@@ -1,0 +1,35 @@
+// The turns of a transfer: the ring record, a turn, a drain turn, a run over a script of readings.
+mod calls;
+mod consistent;
+mod in_place;
+mod reading;
+mod ring;
+mod rules;
+mod script;
+
+pub use calls::Offer;
+pub use calls::drain_turn;
+pub use calls::is_idle;
+pub use calls::next_offer;
+pub use calls::offered;
+pub use calls::start;
+pub use calls::turn;
+pub use consistent::is_consistent;
+pub use in_place::Report;
+pub use in_place::drain_in_place;
+pub use in_place::turn_in_place;
+pub use in_place::turn_lent;
+pub use reading::Reading;
+pub use ring::Carried;
+pub use ring::Heard;
+pub use ring::Oldest;
+pub use ring::Ring;
+pub use ring::RingNumber;
+pub use ring::Said;
+pub use ring::Sent;
+pub use ring::Slot;
+pub use ring::Step;
+pub use ring::Track;
+pub use ring::Turned;
+pub use script::Done;
+pub use script::transfer;

@@ -1,0 +1,206 @@
+// The ring record: 32 slots, and where the ring and the transfer that runs over it stand.
+ghost use mathlib.Core.Path.{_≡_};
+ghost use mathlib.Core.List.{[], _∷_};
+ghost use Rattle.turns.specs.Ring.{newRing};
+ghost use Rattle.turns.specs.Reads.{saysNumber, readOf, runningOf, inFlightOf, freeOf, turnsOf, streamOf, saysCarried, carriedOf, saysOldest, oldestOf};
+use crate::consistent::consistent;
+use codes::Answer;
+use codes::Refusal;
+
+// What a slot carries: a part of the caller's frames. It stays after the slot was freed, until the
+// slot is used again.
+pub struct Slot {
+    pub offset: usize,
+    pub len: usize,
+}
+
+// All of the ring but its slots: small, so that a turn can be decided without them. What is in
+// flight is a number of its own: head equal to tail says nothing of it.
+pub struct Track {
+    // Descriptors per submission.
+    pub per: usize,
+    pub head: usize,
+    pub tail: usize,
+    // Slots in flight.
+    pub held: usize,
+    pub stream: u32,
+    // The length of the frames.
+    pub total: usize,
+    pub period: usize,
+    // The offset of the period to submit next.
+    pub next: usize,
+    pub budget: u64,
+    // Turns run.
+    pub turns: u64,
+    pub running: bool,
+}
+
+pub struct Ring {
+    pub track: Track,
+    pub slots: [Slot; 32],
+}
+
+// What a turn submitted.
+pub enum Sent {
+    Nothing,
+    Period {
+        slot: usize,
+        offset: usize,
+        len: usize,
+    },
+}
+
+// What a turn freed.
+pub enum Heard {
+    Silent,
+    Freed { slot: usize, status: u32 },
+}
+
+// What a turn says: it goes on, it ended with an answer, or it was refused and ran no turn.
+pub enum Said {
+    Going,
+    Ended(Answer),
+    Refused(Refusal),
+}
+
+// What a turn does to the track.
+pub struct Step {
+    pub track: Track,
+    pub sent: Sent,
+    pub heard: Heard,
+    pub said: Said,
+}
+
+// What a turn does to the ring, and the number of turns run in this transfer.
+pub struct Turned {
+    pub ring: Ring,
+    pub sent: Sent,
+    pub heard: Heard,
+    pub said: Said,
+    pub turns: u64,
+}
+
+// A number that a ring keeps; an inconsistent ring tells none.
+pub enum RingNumber {
+    Is(u64),
+    InvalidParam,
+}
+
+// What a slot carries, or carried last.
+pub enum Carried {
+    Is(Slot),
+    InvalidParam,
+}
+
+// The oldest slot in flight, which the next completion must name.
+pub enum Oldest {
+    Slot(usize),
+    Nothing,
+    InvalidParam,
+}
+
+fn number(t: Track, n: u64) -> RingNumber
+    ensures { λ r. ⌜ saysNumber r ≡ readOf t (n ∷ []) ⌝ }
+{
+    let sound = consistent(t);
+    if !sound {
+        return RingNumber::InvalidParam;
+    }
+    RingNumber::Is(n)
+}
+
+impl Ring {
+    // A ring that no transfer ran on, with direct descriptors: 3 to a submission.
+    pub fn new() -> Ring
+        ensures { λ r. ⌜ r ≡ newRing 3 ⌝ }
+    {
+        let track = Track {
+            per: 3,
+            head: 0,
+            tail: 0,
+            held: 0,
+            stream: 0,
+            total: 0,
+            period: 0,
+            next: 0,
+            budget: 0,
+            turns: 0,
+            running: false,
+        };
+        Ring {
+            track,
+            slots: [Slot { offset: 0, len: 0 }; 32],
+        }
+    }
+
+    // 1 where a transfer runs, else 0.
+    pub fn running(self) -> RingNumber
+        ensures { λ r. ⌜ saysNumber r ≡ runningOf (self .track) ⌝ }
+    {
+        let t = self.track;
+        if t.running {
+            return number(t, 1);
+        }
+        number(t, 0)
+    }
+
+    pub fn in_flight(self) -> RingNumber
+        ensures { λ r. ⌜ saysNumber r ≡ inFlightOf (self .track) ⌝ }
+    {
+        let t = self.track;
+        number(t, t.held as u64)
+    }
+
+    pub fn free_descriptors(self) -> RingNumber
+        ensures { λ r. ⌜ saysNumber r ≡ freeOf (self .track) ⌝ }
+    {
+        let t = self.track;
+        let sound = consistent(t);
+        if !sound {
+            return RingNumber::InvalidParam;
+        }
+        RingNumber::Is((32 - t.held * t.per) as u64)
+    }
+
+    // Turns run in the transfer that runs, or in the last one that ran.
+    pub fn turns_run(self) -> RingNumber
+        ensures { λ r. ⌜ saysNumber r ≡ turnsOf (self .track) ⌝ }
+    {
+        let t = self.track;
+        number(t, t.turns)
+    }
+
+    pub fn stream(self) -> RingNumber
+        ensures { λ r. ⌜ saysNumber r ≡ streamOf (self .track) ⌝ }
+    {
+        let t = self.track;
+        number(t, t.stream as u64)
+    }
+
+    pub fn carried(self, slot: usize) -> Carried
+        ensures { λ r. ⌜ saysCarried r ≡ carriedOf self slot ⌝ }
+    {
+        if 32 <= slot {
+            return Carried::InvalidParam;
+        }
+        let sound = consistent(self.track);
+        if !sound {
+            return Carried::InvalidParam;
+        }
+        Carried::Is(self.slots[slot])
+    }
+
+    pub fn oldest(self) -> Oldest
+        ensures { λ r. ⌜ saysOldest r ≡ oldestOf (self .track) ⌝ }
+    {
+        let t = self.track;
+        let sound = consistent(t);
+        if !sound {
+            return Oldest::InvalidParam;
+        }
+        if t.held == 0 {
+            return Oldest::Nothing;
+        }
+        Oldest::Slot(t.tail)
+    }
+}
