@@ -1,0 +1,70 @@
+-- `tables::jacks::fill_jacks` meets its contract by the law of the loops that fill a table. Assumes nothing.
+use mathlib.Core.Path.{_≡_, sym, ap, _∙_}
+use Prim.Native.Nat.{_≤_, _<_, _+_, _*_, _-_}
+use native.Mathlib.Omega.{arith}
+use lib.ListN.{length}
+use borrow.Author.Needs.{needs}
+use Rattle.records.specs.BackLaws.{jackInfoOf}
+use Rattle.records.specs.Records.{jackInfo, saysJackInfo}
+use Rattle.tables.specs.Tables.{jackAt, filled}
+use Rattle.tables.specs.TablesLaws.{row-is, row-never, fill-none, fill-more}
+use Rattle.tables.proofs.jacks.fill_jacks.Statement.{statement}
+use Rattle.tables.proofs.jacks.fill_jacks.Tie as tie
+
+abbrev Inv-loop : tie.InvT-loop
+Inv-loop page n at₀ i₀ at i = (i ≤ n) × (at ≡ filled jackAt 24 page i at₀)
+
+abbrev μ-loop : tie.MeasureT-loop
+μ-loop page n at₀ i₀ at i = n - i
+
+loop-holds : tie.Need-loop-holds Inv-loop μ-loop
+loop-holds c = (omega arith, fill-none jackAt 24 _ _)
+
+returns : tie.Need-returns Inv-loop μ-loop
+returns c =
+    let l = c .before .before .before .before .before in
+    let page = l .before .before .args .page .now in
+    let h : 4 + l .loop .i * 24 + 24 ≤ length page = omega arith in
+    absurd (row-never jackInfo page (4 + l .loop .i * 24) h (sym (ap saysJackInfo (c .enum-told .given .1)) ∙ c .before .before .read .ensures))
+
+loop-again : tie.Need-loop-again Inv-loop μ-loop
+unfolding jackAt
+loop-again c =
+    let r = c .before .before .before in
+    let l = r .before .before .before in
+    let a = l .before .before .args in
+    let page = a .page .now in
+    let h : 4 + l .loop .i * 24 + 24 ≤ length page = omega arith in
+    let n : length (a .old) ≡ 170 = search needs in (
+      omega arith,
+      simp (l .loop .inv .1) (fill-more jackAt 24 page (a .old) (l .loop .i) _ (omega arith)
+          (ap jackInfoOf (row-is jackInfo page (4 + l .loop .i * 24) h _ (sym (ap saysJackInfo (c .before .jack .given .1)) ∙ r .read .ensures)))),
+    )
+
+returns-2 : tie.Need-returns-2 Inv-loop μ-loop
+returns-2 c =
+    let e : c .before .loop .i ≡ c .before .before .before .args .n = omega arith in
+    simp (c .before .loop .inv .1, e)
+
+pub fill-jacks-spec : {M : Type 1} → statement M
+fill-jacks-spec =
+    tie.close
+    (tie.spec
+    Inv-loop
+    μ-loop
+    loop-holds
+    (λ c. omega arith)
+    (λ c. omega arith)
+    (λ c. omega arith)
+    (λ c. omega arith)
+    (λ c. omega arith)
+    (λ c κs. search needs)
+    (λ c. search needs)
+    (λ c. search needs)
+    returns
+    (λ c. omega arith)
+    (λ c. omega arith)
+    (λ c. omega arith)
+    (λ c. omega arith)
+    loop-again
+    returns-2)

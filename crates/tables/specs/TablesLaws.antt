@@ -1,0 +1,77 @@
+-- The laws of a page's tables, over the record's size, its reader and the table's length.
+-- Assumes nothing.
+use mathlib.Core.Path.{_≡_, refl, sym, ap, _∙_}
+use mathlib.Core.Bool.{Bool, true, false, false≢true}
+use mathlib.Core.List.{List, [], _∷_, _++_}
+use Prim.Native.Nat.{ℕ, suc, _+_, _-_, _*_, _≤_, _<_}
+use native.Mathlib.Numerals.{add-one}
+use native.Mathlib.Omega.{arith}
+use lib.Dec.{leb, eqb}
+use lib.ListN.{length, set, take, drop, length-append, length-drop, take-append-drop}
+use lib.Seq.{take-at, drop-append-add, drop-set-lt, drop-drop}
+use borrow.Author.Tests.{eqb-true, leb-true}
+use Rattle.layout.specs.Bytes.{numAt}
+use Rattle.layout.specs.Layout.{size, readAt}
+use Rattle.layout.specs.Rows.{rowsAt}
+use Rattle.layout.specs.RowsLaws.{length-rows, rows-more}
+use Rattle.codes.specs.Says.{Says, says, pick}
+use Rattle.records.specs.Slice.{readSays}
+use Rattle.records.specs.SliceLaws.{read-inside}
+use Rattle.tables.specs.Tables.{judged, isGood, filled}
+use Rattle.tables.specs.declared.verdict.Verdict.the-variants.{Good, Status, TooMany, BadLength}
+
+-- a good verdict: the page is whole, its header ok, and it holds the records
+pub record Whole (page : List ℕ) (n size : ℕ) : Type 0 where
+  pub long : length page ≡ 4096
+  pub ok : numAt 0 4 page ≡ 0x8000
+  pub fits : 4 + n * size ≤ 4096
+
+good-by : (l h f : Bool) (w : ℕ) → isGood (pick l (pick h (pick f Good TooMany) (Status w)) BadLength) ≡ true → (l ≡ true) × (h ≡ true) × (f ≡ true)
+good-by true true true w e = (refl, refl, refl)
+good-by true true false w e = absurd (false≢true e)
+good-by true false f w e = absurd (false≢true e)
+good-by false h f w e = absurd (false≢true e)
+
+pub good-whole : (page : List ℕ) (n size : ℕ) → isGood (judged page n size) ≡ true → Whole page n size
+unfolding judged
+good-whole page n size e =
+    let b = good-by (eqb (length page) 4096) (eqb (numAt 0 4 page) 0x8000) (leb (4 + n * size) 4096) (numAt 0 4 page) e in
+    record { long = eqb-true _ _ (b .0); ok = eqb-true _ _ (b .1); fits = leb-true _ _ (b .2) }
+
+pub good-fits : (page : List ℕ) (n size : ℕ) → isGood (judged page n size) ≡ true → (length page ≡ 4096) × (4 + n * size ≤ 4096)
+good-fits page n size e = let w = good-whole page n size e in (w .long, w .fits)
+
+-- record i of a page that holds it: what the reader of `&page[a..]` says
+module _ (ws page : List ℕ) (a : ℕ) (h : a + size ws ≤ length page) where
+  pub row-is : (vs : List ℕ) → says 0 vs ≡ readSays ws (take (length page - a) (drop a page)) → vs ≡ readAt a ws page
+  row-is vs e = ap (λ (s : Says). s .values) (e ∙ read-inside ws page a (length page - a) (omega arith) (omega arith))
+
+  pub row-never : says 10 [] ≡ readSays ws (take (length page - a) (drop a page)) → ⊥
+  row-never e =
+      let z : _≡_ {A = ℕ} 10 0 = ap (λ (s : Says). s .number) (e ∙ read-inside ws page a (length page - a) (omega arith) (omega arith)) in
+      omega arith
+
+-- THE LAW of the loops that fill a table
+module _ {A : Type 0} (f : ℕ → List ℕ → A) (size : ℕ) (page : List ℕ) (old : List A) where
+  pub fill-none : old ≡ filled f size page 0 old
+  unfolding rowsAt
+  fill-none = refl
+
+  take-filled : (i : ℕ) → take i (filled f size page i old) ≡ rowsAt f size 4 i page
+  take-filled i = take-at (rowsAt f size 4 i page) (drop i old) i (length-rows f size 4 i page)
+
+  drop-filled : (i : ℕ) → drop (i + 1) (filled f size page i old) ≡ drop (i + 1) old
+  drop-filled i =
+      ap (λ (k : ℕ). drop (k + 1) (filled f size page i old)) (sym (length-rows f size 4 i page))
+      ∙ drop-append-add (rowsAt f size 4 i page) (drop i old) 1
+      ∙ drop-drop 1 i old
+
+  pub length-filled : (i : ℕ) → i ≤ length old → length (filled f size page i old) ≡ length old
+  length-filled i h = simp (length-append, length-rows, length-drop) (omega arith)
+
+  pub fill-more : (i : ℕ) (v : A) → i < length old → v ≡ f (4 + i * size) page → set (filled f size page i old) i v ≡ filled f size page (i + 1) old
+  fill-more i v h e =
+      let a = filled f size page i old in
+      let n : i < length a = rw (length-filled i (omega arith)) h in
+      sym (take-append-drop (i + 1) (set a i v))
+      ∙ (λ k. rows-more f size 4 i page a v n (take-filled i) e k ++ (drop-set-lt (i + 1) a i v (omega arith) ∙ drop-filled i) k)

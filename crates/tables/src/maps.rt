@@ -1,0 +1,60 @@
+// The table of channel maps.
+ghost use mathlib.Core.Path.{_≡_};
+ghost use Prim.Native.Nat.{_+_, _*_, _≤_};
+ghost use lib.ListN.{length};
+ghost use Rattle.tables.specs.Tables.{mapAt, filled, mapsRead, noMaps};
+use crate::verdict::Verdict;
+use crate::verdict::is_good;
+use crate::verdict::judge;
+use records::ChannelMap;
+use records::ReadChannelMap;
+
+pub struct Maps {
+    pub verdict: Verdict,
+    pub at: [ChannelMap; 170],
+}
+
+// The table before any answer.
+pub fn no_maps() -> [ChannelMap; 170]
+    ensures { λ r. ⌜ r ≡ noMaps ⌝ }
+{
+    let blank = ChannelMap {
+        node: 0,
+        direction: 0,
+        channels: 0,
+        positions: 0,
+        positions8: 0,
+        positions16: 0,
+    };
+    [blank; 170]
+}
+
+// The first `n` records of the page, over the first `n` of the table.
+fn fill_maps(page: &[u8], n: usize, old: [ChannelMap; 170]) -> [ChannelMap; 170]
+    requires { ⌜ (n ≤ 170) × (4 + n * 24 ≤ length (now page)) ⌝ }
+    ensures { λ r. ⌜ r ≡ filled mapAt 24 (now (page .entry)) n old ⌝ }
+{
+    let mut at = old;
+    let mut i: usize = 0;
+    while i < n {
+        let ReadChannelMap::Is(map) = ChannelMap::read(&page[4 + i * ChannelMap::SIZE..]) else {
+            return at;
+        };
+        at[i] = map;
+        i += 1;
+    }
+    at
+}
+
+// Where the verdict is not good, the table stays as it was.
+pub fn read_maps(page: &[u8], count: u32, old: [ChannelMap; 170]) -> Maps
+    ensures { λ r. ⌜ r ≡ mapsRead (now (page .entry)) count old ⌝ }
+{
+    let verdict = judge(page, count, 24);
+    if is_good(verdict) {
+        let at = fill_maps(page, count as usize, old);
+        Maps { verdict, at }
+    } else {
+        Maps { verdict, at: old }
+    }
+}

@@ -1,0 +1,63 @@
+// The table of streams.
+ghost use mathlib.Core.Path.{_≡_};
+ghost use Prim.Native.Nat.{_+_, _*_, _≤_};
+ghost use lib.ListN.{length};
+ghost use Rattle.tables.specs.Tables.{pcmAt, filled, streamsRead, noStreams};
+use crate::verdict::Verdict;
+use crate::verdict::is_good;
+use crate::verdict::judge;
+use records::PcmInfo;
+use records::ReadPcmInfo;
+
+pub struct Streams {
+    pub verdict: Verdict,
+    pub at: [PcmInfo; 127],
+}
+
+// The table before any answer.
+pub fn no_streams() -> [PcmInfo; 127]
+    ensures { λ r. ⌜ r ≡ noStreams ⌝ }
+{
+    let blank = PcmInfo {
+        node: 0,
+        features: 0,
+        formats: 0,
+        rates: 0,
+        direction: 0,
+        min: 0,
+        max: 0,
+        padding: 0,
+        padding4: 0,
+    };
+    [blank; 127]
+}
+
+// The first `n` records of the page, over the first `n` of the table.
+fn fill_streams(page: &[u8], n: usize, old: [PcmInfo; 127]) -> [PcmInfo; 127]
+    requires { ⌜ (n ≤ 127) × (4 + n * 32 ≤ length (now page)) ⌝ }
+    ensures { λ r. ⌜ r ≡ filled pcmAt 32 (now (page .entry)) n old ⌝ }
+{
+    let mut at = old;
+    let mut i: usize = 0;
+    while i < n {
+        let ReadPcmInfo::Is(stream) = PcmInfo::read(&page[4 + i * PcmInfo::SIZE..]) else {
+            return at;
+        };
+        at[i] = stream;
+        i += 1;
+    }
+    at
+}
+
+// Where the verdict is not good, the table stays as it was.
+pub fn read_streams(page: &[u8], count: u32, old: [PcmInfo; 127]) -> Streams
+    ensures { λ r. ⌜ r ≡ streamsRead (now (page .entry)) count old ⌝ }
+{
+    let verdict = judge(page, count, 32);
+    if is_good(verdict) {
+        let at = fill_streams(page, count as usize, old);
+        Streams { verdict, at }
+    } else {
+        Streams { verdict, at: old }
+    }
+}
