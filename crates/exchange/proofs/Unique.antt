@@ -1,0 +1,106 @@
+-- A public function's contract leaves one outcome: any two that it permits, for the same arguments, are equal, in what is returned and in what the
+-- lent message buffer holds. `Post` is the contract itself, as Rattle reads it off the source, so no statement here repeats a clause.
+-- Assumes nothing.
+use mathlib.Core.Path.{_≡_}
+use denote.Ref.{now}
+use Rattle.codes.specs.SaysLaws.{same}
+use Rattle.exchange.proofs.state.Sound.new.Reads as new
+use Rattle.exchange.proofs.state.Sound.jacks.Reads as jacks
+use Rattle.exchange.proofs.state.Sound.streams.Reads as streams
+use Rattle.exchange.proofs.state.Sound.chmaps.Reads as chmaps
+use Rattle.exchange.proofs.consistency.consistent.Reads as consistent
+use Rattle.exchange.proofs.consistency.params_ok.Reads as params-ok
+use Rattle.exchange.proofs.consistency.stream_ok.Reads as stream-ok
+use Rattle.exchange.proofs.decide.begin.Reads as begin
+use Rattle.exchange.proofs.decide.answer.Reads as answer
+use Rattle.exchange.proofs.calls.jack_remap.Reads as jack-remap
+use Rattle.exchange.proofs.calls.pcm_set_params.Reads as pcm-set-params
+use Rattle.exchange.proofs.calls.pcm_prepare.Reads as pcm-prepare
+use Rattle.exchange.proofs.calls.pcm_release.Reads as pcm-release
+use Rattle.exchange.proofs.calls.pcm_start.Reads as pcm-start
+use Rattle.exchange.proofs.calls.pcm_stop.Reads as pcm-stop
+use Rattle.exchange.proofs.calls.output_streams.Reads as output-streams
+use Rattle.exchange.proofs.calls.input_streams.Reads as input-streams
+use Rattle.exchange.proofs.calls.rates_supported.Reads as rates-supported
+use Rattle.exchange.proofs.calls.formats_supported.Reads as formats-supported
+use Rattle.exchange.proofs.calls.channel_range_supported.Reads as channel-range-supported
+use Rattle.exchange.proofs.calls.features_supported.Reads as features-supported
+use Rattle.exchange.proofs.calls.feed.Reads as feed
+use Rattle.exchange.proofs.calls.feed_failure.Reads as feed-failure
+use Rattle.exchange.proofs.xfer.pcm_xfer_start.Reads as pcm-xfer-start
+use Rattle.exchange.proofs.xfer.pcm_xfer.Reads as pcm-xfer
+
+pub new-one : (κs : _) (a : _) (r₁ r₂ : _) (e₁ e₂ : _) → new.Post κs a r₁ e₁ → new.Post κs a r₂ e₂ → r₁ ≡ r₂
+new-one κs a r₁ r₂ e₁ e₂ p q = same p q
+
+pub jacks-one : (κs : _) (a : _) (r₁ r₂ : _) (e₁ e₂ : _) → jacks.Post κs a r₁ e₁ → jacks.Post κs a r₂ e₂ → r₁ ≡ r₂
+jacks-one κs a r₁ r₂ e₁ e₂ p q = same p q
+
+pub streams-one : (κs : _) (a : _) (r₁ r₂ : _) (e₁ e₂ : _) → streams.Post κs a r₁ e₁ → streams.Post κs a r₂ e₂ → r₁ ≡ r₂
+streams-one κs a r₁ r₂ e₁ e₂ p q = same p q
+
+pub chmaps-one : (κs : _) (a : _) (r₁ r₂ : _) (e₁ e₂ : _) → chmaps.Post κs a r₁ e₁ → chmaps.Post κs a r₂ e₂ → r₁ ≡ r₂
+chmaps-one κs a r₁ r₂ e₁ e₂ p q = same p q
+
+pub consistent-one : (κs : _) (a : _) (r₁ r₂ : _) (e₁ e₂ : _) → consistent.Post κs a r₁ e₁ → consistent.Post κs a r₂ e₂ → r₁ ≡ r₂
+consistent-one κs a r₁ r₂ e₁ e₂ p q = same p q
+
+pub params-ok-one : (κs : _) (a : _) (r₁ r₂ : _) (e₁ e₂ : _) → params-ok.Post κs a r₁ e₁ → params-ok.Post κs a r₂ e₂ → r₁ ≡ r₂
+params-ok-one κs a r₁ r₂ e₁ e₂ p q = same p q
+
+pub stream-ok-one : (κs : _) (a : _) (r₁ r₂ : _) (e₁ e₂ : _) → stream-ok.Post κs a r₁ e₁ → stream-ok.Post κs a r₂ e₂ → r₁ ≡ r₂
+stream-ok-one κs a r₁ r₂ e₁ e₂ p q = same p q
+
+pub begin-one : (κs : _) (a : _) (r₁ r₂ : _) (e₁ e₂ : _) → begin.Post κs a r₁ e₁ → begin.Post κs a r₂ e₂ → r₁ ≡ r₂
+begin-one κs a r₁ r₂ e₁ e₂ p q = same p q
+
+pub answer-one : (κs : _) (a : _) (r₁ r₂ : _) (e₁ e₂ : _) → answer.Post κs a r₁ e₁ → answer.Post κs a r₂ e₂ → r₁ ≡ r₂
+answer-one κs a r₁ r₂ e₁ e₂ p q = same p q
+
+pub jack-remap-one : (κs : _) (a : _) (r₁ r₂ : _) (e₁ e₂ : _) → jack-remap.Post κs a r₁ e₁ → jack-remap.Post κs a r₂ e₂ → (r₁ ≡ r₂) × (now (e₁ .1 .1 .1 .1 .1 .0) ≡ now (e₂ .1 .1 .1 .1 .1 .0))
+jack-remap-one κs a r₁ r₂ e₁ e₂ p q = (same (p .0) (q .0), same (p .1) (q .1))
+
+pub pcm-set-params-one : (κs : _) (a : _) (r₁ r₂ : _) (e₁ e₂ : _) → pcm-set-params.Post κs a r₁ e₁ → pcm-set-params.Post κs a r₂ e₂ → (r₁ ≡ r₂) × (now (e₁ .1 .1 .1 .1 .1 .1 .1 .1 .1 .0) ≡ now (e₂ .1 .1 .1 .1 .1 .1 .1 .1 .1 .0))
+pcm-set-params-one κs a r₁ r₂ e₁ e₂ p q = (same (p .0) (q .0), same (p .1) (q .1))
+
+pub pcm-prepare-one : (κs : _) (a : _) (r₁ r₂ : _) (e₁ e₂ : _) → pcm-prepare.Post κs a r₁ e₁ → pcm-prepare.Post κs a r₂ e₂ → (r₁ ≡ r₂) × (now (e₁ .1 .1 .1 .0) ≡ now (e₂ .1 .1 .1 .0))
+pcm-prepare-one κs a r₁ r₂ e₁ e₂ p q = (same (p .0) (q .0), same (p .1) (q .1))
+
+pub pcm-release-one : (κs : _) (a : _) (r₁ r₂ : _) (e₁ e₂ : _) → pcm-release.Post κs a r₁ e₁ → pcm-release.Post κs a r₂ e₂ → (r₁ ≡ r₂) × (now (e₁ .1 .1 .1 .0) ≡ now (e₂ .1 .1 .1 .0))
+pcm-release-one κs a r₁ r₂ e₁ e₂ p q = (same (p .0) (q .0), same (p .1) (q .1))
+
+pub pcm-start-one : (κs : _) (a : _) (r₁ r₂ : _) (e₁ e₂ : _) → pcm-start.Post κs a r₁ e₁ → pcm-start.Post κs a r₂ e₂ → (r₁ ≡ r₂) × (now (e₁ .1 .1 .1 .0) ≡ now (e₂ .1 .1 .1 .0))
+pcm-start-one κs a r₁ r₂ e₁ e₂ p q = (same (p .0) (q .0), same (p .1) (q .1))
+
+pub pcm-stop-one : (κs : _) (a : _) (r₁ r₂ : _) (e₁ e₂ : _) → pcm-stop.Post κs a r₁ e₁ → pcm-stop.Post κs a r₂ e₂ → (r₁ ≡ r₂) × (now (e₁ .1 .1 .1 .0) ≡ now (e₂ .1 .1 .1 .0))
+pcm-stop-one κs a r₁ r₂ e₁ e₂ p q = (same (p .0) (q .0), same (p .1) (q .1))
+
+pub output-streams-one : (κs : _) (a : _) (r₁ r₂ : _) (e₁ e₂ : _) → output-streams.Post κs a r₁ e₁ → output-streams.Post κs a r₂ e₂ → (r₁ ≡ r₂) × (now (e₁ .1 .1 .0) ≡ now (e₂ .1 .1 .0))
+output-streams-one κs a r₁ r₂ e₁ e₂ p q = (same (p .0) (q .0), same (p .1) (q .1))
+
+pub input-streams-one : (κs : _) (a : _) (r₁ r₂ : _) (e₁ e₂ : _) → input-streams.Post κs a r₁ e₁ → input-streams.Post κs a r₂ e₂ → (r₁ ≡ r₂) × (now (e₁ .1 .1 .0) ≡ now (e₂ .1 .1 .0))
+input-streams-one κs a r₁ r₂ e₁ e₂ p q = (same (p .0) (q .0), same (p .1) (q .1))
+
+pub rates-supported-one : (κs : _) (a : _) (r₁ r₂ : _) (e₁ e₂ : _) → rates-supported.Post κs a r₁ e₁ → rates-supported.Post κs a r₂ e₂ → (r₁ ≡ r₂) × (now (e₁ .1 .1 .1 .0) ≡ now (e₂ .1 .1 .1 .0))
+rates-supported-one κs a r₁ r₂ e₁ e₂ p q = (same (p .0) (q .0), same (p .1) (q .1))
+
+pub formats-supported-one : (κs : _) (a : _) (r₁ r₂ : _) (e₁ e₂ : _) → formats-supported.Post κs a r₁ e₁ → formats-supported.Post κs a r₂ e₂ → (r₁ ≡ r₂) × (now (e₁ .1 .1 .1 .0) ≡ now (e₂ .1 .1 .1 .0))
+formats-supported-one κs a r₁ r₂ e₁ e₂ p q = (same (p .0) (q .0), same (p .1) (q .1))
+
+pub channel-range-supported-one : (κs : _) (a : _) (r₁ r₂ : _) (e₁ e₂ : _) → channel-range-supported.Post κs a r₁ e₁ → channel-range-supported.Post κs a r₂ e₂ → (r₁ ≡ r₂) × (now (e₁ .1 .1 .1 .0) ≡ now (e₂ .1 .1 .1 .0))
+channel-range-supported-one κs a r₁ r₂ e₁ e₂ p q = (same (p .0) (q .0), same (p .1) (q .1))
+
+pub features-supported-one : (κs : _) (a : _) (r₁ r₂ : _) (e₁ e₂ : _) → features-supported.Post κs a r₁ e₁ → features-supported.Post κs a r₂ e₂ → (r₁ ≡ r₂) × (now (e₁ .1 .1 .1 .0) ≡ now (e₂ .1 .1 .1 .0))
+features-supported-one κs a r₁ r₂ e₁ e₂ p q = (same (p .0) (q .0), same (p .1) (q .1))
+
+pub feed-one : (κs : _) (a : _) (r₁ r₂ : _) (e₁ e₂ : _) → feed.Post κs a r₁ e₁ → feed.Post κs a r₂ e₂ → (r₁ ≡ r₂) × (now (e₁ .1 .1 .0) ≡ now (e₂ .1 .1 .0))
+feed-one κs a r₁ r₂ e₁ e₂ p q = (same (p .0) (q .0), same (p .1) (q .1))
+
+pub feed-failure-one : (κs : _) (a : _) (r₁ r₂ : _) (e₁ e₂ : _) → feed-failure.Post κs a r₁ e₁ → feed-failure.Post κs a r₂ e₂ → (r₁ ≡ r₂) × (now (e₁ .1 .0) ≡ now (e₂ .1 .0))
+feed-failure-one κs a r₁ r₂ e₁ e₂ p q = (same (p .0) (q .0), same (p .1) (q .1))
+
+pub pcm-xfer-start-one : (κs : _) (a : _) (r₁ r₂ : _) (e₁ e₂ : _) → pcm-xfer-start.Post κs a r₁ e₁ → pcm-xfer-start.Post κs a r₂ e₂ → (r₁ ≡ r₂) × (now (e₁ .1 .1 .1 .1 .1 .0) ≡ now (e₂ .1 .1 .1 .1 .1 .0))
+pcm-xfer-start-one κs a r₁ r₂ e₁ e₂ p q = (same (p .0) (q .0), same (p .1) (q .1))
+
+pub pcm-xfer-one : (κs : _) (a : _) (r₁ r₂ : _) (e₁ e₂ : _) → pcm-xfer.Post κs a r₁ e₁ → pcm-xfer.Post κs a r₂ e₂ → (r₁ ≡ r₂) × (now (e₁ .1 .1 .1 .1 .1 .1 .0) ≡ now (e₂ .1 .1 .1 .1 .1 .1 .0))
+pcm-xfer-one κs a r₁ r₂ e₁ e₂ p q = (same (p .0) (q .0), same (p .1) (q .1))

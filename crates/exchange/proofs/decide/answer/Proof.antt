@@ -1,0 +1,25 @@
+-- `exchange::decide::answer` meets its contract: the consistency test, then by what was asked. Assumes nothing.
+use borrow.Author.Needs.{needs}
+use Rattle.exchange.specs.Plan.{answerOf}
+use Rattle.turns.specs.CallLaws.{passed, failed}
+use Rattle.codes.specs.SaysLaws.{passes, stops}
+use Rattle.exchange.proofs.decide.answer.Statement.{statement}
+use Rattle.exchange.proofs.decide.answer.Tie as tie
+
+returns : tie.Need-returns
+unfolding answerOf
+returns c = stops _ _ _ (failed (c .before .before .consistent .ensures) (c .before .if1 .taken)) (c .keep .ensures)
+
+returns-2 : tie.Need-returns-2
+unfolding answerOf
+returns-2 c = passes _ _ _ (passed (c .before .before .consistent .ensures) (c .before .if1 .left)) (c .answer-by .ensures)
+
+pub answer-spec : {M : Type 1} → statement M
+answer-spec =
+    tie.close
+    (tie.spec
+    (λ c κs. search needs)
+    (λ c κs. search needs)
+    returns
+    (λ c κs. search needs)
+    returns-2)

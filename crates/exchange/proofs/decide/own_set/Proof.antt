@@ -1,0 +1,32 @@
+-- `exchange::decide::own_set` meets its contract, test by test. Assumes nothing.
+use borrow.Author.Needs.{needs}
+use borrow.Author.Tests.{lt-ltb, le-ltb}
+use Rattle.exchange.specs.Plan.{ownSet}
+use Rattle.turns.specs.CallLaws.{passed, failed}
+use Rattle.exchange.proofs.decide.own_set.Statement.{statement}
+use Rattle.exchange.proofs.decide.own_set.Tie as tie
+
+returns : tie.Need-returns
+unfolding ownSet
+returns c = simp (failed (c .before .before .period-ok .ensures) (c .before .if1 .taken)) (c .end .ensures)
+
+returns-2 : tie.Need-returns-2
+unfolding ownSet
+returns-2 c = simp (passed (c .before .before .before .period-ok .ensures) (c .before .before .if1 .left), le-ltb _ _ (c .before .if2 .taken)) (c .end2 .ensures)
+
+returns-3 : tie.Need-returns-3
+unfolding ownSet
+returns-3 c = simp (passed (c .before .before .before .before .period-ok .ensures) (c .before .before .before .if1 .left), lt-ltb _ _ (c .before .before .if2 .left), c .send .ensures, c .before .set-parameters .ensures)
+
+pub own-set-spec : {M : Type 1} → statement M
+own-set-spec =
+    tie.close
+    (tie.spec
+    (λ c κs. search needs)
+    (λ c κs. search needs)
+    returns
+    (λ c κs. search needs)
+    returns-2
+    (λ c κs. search needs)
+    (λ c κs. search needs)
+    returns-3)

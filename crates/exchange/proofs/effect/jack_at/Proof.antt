@@ -1,0 +1,20 @@
+-- `exchange::effect::jack_at` meets its contract: past the end there is 0. Assumes nothing.
+use mathlib.Core.List.{[]}
+use mathlib.Core.Path.{_≡_, sym}
+use Prim.Native.Nat.{_≤_}
+use native.Mathlib.Omega.{arith}
+use lib.ListN.{length, List·getD-eq-default}
+use borrow.Author.Needs.{needs}
+use Rattle.records.specs.BackLaws.{jackInfoOf}
+use Rattle.exchange.proofs.effect.jack_at.Statement.{statement}
+use Rattle.exchange.proofs.effect.jack_at.Tie as tie
+
+returns : tie.Need-returns
+returns c =
+    let a = c .before .args in
+    let n : length (a .t1) ≡ 170 = search needs in
+    let h : length (a .t1) ≤ a .jack = omega arith in
+    sym (List·getD-eq-default (a .t1) (jackInfoOf []) h)
+
+pub jack-at-spec : {M : Type 1} → statement M
+jack-at-spec = tie.close (tie.spec returns (λ c. search needs) (λ c. search needs) (λ c. search needs))

@@ -1,0 +1,31 @@
+-- `exchange::effect::look` meets its contract, case by case. Assumes nothing.
+use borrow.Author.Needs.{needs}
+use Rattle.exchange.proofs.effect.look.Statement.{statement}
+use Rattle.exchange.proofs.effect.look.Tie as tie
+
+returns-3 : tie.Need-returns-3
+returns-3 c = rw (c .before .before .before .call .given .1) (simp (c .before .jack-of .ensures))
+
+returns-5 : tie.Need-returns-5
+returns-5 c = rw (c .before .before .before .call2 .given .1) (simp (c .field-of .ensures, c .before .pcm-of .ensures))
+
+pub look-spec : {M : Type 1} → statement M
+look-spec =
+    tie.close
+    (tie.spec
+    (λ c. search needs)
+    (λ c. search needs)
+    (λ c. search needs)
+    (λ c κs. search needs)
+    (λ c. search needs)
+    (λ c. search needs)
+    (λ c. search needs)
+    (λ c κs. search needs)
+    (λ c κs. search needs)
+    (λ c. search needs)
+    (λ c. search needs)
+    (λ c. search needs)
+    returns-3
+    (λ c. search needs)
+    returns-5
+    (λ c. search needs))

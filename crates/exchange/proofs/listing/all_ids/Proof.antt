@@ -1,0 +1,20 @@
+-- `exchange::listing::all_ids` meets its contract: a table of 127 has no more. Assumes nothing.
+use mathlib.Core.List.{List}
+use mathlib.Core.Path.{_≡_, ap, _∙_}
+use Prim.Native.Nat.{ℕ}
+use lib.ListN.{length}
+use borrow.Author.Needs.{needs}
+use Rattle.records.specs.declared.info.PcmInfo.{PcmInfo}
+use Rattle.exchange.specs.Exchange.{idsFrom, listed}
+use Rattle.exchange.specs.ListLaws.{take-cap}
+use Rattle.exchange.proofs.listing.all_ids.Statement.{statement}
+use Rattle.exchange.proofs.listing.all_ids.Tie as tie
+
+returns : tie.Need-returns
+returns c =
+    let a = c .before .before .args in
+    let l : length (a .pcms) ≡ 127 = search needs in
+    c .ids-of .ensures ∙ ap (λ (t : List PcmInfo). listed (idsFrom (a .direction) 0 t)) (take-cap (a .n) (a .pcms) l (c .before .if1 .taken))
+
+pub all-ids-spec : {M : Type 1} → statement M
+all-ids-spec = tie.close (tie.spec (λ c κs. search needs) returns (λ c κs. search needs) (λ c. search needs))

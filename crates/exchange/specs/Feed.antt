@@ -1,0 +1,45 @@
+-- A feed of either kind, a page or a queue failure, so that each theorem is stated once: "The caller then feeds the 4,096-byte answer page or a queue failure."
+-- Assumes nothing.
+use mathlib.Core.Path.{_≡_}
+use mathlib.Core.Bool.{Bool, _&&_}
+use mathlib.Core.List.{List, []}
+use Prim.Native.Nat.{ℕ, _≤_}
+use lib.Dec.{leb, eqb}
+use lib.ListN.{length}
+use Rattle.tables.specs.declared.verdict.Verdict.{Verdict}
+use Rattle.tables.specs.declared.verdict.Verdict.the-variants.{Failed}
+use Rattle.exchange.specs.Plan.{verdictBy}
+use Rattle.exchange.specs.Exchange.{stepOf, feedOf, failOf}
+use Rattle.exchange.specs.declared.state.Sound.{Sound}
+use Rattle.exchange.specs.declared.plan.Plan.{Plan}
+use Rattle.exchange.specs.declared.calls.Step.{Step}
+
+-- a page, or a failure; with a message buffer of n bytes
+pub data Feed : Type 0 where
+  paged : (bytes : List ℕ) (n : ℕ) → Feed
+  failed : (n : ℕ) → Feed
+
+-- a failure carries no page
+abbrev pub pageOf : Feed → List ℕ
+pageOf (paged bytes n) = bytes
+pageOf (failed n) = []
+
+abbrev pub planOf : Sound → Feed → Plan
+planOf s (paged bytes n) = feedOf s bytes n
+planOf s (failed n) = failOf s n
+
+abbrev pub fedOf : Sound → Feed → Step
+fedOf s f = stepOf (planOf s f) s (pageOf f)
+
+abbrev pub verdictOf : Sound → Feed → Verdict
+verdictOf s (paged bytes n) = verdictBy (s .core .stage) (s .core .counts) bytes
+verdictOf s (failed n) = Failed
+
+-- a feed that 10 does not refuse
+abbrev pub longOf : Feed → Bool
+longOf (paged bytes n) = eqb (length bytes) 4096 && leb 24 n
+longOf (failed n) = leb 24 n
+
+abbrev pub Long : Feed → Type 0
+Long (paged bytes n) = (length bytes ≡ 4096) × (24 ≤ n)
+Long (failed n) = 24 ≤ n

@@ -1,0 +1,132 @@
+-- Theorems: the stream table is that of the page that answered the query of streams, record i at 4 + i × 32, until the next such page.
+-- Assumes nothing.
+use mathlib.Core.Path.{_≡_, refl, sym, ap, _∙_, subst}
+use mathlib.Core.Bool.{Bool, true, false, false≢true}
+use mathlib.Core.List.{List, []}
+use mathlib.Core.Logic.{_⊎_, inl, inr}
+use Prim.Native.Nat.{ℕ, _+_, _*_, _<_}
+use native.Mathlib.Omega.{arith}
+use Rattle.codes.specs.Says.{pick}
+use Rattle.tables.specs.Tables.{judged, isGood, pcmAt}
+use Rattle.tables.specs.TableLengthLaws.{streams-at}
+use Rattle.tables.specs.declared.verdict.Verdict.{Verdict}
+use Rattle.turns.specs.declared.ring.Track.{Track}
+use Rattle.exchange.specs.State.{pcmOf}
+use Rattle.exchange.specs.Plan.{effectOf, soundAfter, verdictBy}
+use Rattle.exchange.specs.PlanLaws.{Answered, short, idle, asks-streams, asks-maps, cuts, finishes, ends, fails, fed}
+use Rattle.exchange.specs.Exchange.{replyOf, stepOf, callOf}
+use Rattle.exchange.specs.Ends.{asked, waits}
+use Rattle.exchange.specs.ResultLaws.{wrong}
+use Rattle.exchange.specs.Feed.{Feed, paged, failed, pageOf, planOf, fedOf, verdictOf}
+use Rattle.exchange.specs.StayLaws.{called-stays, called-quiet, fed-stays}
+use Rattle.exchange.specs.Xfer.{startOf, xferOf}
+use Rattle.exchange.specs.XferLaws.{start-by, script-by}
+use Rattle.turns.specs.declared.ring.Ring.{Ring}
+use Rattle.exchange.specs.declared.state.Counts.{Counts}
+use Rattle.exchange.specs.declared.state.Call.{Call}
+use Rattle.exchange.specs.declared.state.Call.the-variants.{SetParams, Command, Remap, Streams, Supported, Xfer}
+use Rattle.exchange.specs.declared.state.Stage.{Stage}
+use Rattle.exchange.specs.declared.state.Stage.the-variants.{StreamsAsked}
+use Rattle.exchange.specs.declared.state.Core.{Core}
+use Rattle.exchange.specs.declared.state.Sound.{Sound}
+use Rattle.exchange.specs.declared.plan.Effect.{Effect}
+use Rattle.exchange.specs.declared.plan.Effect.the-variants.{Nothing, FillJacks, FillStreams, FillMaps, Store}
+use Rattle.exchange.specs.declared.plan.Plan.{Plan}
+
+-- the stream table is that of a page
+abbrev pub Filled : Sound → List ℕ → Type 0
+Filled s page = (i : ℕ) → i < s .core .counts .streams → pcmOf s i ≡ pcmAt (4 + i * 32) page
+
+-- after an effect with the same counts, the table is as it was, or is that of a page whose verdict on the streams was good
+abbrev fills : Effect → Bool
+fills Nothing = false
+fills FillJacks = false
+fills FillStreams = true
+fills FillMaps = false
+fills (Store stream to) = false
+
+kept-table : (x : Effect) (c : Core) (s : Sound) (page old : List ℕ) → fills x ≡ false → c .counts .streams ≡ s .core .counts .streams → Filled s old → Filled (soundAfter x c s page) old
+kept-table Nothing c s page old e n f i h = f i (omega arith)
+kept-table FillJacks c s page old e n f i h = f i (omega arith)
+kept-table FillStreams c s page old e n f i h = absurd (false≢true (sym e))
+kept-table FillMaps c s page old e n f i h = f i (omega arith)
+kept-table (Store stream to) c s page old e n f i h = f i (omega arith)
+
+new-table : (x : Effect) (c : Core) (s : Sound) (page : List ℕ) → fills x ≡ true → isGood (judged page (c .counts .streams) 32) ≡ true → Filled (soundAfter x c s page) page
+new-table Nothing c s page e g i h = absurd (false≢true e)
+new-table FillJacks c s page e g i h = absurd (false≢true e)
+new-table FillStreams c s page e g i h = streams-at page (c .counts .streams) (s .pcms) i _ g h
+new-table FillMaps c s page e g i h = absurd (false≢true e)
+new-table (Store stream to) c s page e g i h = absurd (false≢true e)
+
+-- whether an answer fills the table
+data Touch (c : Core) (v : Verdict) (x : Effect) : Type 0 where
+  leaves : fills x ≡ false → Touch c v x
+  writes : {call : Call} → c .stage ≡ StreamsAsked call → isGood v ≡ true → fills x ≡ true → Touch c v x
+
+effect-leaves : (call : Call) → fills (effectOf call) ≡ false
+effect-leaves (SetParams stream to) = refl
+effect-leaves (Command kind stream) = refl
+effect-leaves (Remap jack association sequence) = refl
+effect-leaves (Streams direction) = refl
+effect-leaves (Supported field stream) = refl
+effect-leaves (Xfer stream) = refl
+
+others-leave : (good : Bool) → (fills (pick good FillJacks Nothing) ≡ false) × (fills (pick good FillMaps Nothing) ≡ false)
+others-leave true = (refl, refl)
+others-leave false = (refl, refl)
+
+touch : {c : Core} {v : Verdict} {look : ℕ} {long : Bool} {p : Plan} → Answered c v look long p → Touch c v (p .effect)
+touch (short _) = leaves refl
+touch (idle _) = leaves refl
+touch {v} (asks-streams _ _) = leaves (others-leave (isGood v) .0)
+touch (asks-maps _ g h) = writes g h refl
+touch (cuts _ _ _ _ _) = leaves refl
+touch {v} (finishes _ _ _) = leaves (others-leave (isGood v) .1)
+touch (ends {call} _ _ _) = leaves (effect-leaves call)
+touch (fails _ _ _) = leaves refl
+
+-- a good verdict on the streams is of a page
+good-page : (s : Sound) (f : Feed) {call : Call} (n : Counts) → n ≡ s .core .counts → s .core .stage ≡ StreamsAsked call → isGood (verdictOf s f) ≡ true
+    → isGood (judged (pageOf f) (n .streams) 32) ≡ true
+good-page s (paged bytes m) n e g h = subst (λ (k : Counts). isGood (judged bytes (k .streams) 32) ≡ true) (sym e) (subst (λ (k : Stage). isGood (verdictBy k (s .core .counts) bytes) ≡ true) g h)
+good-page s (failed m) n e g h = absurd (false≢true h)
+
+touched : (s : Sound) (f : Feed) (old : List ℕ) → planOf s f .core .counts ≡ s .core .counts → Filled s old → Touch (s .core) (verdictOf s f) (planOf s f .effect)
+    → Filled (fedOf s f .sound) old ⊎ ((isGood (verdictOf s f) ≡ true) × Filled (fedOf s f .sound) (pageOf f))
+touched s f old a h (leaves e) = inl (kept-table (planOf s f .effect) (planOf s f .core) s (pageOf f) old e (ap (λ (m : Counts). m .streams) a) h)
+touched s f old a h (writes g v e) = inr (v, new-table (planOf s f .effect) (planOf s f .core) s (pageOf f) e (good-page s f (planOf s f .core .counts) a g v))
+
+-- the answer to the query of streams: set-up goes on with it only where it is good
+fed-good : {c : Core} {v : Verdict} {look : ℕ} {long : Bool} {p : Plan} {call : Call} → c .stage ≡ StreamsAsked call → asked (replyOf (p .say)) ≡ 1 → Answered c v look long p
+    → (isGood v ≡ true) × (fills (p .effect) ≡ true)
+fed-good g e (short _) = absurd (wrong e)
+fed-good g e (idle _) = absurd (wrong e)
+fed-good g e (asks-streams _ h) = absurd (omega (arith, ap waits (sym g ∙ h)))
+fed-good g e (asks-maps _ _ h) = (h, refl)
+fed-good g e (cuts _ _ _ _ _) = absurd (wrong e)
+fed-good g e (finishes _ h _) = absurd (omega (arith, ap waits (sym g ∙ h)))
+fed-good g e (ends _ _ _) = absurd (wrong e)
+fed-good g e (fails _ _ _) = absurd (wrong e)
+
+-- ---- the stream table is that of the page that answered the query of streams, until the next such page
+
+pub streams-filled : (s : Sound) (f : Feed) (call : Call) → s .core .stage ≡ StreamsAsked call → asked (fedOf s f .reply) ≡ 1 → Filled (fedOf s f .sound) (pageOf f)
+streams-filled s f call g e =
+    let a = fed-good g e (fed s f) in
+    new-table (planOf s f .effect) (planOf s f .core) s (pageOf f) (a .1) (good-page s f (planOf s f .core .counts) (fed-stays s f .counts) g (a .0))
+
+pub filled-feed : (s : Sound) (f : Feed) (old : List ℕ) → Filled s old → Filled (fedOf s f .sound) old ⊎ ((isGood (verdictOf s f) ≡ true) × Filled (fedOf s f .sound) (pageOf f))
+filled-feed s f old h = touched s f old (fed-stays s f .counts) h (touch (fed s f))
+
+pub filled-call : (s : Sound) (old : List ℕ) (t : Track) (call : Call) (n : ℕ) → Filled s old → Filled (stepOf (callOf s t call n) s [] .sound) old
+filled-call s old t call n f =
+    let p = callOf s t call n in
+    kept-table (p .effect) (p .core) s [] old (ap fills (called-quiet s t call n)) (ap (λ (m : Counts). m .streams) (called-stays s t call n .counts)) f
+
+module _ (s : Sound) (r : Ring) (stream len budget n : ℕ) (old : List ℕ) (f : Filled s old) where
+  pub filled-start : Filled (startOf s r stream len budget n .sound) old
+  filled-start = start-by (λ x. Filled (x .sound) old) s r stream len budget n (λ _. f) (λ _ _ _. f) f
+
+  pub filled-script : (script : List ℕ) → Filled (xferOf s r stream len budget script n .sound) old
+  filled-script script = script-by (λ x. Filled (x .sound) old) s r stream len budget n (λ _. f) (λ _ _ _. f) script f

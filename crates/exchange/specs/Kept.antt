@@ -1,0 +1,35 @@
+-- THE INVARIANT: a state that calls left. A new state has it, and every call, feed and start of a transfer keeps it (KeptLaws, XferLaws).
+-- Assumes nothing.
+use mathlib.Core.Path.{_≡_}
+use mathlib.Core.Bool.{true, false}
+use Prim.Native.Nat.{ℕ, _≤_}
+use lib.ListN.{length}
+use Rattle.turns.specs.Consistent as ring
+use Rattle.turns.specs.declared.ring.Ring.{Ring}
+use Rattle.exchange.specs.State.{paramsOf}
+use Rattle.exchange.specs.Consistent.{consistentOf, paramsOk}
+use Rattle.exchange.specs.declared.state.Stage.the-variants.{Idle}
+use Rattle.exchange.specs.declared.state.Sound.{Sound}
+
+pub record Kept (s : Sound) : Type 0 where
+  -- it passes the consistency test
+  pub consistent : consistentOf (s .core) ≡ true
+  -- the arrays have their lengths
+  pub jacks : length (s .jacks) ≡ 170
+  pub pcms : length (s .pcms) ≡ 127
+  pub maps : length (s .maps) ≡ 170
+  pub params : length (s .params) ≡ 127
+  -- parameters that are set passed every test
+  pub fine : (i : ℕ) → paramsOk (paramsOf s i) ≡ true
+  -- before set-up is done none are set, and then only of streams in range
+  pub unset : s .core .ready ≡ false → (i : ℕ) → paramsOf s i .known ≡ 0
+  pub beyond : (i : ℕ) → s .core .counts .streams ≤ i → paramsOf s i .known ≡ 0
+
+-- what demand 3 takes of state and ring: "a state and ring that calls left, .. a stream with parameters set, no exchange or transfer open, nothing in flight"
+pub record Playable (s : Sound) (r : Ring) (stream : ℕ) : Type 0 where
+  pub state : Kept s
+  pub ring : ring.consistentOf (r .track) ≡ true
+  pub set : paramsOf s stream .known ≡ 0 → ⊥
+  pub closed : s .core .stage ≡ Idle
+  pub still : r .track .running ≡ false
+  pub empty : r .track .held ≡ 0

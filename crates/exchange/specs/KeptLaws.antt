@@ -1,0 +1,118 @@
+-- A new state has the invariant; calls, feeds, queue failures and starts of a transfer keep it.
+-- Assumes nothing.
+use mathlib.Core.Path.{_≡_, refl, sym, ap, _∙_, subst}
+use mathlib.Core.Bool.{Bool, true, false, false≢true}
+use mathlib.Core.List.{List, [], _∷_}
+use Prim.Native.Nat.{ℕ, suc, zero, _≤_, _<_}
+use native.Mathlib.Omega.{arith}
+use lib.ListN.{length, getD, set, replicate, length-set}
+use lib.Seq.{getD-set-other}
+use Rattle.tables.specs.TableLengthLaws.{jacks-length, streams-length, maps-length}
+use Rattle.exchange.specs.State.{unset, newSound, paramsOf}
+use Rattle.exchange.specs.Consistent.{consistentOf, paramsOk}
+use Rattle.exchange.specs.Plan.{soundAfter}
+use Rattle.exchange.specs.Exchange.{stepOf, callOf}
+use Rattle.exchange.specs.Kept.{Kept}
+use Rattle.exchange.specs.FineLaws.{Allowed, Fine, called-fine, fed-fine}
+use Rattle.turns.specs.declared.ring.Track.{Track}
+use Rattle.records.specs.declared.info.JackInfo.{JackInfo}
+use Rattle.records.specs.declared.info.PcmInfo.{PcmInfo}
+use Rattle.records.specs.declared.info.ChannelMap.{ChannelMap}
+use Rattle.exchange.specs.Feed.{Feed, pageOf, planOf, fedOf}
+use Rattle.exchange.specs.StayLaws.{Stays, called-stays, fed-stays}
+use Rattle.exchange.specs.declared.state.Counts.{Counts}
+use Rattle.exchange.specs.declared.state.Params.{Params}
+use Rattle.exchange.specs.declared.state.Call.{Call}
+use Rattle.exchange.specs.declared.state.Core.{Core}
+use Rattle.exchange.specs.declared.state.Sound.{Sound}
+use Rattle.exchange.specs.declared.plan.Effect.{Effect}
+use Rattle.exchange.specs.declared.plan.Effect.the-variants.{Nothing, FillJacks, FillStreams, FillMaps, Store}
+use Rattle.exchange.specs.declared.plan.Plan.{Plan}
+
+unset-known : (n i : ℕ) → getD (replicate n unset) i unset ≡ unset
+unset-known zero i = refl
+unset-known (suc n) zero = refl
+unset-known (suc n) (suc i) = unset-known n i
+
+-- what holds of what is stored and of what was there holds of what is there then
+set-by : (Q : Params → Type 0) (l : List Params) (k i : ℕ) (to : Params) → Q to → Q (getD l i unset) → Q (getD (set l k to) i unset)
+set-by Q [] k i to a b = b
+set-by Q (x ∷ l) zero zero to a b = a
+set-by Q (x ∷ l) zero (suc i) to a b = b
+set-by Q (x ∷ l) (suc k) zero to a b = b
+set-by Q (x ∷ l) (suc k) (suc i) to a b = set-by Q l k i to a b
+
+-- ---- a new state
+
+pub new-kept : (jacks streams maps : ℕ) → Kept (newSound jacks streams maps)
+unfolding consistentOf
+new-kept jacks streams maps =
+    let p : (i : ℕ) → paramsOf (newSound jacks streams maps) i ≡ unset = unset-known 127 in
+    record {
+      consistent = refl;
+      jacks = refl;
+      pcms = refl;
+      maps = refl;
+      params = refl;
+      fine = λ i. ap paramsOk (p i);
+      unset = λ _ i. ap (λ (q : Params). q .known) (p i);
+      beyond = λ i _. ap (λ (q : Params). q .known) (p i);
+    }
+
+-- ---- one step
+
+module _ (s : Sound) (k : Kept s) (d : Core) (e : consistentOf d ≡ true) (n : d .counts ≡ s .core .counts) (r : s .core .ready ≡ true → d .ready ≡ true) where
+  before : (a b : Bool) → (a ≡ true → b ≡ true) → b ≡ false → a ≡ false
+  before true b f h = sym (f refl) ∙ h
+  before false b f h = refl
+
+  out : (i : ℕ) → d .counts .streams ≤ i → s .core .counts .streams ≤ i
+  out i h = subst (λ (m : Counts). m .streams ≤ i) n h
+
+  -- the tables may be others of their lengths
+  tables-kept : (js : List JackInfo) (ps : List PcmInfo) (ms : List ChannelMap) → length js ≡ 170 → length ps ≡ 127 → length ms ≡ 170
+      → Kept (record { core = d; jacks = js; pcms = ps; maps = ms; params = s .params })
+  tables-kept js ps ms a b c =
+      record {
+        consistent = e;
+        jacks = a;
+        pcms = b;
+        maps = c;
+        params = k .params;
+        fine = k .fine;
+        unset = λ h. k .unset (before (s .core .ready) (d .ready) r h);
+        beyond = λ i h. k .beyond i (out i h);
+      }
+
+  -- one stream's parameters are stored
+  store-kept : (stream : ℕ) (to : Params) → paramsOk to ≡ true → s .core .ready ≡ true → stream < s .core .counts .streams
+      → Kept (record { core = d; jacks = s .jacks; pcms = s .pcms; maps = s .maps; params = set (s .params) stream to })
+  store-kept stream to ok done h =
+      record {
+        consistent = e;
+        jacks = k .jacks;
+        pcms = k .pcms;
+        maps = k .maps;
+        params = length-set (s .params) stream to ∙ k .params;
+        fine = λ i. set-by (λ (p : Params). paramsOk p ≡ true) (s .params) stream i to ok (k .fine i);
+        unset = λ f. absurd (false≢true (sym f ∙ r done));
+        beyond = λ i b. ap (λ (p : Params). p .known) (getD-set-other (s .params) stream i to unset (λ x. omega (arith, out i b))) ∙ k .beyond i (out i b);
+      }
+
+  effect-kept : (x : Effect) (page : List ℕ) → Allowed (s .core) x → Kept (soundAfter x d s page)
+  effect-kept Nothing page a = tables-kept (s .jacks) (s .pcms) (s .maps) (k .jacks) (k .pcms) (k .maps)
+  effect-kept FillJacks page a = tables-kept _ (s .pcms) (s .maps) (jacks-length page (d .counts .jacks) (s .jacks) (k .jacks)) (k .pcms) (k .maps)
+  effect-kept FillStreams page a = tables-kept (s .jacks) _ (s .maps) (k .jacks) (streams-length page (d .counts .streams) (s .pcms) (k .pcms)) (k .maps)
+  effect-kept FillMaps page a = tables-kept (s .jacks) (s .pcms) _ (k .jacks) (k .pcms) (maps-length page (d .counts .maps) (s .maps) (k .maps))
+  effect-kept (Store stream to) page a = store-kept stream to (a .0) (a .1) (a .2)
+
+pub step-kept : (s : Sound) (p : Plan) (page : List ℕ) → Kept s → Stays (s .core) p → Fine (s .core) p → Kept (soundAfter (p .effect) (p .core) s page)
+step-kept s p page k a f = effect-kept s k (p .core) (f .consistent) (a .counts) (a .ready) (p .effect) page (f .effect)
+
+-- ---- THE INVARIANT IS KEPT by every call, feed, queue failure and start of a transfer
+
+pub call-kept : (s : Sound) (t : Track) (call : Call) (n : ℕ) → Kept s → Kept (stepOf (callOf s t call n) s [] .sound)
+call-kept s t call n k = step-kept s (callOf s t call n) [] k (called-stays s t call n) (called-fine s t call n (k .consistent))
+
+pub feed-kept : (s : Sound) (f : Feed) → Kept s → Kept (fedOf s f .sound)
+feed-kept s f k = step-kept s (planOf s f) (pageOf f) k (fed-stays s f) (fed-fine s f (k .consistent))

@@ -1,0 +1,33 @@
+-- definitions
+pub mod State
+pub mod Consistent
+pub mod Plan
+pub mod Exchange
+pub mod Xfer
+pub mod Asked
+pub mod Feed
+pub mod Kept
+-- theorems
+pub mod Refused
+pub mod RefusedXfer
+pub mod Ends
+pub mod Stored
+pub mod Remaps
+pub mod Unrun
+pub mod Filled
+pub mod Fields
+pub mod Lists
+pub mod Reached
+pub mod Demand
+pub mod Worked
+-- laws
+pub mod ConsistentLaws
+pub mod OwnLaws
+pub mod PlanLaws
+pub mod ResultLaws
+pub mod StayLaws
+pub mod FineLaws
+pub mod KeptLaws
+pub mod XferLaws
+pub mod ListLaws
+pub mod StepLaws

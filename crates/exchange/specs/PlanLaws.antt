@@ -1,0 +1,178 @@
+-- What a call and an answer can lead to: every theorem on plans goes by these cases.
+-- Assumes nothing.
+use mathlib.Core.Path.{_≡_, refl, sym, ap, _∙_}
+use mathlib.Core.Bool.{Bool, true, false, _&&_, false≢true}
+use mathlib.Core.List.{List, [], _∷_}
+use mathlib.Core.Logic.{inl, inr}
+use Prim.Native.Nat.{ℕ, _+_, _*_}
+use lib.Dec.{leb, eqb}
+use borrow.Author.Tests.{eq-eqb, le-leb}
+use lib.ListN.{length}
+use Rattle.codes.specs.Says.{pick, guard}
+use Rattle.codes.specs.SaysLaws.{guarded-by}
+use Rattle.codes.specs.Answers.{saysRefusal}
+use Rattle.codes.specs.declared.answers.Refusal.{Refusal}
+use Rattle.codes.specs.declared.answers.Refusal.the-variants.{InvalidParam, TooMany, Busy, BadLength}
+use Rattle.layout.specs.Bytes.{numAt}
+use Rattle.tables.specs.Tables.{judged, isGood}
+use Rattle.tables.specs.declared.verdict.Verdict.{Verdict}
+use Rattle.tables.specs.declared.verdict.Verdict.the-variants as verdict
+use Rattle.turns.specs.Calls.{idleOf}
+use Rattle.turns.specs.Consistent as ring
+use Rattle.turns.specs.ConsistentLaws.{both}
+use Rattle.turns.specs.declared.ring.Track.{Track}
+use Rattle.exchange.specs.Consistent.{callOk, consistentOf}
+use Rattle.exchange.specs.Plan.{sendOf, endOf, keepOf, cutOf, queryOf, lookOf, ownOf, isIdle, beginOf, refusalOf, isTooMany, afterJacks, afterStreams, afterMaps, effectOf, sentRefusal, afterSent, answerBy, answerOf, verdictBy, pendingLook}
+use Rattle.exchange.specs.Exchange.{callOf, feedOf, failOf}
+use Rattle.exchange.specs.ConsistentLaws.{both-of, asking}
+use Rattle.exchange.specs.Feed.{Feed, paged, failed, planOf, verdictOf, longOf, Long}
+use Rattle.exchange.specs.declared.state.Counts.{Counts}
+use Rattle.exchange.specs.declared.state.Call.{Call}
+use Rattle.exchange.specs.declared.state.Stage.{Stage}
+use Rattle.exchange.specs.declared.state.Stage.the-variants.{Idle, JacksAsked, StreamsAsked, MapsAsked, Sent}
+use Rattle.exchange.specs.declared.state.Core.{Core}
+use Rattle.exchange.specs.declared.state.Sound.{Sound}
+use Rattle.exchange.specs.declared.plan.Value.the-variants as value
+use Rattle.exchange.specs.declared.plan.Say.the-variants.{Done, Refused}
+use Rattle.exchange.specs.declared.plan.Effect.the-variants.{Nothing, FillJacks, FillStreams, FillMaps}
+use Rattle.exchange.specs.declared.plan.Plan.{Plan}
+use Rattle.exchange.specs.OwnLaws.{picked-by, One, Own, own}
+
+-- ---- a call: refused with nothing changed, the first query of set-up, or its own part
+
+pub data Begun (c : Core) (call : Call) (look : ℕ) : Plan → Type 0 where
+  bars : (r : Refusal) → Begun c call look (keepOf c r)
+  asks : consistentOf c ≡ true → c .stage ≡ Idle → c .ready ≡ false → callOk call ≡ true → Begun c call look (sendOf c (JacksAsked call) (queryOf 0x0001 (c .counts .jacks) 24) Nothing)
+  goes : {p : Plan} → consistentOf c ≡ true → c .stage ≡ Idle → c .ready ≡ true → callOk call ≡ true → Own c look call p → Begun c call look p
+
+pub idle-is : (g : Stage) → isIdle g ≡ true → g ≡ Idle
+idle-is Idle e = refl
+idle-is (JacksAsked call) e = absurd (false≢true e)
+idle-is (StreamsAsked call) e = absurd (false≢true e)
+idle-is (MapsAsked call) e = absurd (false≢true e)
+idle-is (Sent call) e = absurd (false≢true e)
+
+pub begun : (s : Sound) (t : Track) (call : Call) (n : ℕ) → Begun (s .core) call (lookOf s call) (callOf s t call n)
+unfolding callOf beginOf
+begun s t call n =
+    let c = s .core in
+    let look = lookOf s call in
+    let P : Plan → Type 0 = Begun c call look in
+    guarded-by P _ _ _
+    (λ _. guarded-by P _ _ _
+    (λ ok. guarded-by P _ _ _
+    (λ free. guarded-by P _ _ _
+    (λ fine.
+    let e = both (consistentOf c) (ring.consistentOf t) ok .0 in
+    let g = idle-is (c .stage) (both (isIdle (c .stage)) (idleOf t) free .0) in
+    picked-by P (c .ready) (ownOf c call look) (sendOf c (JacksAsked call) (queryOf 0x0001 (c .counts .jacks) 24) Nothing)
+    (λ r. goes e g r fine (own c look call)) (λ r. asks e g r fine))
+    (λ _. bars InvalidParam))
+    (λ _. bars Busy))
+    (λ _. bars InvalidParam))
+    (λ _. bars BadLength)
+
+-- ---- an answer with its verdict; `long` tells whether what is lent has its length
+
+-- the core once the jacks, the streams, the maps are read
+abbrev pub readTo : Core → ℕ → ℕ → ℕ → Bool → Core
+readTo c jacks streams maps ready = record { counts = c .counts; read = record { jacks = jacks; streams = streams; maps = maps }; ready = ready; stage = c .stage }
+
+abbrev pub counted : Verdict → ℕ → ℕ
+counted v n = pick (isGood v) n 0
+
+-- a page that is not of 4,096 bytes
+abbrev pub isShort : Verdict → Bool
+isShort verdict.Good = false
+isShort (verdict.Status word) = false
+isShort verdict.TooMany = false
+isShort verdict.BadLength = true
+isShort verdict.Failed = false
+
+-- with what set-up is cut short
+abbrev pub Cut : Verdict → Refusal → Type 0
+Cut v r = isShort v ≡ false → One (saysRefusal r .number) (2 ∷ 5 ∷ 7 ∷ [])
+
+cut-by : (v : Verdict) → Cut v (refusalOf v)
+cut-by verdict.Good l = inl refl
+cut-by (verdict.Status word) l = inl refl
+cut-by verdict.TooMany l = inr (inl refl)
+cut-by verdict.BadLength l = absurd (false≢true (sym l))
+cut-by verdict.Failed l = inr (inr (inl refl))
+
+pub data Answered (c : Core) (v : Verdict) (look : ℕ) (long : Bool) : Plan → Type 0 where
+  short : long ≡ false → Answered c v look long (keepOf c BadLength)
+  idle : (consistentOf c ≡ true → c .stage ≡ Idle) → Answered c v look long (keepOf c InvalidParam)
+  asks-streams : {call : Call} → consistentOf c ≡ true → c .stage ≡ JacksAsked call
+      → Answered c v look long (sendOf (readTo c (counted v (c .counts .jacks)) 0 0 false) (StreamsAsked call) (queryOf 0x0100 (c .counts .streams) 32) (pick (isGood v) FillJacks Nothing))
+  asks-maps : {call : Call} → consistentOf c ≡ true → c .stage ≡ StreamsAsked call → isGood v ≡ true
+      → Answered c v look long (sendOf (readTo c (c .read .jacks) (c .counts .streams) 0 false) (MapsAsked call) (queryOf 0x0200 (c .counts .maps) 24) FillStreams)
+  cuts : (r : Refusal) → long ≡ true → Cut v r → consistentOf c ≡ true → asking (c .stage) ≡ true → Answered c v look long (cutOf c r)
+  finishes : {call : Call} {p : Plan} → consistentOf c ≡ true → c .stage ≡ MapsAsked call
+      → Own (readTo c (c .read .jacks) (c .read .streams) (counted v (c .counts .maps)) true) look call p
+      → Answered c v look long (record { core = p .core; say = p .say; effect = pick (isGood v) FillMaps Nothing })
+  ends : {call : Call} → consistentOf c ≡ true → c .stage ≡ Sent call → isGood v ≡ true → Answered c v look long (endOf c (Done value.Nothing) (effectOf call))
+  fails : {call : Call} → long ≡ true → consistentOf c ≡ true → c .stage ≡ Sent call → Answered c v look long (endOf c (Refused (sentRefusal call v)) Nothing)
+
+module _ (c : Core) (v : Verdict) (look : ℕ) (long : Bool) where
+  abbrev P : Plan → Type 0
+  P = Answered c v look long
+
+  answered-at : long ≡ true → (g : Stage) → c .stage ≡ g → consistentOf c ≡ true → P (answerBy g c v look)
+  unfolding afterJacks afterStreams afterMaps afterSent
+  answered-at l Idle p e = idle (λ _. p)
+  answered-at l (JacksAsked call) p e =
+      picked-by P (isTooMany v) (cutOf c TooMany)
+      (sendOf (readTo c (counted v (c .counts .jacks)) 0 0 false) (StreamsAsked call) (queryOf 0x0100 (c .counts .streams) 32) (pick (isGood v) FillJacks Nothing))
+      (λ _. cuts TooMany l (λ _. inr (inl refl)) e (ap asking p)) (λ _. asks-streams e p)
+  answered-at l (StreamsAsked call) p e =
+      picked-by P (isGood v)
+      (sendOf (readTo c (c .read .jacks) (c .counts .streams) 0 false) (MapsAsked call) (queryOf 0x0200 (c .counts .maps) 24) FillStreams)
+      (cutOf c (refusalOf v))
+      (λ g. asks-maps e p g) (λ _. cuts (refusalOf v) l (cut-by v) e (ap asking p))
+  answered-at l (MapsAsked call) p e =
+      let d = readTo c (c .read .jacks) (c .read .streams) (counted v (c .counts .maps)) true in
+      let q = ownOf d call look in
+      picked-by P (isTooMany v) (cutOf c TooMany) (record { core = q .core; say = q .say; effect = pick (isGood v) FillMaps Nothing })
+      (λ _. cuts TooMany l (λ _. inr (inl refl)) e (ap asking p)) (λ _. finishes e p (own d look call))
+  answered-at l (Sent call) p e =
+      picked-by P (isGood v) (endOf c (Done value.Nothing) (effectOf call)) (endOf c (Refused (sentRefusal call v)) Nothing)
+      (λ g. ends e p g) (λ _. fails l e p)
+
+  answered : P (guard long (answerOf c v look) (keepOf c BadLength))
+  unfolding answerOf
+  answered =
+      guarded-by P _ _ _
+      (λ l. guarded-by P _ _ _ (λ e. answered-at l (c .stage) refl e) (λ f. idle (λ e. absurd (false≢true (sym f ∙ e)))))
+      (λ s. short s)
+
+pub fed : (s : Sound) (f : Feed) → Answered (s .core) (verdictOf s f) (pendingLook (s .core .stage) s) (longOf f) (planOf s f)
+unfolding feedOf failOf
+fed s (paged bytes n) = answered (s .core) (verdictBy (s .core .stage) (s .core .counts) bytes) (pendingLook (s .core .stage) s) (eqb (length bytes) 4096 && leb 24 n)
+fed s (failed n) = answered (s .core) verdict.Failed (pendingLook (s .core .stage) s) (leb 24 n)
+
+-- ---- what is long has no verdict of its length
+
+judged-long : (h f : Bool) (word : ℕ) → isShort (pick h (pick f verdict.Good verdict.TooMany) (verdict.Status word)) ≡ false
+judged-long true true word = refl
+judged-long true false word = refl
+judged-long false f word = refl
+
+long-judged : (page : List ℕ) (n size : ℕ) → eqb (length page) 4096 ≡ true → isShort (judged page n size) ≡ false
+unfolding judged
+long-judged page n size l = rw l (judged-long (eqb (numAt 0 4 page) 0x8000) (leb (4 + n * size) 4096) (numAt 0 4 page))
+
+long-by : (g : Stage) (n : Counts) (page : List ℕ) → eqb (length page) 4096 ≡ true → isShort (verdictBy g n page) ≡ false
+long-by Idle n page l = long-judged page 0 0 l
+long-by (JacksAsked call) n page l = long-judged page (n .jacks) 24 l
+long-by (StreamsAsked call) n page l = long-judged page (n .streams) 32 l
+long-by (MapsAsked call) n page l = long-judged page (n .maps) 24 l
+long-by (Sent call) n page l = long-judged page 0 0 l
+
+pub long-verdict : (s : Sound) (f : Feed) → longOf f ≡ true → isShort (verdictOf s f) ≡ false
+long-verdict s (paged bytes n) l = long-by (s .core .stage) (s .core .counts) bytes (both (eqb (length bytes) 4096) (leb 24 n) l .0)
+long-verdict s (failed n) l = refl
+
+pub long-of : (f : Feed) → Long f → longOf f ≡ true
+long-of (paged bytes n) l = both-of (eqb (length bytes) 4096) (leb 24 n) (eq-eqb _ _ (l .0)) (le-leb _ _ (l .1))
+long-of (failed n) l = le-leb _ _ l

@@ -1,0 +1,89 @@
+-- "A state and ring that calls left", word for word: made new and then called, fed and turned in any way. They have the invariant, and demand 3's premises can be met.
+-- Assumes nothing.
+use mathlib.Core.Path.{_≡_, refl}
+use mathlib.Core.Bool.{false}
+use mathlib.Core.List.{List, [], _∷_}
+use Prim.Native.Nat.{ℕ}
+use native.Mathlib.Omega.{arith}
+use lib.ListN.{length, replicate}
+use Rattle.layout.specs.Bytes.{un, bytesAt, numAt}
+use Rattle.codes.specs.Says.{guard}
+use Rattle.tables.specs.Tables.{judged}
+use Rattle.turns.specs.Calls.{turnCall, drainCall, turnedOf}
+use Rattle.turns.specs.Consistent as ring
+use Rattle.turns.specs.Consistent.{placedOf, pacedOf}
+use Rattle.turns.specs.ConsistentLaws.{Consistent, consistent-facts, consistent-true}
+use Rattle.turns.specs.PassLaws.{call-keeps, drain-keeps, start-keeps, new-passes}
+use Rattle.turns.specs.DemandLaws.{script-keeps}
+use Rattle.turns.specs.Ring.{newTrack, newRing}
+use Rattle.turns.specs.declared.ring.Ring.{Ring}
+use Rattle.turns.specs.declared.reading.Reading.{Reading}
+use Rattle.exchange.specs.State.{newSound, paramsOf}
+use Rattle.exchange.specs.Consistent.{consistentOf}
+use Rattle.exchange.specs.Plan.{ownSet, beginOf, afterJacks, afterStreams, afterMaps, afterSent, answerOf}
+use Rattle.exchange.specs.Exchange.{stepOf, callOf, feedOf, failOf}
+use Rattle.exchange.specs.Xfer.{startOf, xferOf}
+use Rattle.exchange.specs.Kept.{Kept, Playable}
+use Rattle.exchange.specs.KeptLaws.{new-kept, call-kept, feed-kept}
+use Rattle.exchange.specs.Ends.{after}
+use Rattle.exchange.specs.XferLaws.{start-by, script-by, start-kept, xfer-kept}
+use Rattle.exchange.specs.Feed.{Feed, paged, failed, fedOf}
+use Rattle.exchange.specs.declared.state.Call.{Call}
+use Rattle.exchange.specs.declared.state.Call.the-variants.{SetParams}
+use Rattle.exchange.specs.declared.state.Stage.the-variants.{Idle}
+use Rattle.exchange.specs.declared.state.Sound.{Sound}
+
+pub data Reached : Sound → Ring → Type 0 where
+  fresh : (jacks streams maps : ℕ) → Reached (newSound jacks streams maps) (newRing 3)
+  called : {s : Sound} {r : Ring} (call : Call) (n : ℕ) → Reached s r → Reached (stepOf (callOf s (r .track) call n) s [] .sound) r
+  fed : {s : Sound} {r : Ring} (f : Feed) → Reached s r → Reached (fedOf s f .sound) r
+  started : {s : Sound} {r : Ring} (stream len budget n : ℕ) → Reached s r → Reached (startOf s r stream len budget n .sound) (startOf s r stream len budget n .ring)
+  scripted : {s : Sound} {r : Ring} (stream : ℕ) (frames : List ℕ) (budget : ℕ) (script : List ℕ) (n : ℕ) → Reached s r
+      → Reached (xferOf s r stream (length frames) budget script n .sound) (xferOf s r stream (length frames) budget script n .ring)
+  turned : {s : Sound} {r : Ring} (len : ℕ) (reading : Reading) → Reached s r → Reached s (turnedOf r (turnCall 3 (r .track) len reading) .ring)
+  drained : {s : Sound} {r : Ring} (reading : Reading) → Reached s r → Reached s (turnedOf r (drainCall (r .track) reading) .ring)
+
+module _ (s : Sound) (r : Ring) (stream budget n : ℕ) (c : Consistent (r .track)) where
+  start-ring : (len : ℕ) → Consistent (startOf s r stream len budget n .ring .track)
+  start-ring len = start-by (λ x. Consistent (x .ring .track)) s r stream len budget n (λ _. c) (λ _ _ _. c) (start-keeps (r .track) stream len (paramsOf s stream .period) budget c)
+
+  script-ring : (frames script : List ℕ) → Consistent (xferOf s r stream (length frames) budget script n .ring .track)
+  script-ring frames script =
+      script-by (λ x. Consistent (x .ring .track)) s r stream (length frames) budget n (λ _. c) (λ _ _ _. c) script (script-keeps 3 r stream (paramsOf s stream .period) budget frames script (omega arith) c)
+
+-- what calls left has the invariant
+pub reached-kept : {s : Sound} {r : Ring} → Reached s r → Kept s × Consistent (r .track)
+reached-kept (fresh jacks streams maps) = (new-kept jacks streams maps, consistent-facts (newTrack 3) new-passes)
+reached-kept (called {s} {r} call n h) = let k = reached-kept h in (call-kept s (r .track) call n (k .0), k .1)
+reached-kept (fed {s} f h) = let k = reached-kept h in (feed-kept s f (k .0), k .1)
+reached-kept (started {s} {r} stream len budget n h) = let k = reached-kept h in (start-kept s r stream len budget n (k .0), start-ring s r stream budget n (k .1) len)
+reached-kept (scripted {s} {r} stream frames budget script n h) = let k = reached-kept h in (xfer-kept s r stream (length frames) budget n (k .0) script, script-ring s r stream budget n (k .1) frames script)
+reached-kept (turned {r} len reading h) = let k = reached-kept h in (k .0, call-keeps 3 (r .track) len reading (omega arith) (k .1))
+reached-kept (drained {r} reading h) = let k = reached-kept h in (k .0, drain-keeps (r .track) reading (k .1))
+
+-- so demand 3 speaks of every state and ring that calls left
+pub reached-playable : {s : Sound} {r : Ring} (stream : ℕ) → Reached s r → (paramsOf s stream .known ≡ 0 → ⊥) → s .core .stage ≡ Idle → r .track .running ≡ false
+    → r .track .held ≡ 0 → Playable s r stream
+reached-playable {r} stream h set closed still empty =
+    let k = reached-kept h in
+    record { state = k .0; ring = consistent-true (r .track) (k .1); set = set; closed = closed; still = still; empty = empty }
+
+-- ---- and they can be met: 2 streams, set parameters of stream 1; the queries of jacks and maps fail, those of streams and the setting are answered with ok
+
+abbrev ok : Feed
+ok = paged (0x00 ∷ 0x80 ∷ replicate 4094 0) 24
+
+abbrev first : Call
+first = SetParams 1 (record { known = 0; buffer = 8192; period = 2048; features = 0; channels = 2; format = 5; rate = 7 })
+
+abbrev asked : Sound
+asked = stepOf (callOf (newSound 0 2 0) (newTrack 3) first 24) (newSound 0 2 0) [] .sound
+
+abbrev parametersSet : Sound
+parametersSet = after asked (failed 24 ∷ ok ∷ failed 24 ∷ ok ∷ [])
+
+pub premises-met : Playable parametersSet (newRing 3) 1
+unfolding after callOf feedOf failOf beginOf answerOf afterJacks afterStreams afterMaps afterSent ownSet consistentOf placedOf pacedOf guard judged numAt bytesAt un
+premises-met =
+    let k : _≡_ {A = ℕ} (paramsOf parametersSet 1 .known) 1 = refl in
+    reached-playable 1 (fed ok (fed (failed 24) (fed ok (fed (failed 24) (called first 24 (fresh 0 2 0)))))) (λ e. omega (arith, k, e)) refl refl refl

@@ -1,0 +1,162 @@
+-- Theorems: what a refusal leaves.
+-- Assumes nothing.
+use mathlib.Core.Path.{_≡_, refl, sym, ap, ap₂, _∙_, subst}
+use mathlib.Core.Bool.{Bool, true, false, false≢true}
+use mathlib.Core.List.{List, [], _∷_}
+use mathlib.Core.Logic.{inl, inr}
+use Prim.Native.Nat.{ℕ}
+use lib.Dec.{eqb}
+use lib.ListN.{length}
+use Rattle.layout.specs.Bytes.{numAt}
+use Rattle.codes.specs.Says.{pick}
+use Rattle.codes.specs.Answers.{saysRefusal}
+use Rattle.codes.specs.declared.answers.Refusal.{Refusal}
+use Rattle.records.specs.declared.info.ChannelMap.{ChannelMap}
+use Rattle.tables.specs.Tables.{judged, isGood, mapsRead}
+use Rattle.tables.specs.declared.verdict.Verdict.{Verdict}
+use Rattle.tables.specs.declared.verdict.Verdict.the-variants as verdict
+use Rattle.turns.specs.declared.ring.Track.{Track}
+use Rattle.exchange.specs.State.{none, withStage}
+use Rattle.exchange.specs.ConsistentLaws.{asking}
+use Rattle.exchange.specs.Plan.{refusalOf, remapRefusal, isTooMany, sentRefusal, soundAfter, verdictBy}
+use Rattle.exchange.specs.OwnLaws.{One, ownRefusals, Own, sets, commands, remaps, lists, tells, refuses}
+use Rattle.exchange.specs.PlanLaws.{Begun, bars, asks, goes, begun, readTo, isShort, long-verdict, Answered, short, idle, asks-streams, asks-maps, cuts, finishes, ends, fails, fed}
+use Rattle.exchange.specs.Exchange.{messageAfter, replyOf, stepOf, callOf}
+use Rattle.exchange.specs.Feed.{Feed, paged, failed, pageOf, planOf, fedOf, verdictOf, longOf}
+use Rattle.exchange.specs.StayLaws.{own-stays}
+use Rattle.exchange.specs.declared.state.Call.{Call}
+use Rattle.exchange.specs.declared.state.Call.the-variants.{SetParams, Command, Remap, Streams, Supported, Xfer}
+use Rattle.exchange.specs.declared.state.Stage.{Stage}
+use Rattle.exchange.specs.declared.state.Stage.the-variants.{Idle, MapsAsked, Sent}
+use Rattle.exchange.specs.declared.state.Core.{Core}
+use Rattle.exchange.specs.declared.state.Sound.{Sound}
+use Rattle.exchange.specs.declared.plan.Say.{Say}
+use Rattle.exchange.specs.declared.plan.Say.the-variants.{Send, Done, Refused}
+use Rattle.exchange.specs.declared.plan.Effect.{Effect}
+use Rattle.exchange.specs.declared.plan.Effect.the-variants.{Nothing, FillMaps}
+use Rattle.exchange.specs.declared.plan.Plan.{Plan}
+use Rattle.exchange.specs.declared.calls.Reply.the-variants as reply
+
+-- ---- a reply that refuses
+
+abbrev refuses? : Say → Bool
+refuses? (Send q) = false
+refuses? (Done v) = false
+refuses? (Refused r) = true
+
+said : (a : Say) (r : Refusal) → replyOf a ≡ reply.Refused r → refuses? a ≡ true
+said (Send q) r e = cc
+said (Done v) r e = cc
+said (Refused x) r e = refl
+
+said-is : (a : Say) (r : Refusal) → replyOf a ≡ reply.Refused r → a ≡ Refused r
+said-is (Send q) r e = absurd (false≢true (said (Send q) r e))
+said-is (Done v) r e = absurd (false≢true (said (Done v) r e))
+said-is (Refused x) r e = let z : x ≡ r = cc in ap Refused z
+
+-- "A refused call changes no lent byte"
+pub refused-writes-nothing : (a : Say) (r : Refusal) (l : List ℕ) → replyOf a ≡ reply.Refused r → messageAfter a l ≡ l
+refused-writes-nothing (Send q) r l e = absurd (false≢true (said (Send q) r e))
+refused-writes-nothing (Done v) r l e = refl
+refused-writes-nothing (Refused x) r l e = refl
+
+-- ---- a call. "unchanged": whatever it is refused with, at once, the state is as it was
+
+own-closed : {c : Core} {look : ℕ} {call : Call} {p : Plan} → refuses? (p .say) ≡ true → Own c look call p → p .core ≡ withStage c Idle
+own-closed e (sets _ _) = absurd (false≢true e)
+own-closed e commands = absurd (false≢true e)
+own-closed e (remaps _ _ _) = absurd (false≢true e)
+own-closed e lists = refl
+own-closed e (tells _) = refl
+own-closed e (refuses _ _) = refl
+
+unchanged : (s : Sound) {call : Call} {look : ℕ} {p : Plan} → refuses? (p .say) ≡ true → Begun (s .core) call look p → soundAfter (p .effect) (p .core) s [] ≡ s
+unchanged s e (bars x) = refl
+unchanged s e (asks _ _ _ _) = absurd (false≢true e)
+unchanged s e (goes _ g _ _ o) = ap₂ (λ (x : Effect) (c : Core). soundAfter x c s []) (own-stays o .1) (own-closed e o ∙ ap (withStage (s .core)) (sym g))
+
+pub refused-unchanged : (s : Sound) (t : Track) (call : Call) (n : ℕ) (r : Refusal) → stepOf (callOf s t call n) s [] .reply ≡ reply.Refused r → stepOf (callOf s t call n) s [] .sound ≡ s
+refused-unchanged s t call n r e = unchanged s (said (callOf s t call n .say) r e) (begun s t call n)
+
+-- ---- a feed
+
+-- THE TABLE, for a feed: what each refusal leaves
+pub data Left (s : Sound) (r : Refusal) : Sound → Type 0 where
+  -- 1 "feed with no exchange open", 10 "unchanged; an open exchange stays open"
+  same : One (saysRefusal r .number) (1 ∷ 10 ∷ []) → Left s r s
+  -- 2 "control: old parameters", 3 "unchanged", 7 "as for a status not ok": the exchange is closed, and nothing else changed
+  closed : {call : Call} → One (saysRefusal r .number) (2 ∷ 3 ∷ 7 ∷ []) → s .core .stage ≡ Sent call
+      → Left s r (record { core = withStage (s .core) Idle; jacks = s .jacks; pcms = s .pcms; maps = s .maps; params = s .params })
+  -- 2, 7 and 5 "set-up not done": "leaves all three tables empty, and the next call begins it again"
+  cut : One (saysRefusal r .number) (2 ∷ 5 ∷ 7 ∷ []) → asking (s .core .stage) ≡ true
+      → Left s r (record { core = record { counts = s .core .counts; read = none; ready = false; stage = Idle }; jacks = s .jacks; pcms = s .pcms; maps = s .maps; params = s .params })
+  -- 1 "unchanged, but set-up stays done", 2 of a transfer, 3, 4: set-up is done, with the channel maps that it read, and the exchange is closed
+  done : {call : Call} (n : ℕ) (maps : List ChannelMap) → One (saysRefusal r .number) (ownRefusals call) → s .core .stage ≡ MapsAsked call
+      → Left s r (record { core = withStage (readTo (s .core) (s .core .read .jacks) (s .core .read .streams) n true) Idle; jacks = s .jacks; pcms = s .pcms; maps = maps; params = s .params })
+
+-- a refusal's number
+abbrev barred : Say → ℕ
+barred (Send q) = 0
+barred (Done v) = 0
+barred (Refused r) = saysRefusal r .number
+
+module _ (r : Refusal) where
+  numbered : (ns : List ℕ) {a : Say} → a ≡ Refused r → One (barred a) ns → One (saysRefusal r .number) ns
+  numbered ns e o = subst (λ (n : ℕ). One n ns) (ap barred e) o
+
+  own-number : {c : Core} {look : ℕ} {call : Call} {p : Plan} → p .say ≡ Refused r → Own c look call p → One (saysRefusal r .number) (ownRefusals call)
+  own-number e (sets _ _) = absurd (false≢true (ap refuses? e))
+  own-number e commands = absurd (false≢true (ap refuses? e))
+  own-number e (remaps _ _ _) = absurd (false≢true (ap refuses? e))
+  own-number e lists = absurd (false≢true (ap refuses? e))
+  own-number e (tells _) = absurd (false≢true (ap refuses? e))
+  own-number e (refuses {call} x o) = numbered (ownRefusals call) e o
+
+-- what a request of the call's own is refused with, by a page of the right length or a failure
+refusal-number : (v : Verdict) → isShort v ≡ false → isTooMany v ≡ false
+    → One (saysRefusal (refusalOf v) .number) (2 ∷ 3 ∷ 7 ∷ []) × One (saysRefusal (remapRefusal v) .number) (2 ∷ 3 ∷ 7 ∷ [])
+refusal-number verdict.Good a b = (inl refl, inr (inl refl))
+refusal-number (verdict.Status word) a b = (inl refl, inr (inl refl))
+refusal-number verdict.TooMany a b = absurd (false≢true (sym b))
+refusal-number verdict.BadLength a b = absurd (false≢true (sym a))
+refusal-number verdict.Failed a b = (inr (inr (inl refl)), inr (inr (inl refl)))
+
+sent-number : (call : Call) (v : Verdict) → isShort v ≡ false → isTooMany v ≡ false → One (saysRefusal (sentRefusal call v) .number) (2 ∷ 3 ∷ 7 ∷ [])
+sent-number (SetParams stream to) v a b = refusal-number v a b .0
+sent-number (Command kind stream) v a b = refusal-number v a b .0
+sent-number (Remap jack association sequence) v a b = refusal-number v a b .1
+sent-number (Streams direction) v a b = refusal-number v a b .0
+sent-number (Supported field stream) v a b = refusal-number v a b .0
+sent-number (Xfer stream) v a b = refusal-number v a b .0
+
+done-by : (s : Sound) (r : Refusal) {call : Call} (n : ℕ) (page : List ℕ) (good : Bool) (d : Core) → One (saysRefusal r .number) (ownRefusals call)
+    → s .core .stage ≡ MapsAsked call → d ≡ withStage (readTo (s .core) (s .core .read .jacks) (s .core .read .streams) n true) Idle
+    → Left s r (soundAfter (pick good FillMaps Nothing) d s page)
+done-by s r n page true d o g e = rw e (done n (mapsRead page (s .core .counts .maps) (s .maps) .at) o g)
+done-by s r n page false d o g e = rw e (done n (s .maps) o g)
+
+module _ (s : Sound) (page : List ℕ) (r : Refusal) (v : Verdict) (long : Bool) (w : long ≡ true → isShort v ≡ false) (few : (call : Call) → s .core .stage ≡ Sent call → isTooMany v ≡ false) where
+  left : {look : ℕ} {p : Plan} → p .say ≡ Refused r → Answered (s .core) v look long p → Left s r (soundAfter (p .effect) (p .core) s page)
+  left e (short _) = same (numbered r (1 ∷ 10 ∷ []) e (inr (inl refl)))
+  left e (idle _) = same (numbered r (1 ∷ 10 ∷ []) e (inl refl))
+  left e (asks-streams _ _) = absurd (false≢true (ap refuses? e))
+  left e (asks-maps _ _ _) = absurd (false≢true (ap refuses? e))
+  left e (cuts x l k _ a) = cut (numbered r (2 ∷ 5 ∷ 7 ∷ []) e (k (w l))) a
+  left e (finishes {p} _ g o) = done-by s r _ page (isGood v) (p .core) (own-number r e o) g (own-closed (ap refuses? e) o)
+  left e (ends _ _ _) = absurd (false≢true (ap refuses? e))
+  left e (fails {call} l _ g) = closed (numbered r (2 ∷ 3 ∷ 7 ∷ []) e (sent-number call v (w l) (few call g))) g
+
+-- the answer to a request of the call's own holds no records
+judged-few : (l h : Bool) (word : ℕ) → isTooMany (pick l (pick h verdict.Good (verdict.Status word)) verdict.BadLength) ≡ false
+judged-few true true word = refl
+judged-few true false word = refl
+judged-few false h word = refl
+
+few-sent : (s : Sound) (f : Feed) (call : Call) → s .core .stage ≡ Sent call → isTooMany (verdictOf s f) ≡ false
+unfolding judged
+few-sent s (paged bytes n) call g =
+    ap (λ (k : Stage). isTooMany (verdictBy k (s .core .counts) bytes)) g ∙ judged-few (eqb (length bytes) 4096) (eqb (numAt 0 4 bytes) 0x8000) (numAt 0 4 bytes)
+few-sent s (failed n) call g = refl
+
+pub refused-feed : (s : Sound) (f : Feed) (r : Refusal) → fedOf s f .reply ≡ reply.Refused r → Left s r (fedOf s f .sound)
+refused-feed s f r e = left s (pageOf f) r (verdictOf s f) (longOf f) (long-verdict s f) (few-sent s f) (said-is (planOf s f .say) r e) (fed s f)

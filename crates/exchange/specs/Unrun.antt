@@ -1,0 +1,88 @@
+-- Theorems: parameters can only be set after set-up, so a transfer that had to begin set-up never runs.
+-- Assumes nothing.
+use mathlib.Core.Path.{_≡_, refl, sym, ap, _∙_}
+use mathlib.Core.Bool.{Bool, true, false, false≢true}
+use mathlib.Core.List.{List, [], _∷_}
+use mathlib.Core.Logic.{inl, inr}
+use Prim.Native.Nat.{ℕ}
+use Rattle.codes.specs.Answers.{saysRefusal}
+use Rattle.codes.specs.declared.answers.Refusal.{Refusal}
+use Rattle.tables.specs.declared.verdict.Verdict.{Verdict}
+use Rattle.turns.specs.declared.ring.Ring.{Ring}
+use Rattle.exchange.specs.State.{paramsOf}
+use Rattle.exchange.specs.ConsistentLaws.{facts, asking, not-ready}
+use Rattle.exchange.specs.Consistent.{consistentOf}
+use Rattle.exchange.specs.OwnLaws.{One, Own, refuses}
+use Rattle.exchange.specs.PlanLaws.{isShort, long-verdict, long-of, Answered, short, idle, asks-streams, asks-maps, cuts, finishes, ends, fails, fed}
+use Rattle.exchange.specs.Exchange.{replyOf, stepOf}
+use Rattle.exchange.specs.Xfer.{startOf, xferOf}
+use Rattle.exchange.specs.Kept.{Kept}
+use Rattle.exchange.specs.XferLaws.{start-by, script-by}
+use Rattle.exchange.specs.StayLaws.{after-core}
+use Rattle.exchange.specs.ResultLaws.{wrong, callAt, recall}
+use Rattle.exchange.specs.Feed.{Feed, pageOf, planOf, fedOf, verdictOf, longOf, Long}
+use Rattle.exchange.specs.declared.state.Call.the-variants.{Xfer}
+use Rattle.exchange.specs.declared.state.Stage.{Stage}
+use Rattle.exchange.specs.declared.state.Stage.the-variants.{Idle}
+use Rattle.exchange.specs.declared.state.Core.{Core}
+use Rattle.exchange.specs.declared.state.Sound.{Sound}
+use Rattle.exchange.specs.declared.plan.Say.the-variants.{Send, Refused}
+use Rattle.exchange.specs.declared.plan.Plan.{Plan}
+use Rattle.exchange.specs.declared.calls.Reply.{Reply}
+use Rattle.exchange.specs.declared.calls.Reply.the-variants as reply
+use Rattle.exchange.specs.declared.xfer.XferReply.the-variants as xfer
+use Rattle.exchange.specs.declared.xfer.XferStep.{XferStep}
+
+-- a transfer of a stream waits for set-up
+pub record Pending (g : Stage) (stream : ℕ) : Type 0 where
+  pub asks : asking g ≡ true
+  pub call : callAt g ≡ Xfer stream
+
+-- how a feed then ends: with the next query of set-up, and the transfer still waits; or with 1, 2, 5 or 7, and the exchange is closed
+pub data Unrun (stream : ℕ) : Reply → Stage → Type 0 where
+  on : {n : ℕ} {g : Stage} → Pending g stream → Unrun stream (reply.Send n) g
+  over : (r : Refusal) → One (saysRefusal r .number) (1 ∷ 2 ∷ 5 ∷ 7 ∷ []) → Unrun stream (reply.Refused r) Idle
+
+own-unrun : {c : Core} {look stream : ℕ} {p : Plan} → Own c look (Xfer stream) p → Unrun stream (replyOf (p .say)) (p .core .stage)
+own-unrun (refuses r o) = over r (elim o [ inl e ↦ inl e | inr f ↦ elim f [ inl e ↦ inr (inl e) | inr z ↦ absurd z ] ])
+
+never : {A : Type 0} {g h : Stage} {stream : ℕ} → Pending g stream → g ≡ h → asking h ≡ false → A
+never q e f = absurd (false≢true (sym f ∙ sym (ap asking e) ∙ q .asks))
+
+module _ (c : Core) (v : Verdict) (look : ℕ) (long : Bool) (stream : ℕ) (e : consistentOf c ≡ true) (l : long ≡ true) (w : isShort v ≡ false) (q : Pending (c .stage) stream) where
+  unrun : {p : Plan} → Answered c v look long p → Unrun stream (replyOf (p .say)) (p .core .stage)
+  unrun (short f) = absurd (false≢true (sym f ∙ l))
+  unrun (idle g) = never q (g e) refl
+  unrun (asks-streams _ g) = on (record { asks = refl; call = sym (ap callAt g) ∙ q .call })
+  unrun (asks-maps _ g _) = on (record { asks = refl; call = sym (ap callAt g) ∙ q .call })
+  unrun (cuts r _ k _ _) = over r (inr (k w))
+  unrun (finishes _ g o) = own-unrun (recall (sym (ap callAt g) ∙ q .call) o)
+  unrun (ends _ g _) = never q g refl
+  unrun (fails _ _ g) = never q g refl
+
+step-unrun : (s : Sound) (p : Plan) (page : List ℕ) (stream : ℕ) → Unrun stream (replyOf (p .say)) (p .core .stage)
+    → Unrun stream (stepOf p s page .reply) (stepOf p s page .sound .core .stage)
+step-unrun s p page stream u = rw (after-core (p .effect) (p .core) s page) u
+
+-- ---- THE THEOREMS. "Checks: Busy (8), set-up, stream range (1), parameters set (2)."
+
+-- a start, or a transfer over a script, sends something only as the first query of set-up, and then waits for it
+module _ (s : Sound) (r : Ring) (stream len budget n m : ℕ) where
+  abbrev pub Asks : XferStep → Type 0
+  Asks x = x .reply ≡ xfer.Send m → Pending (x .sound .core .stage) stream
+
+  pub start-asks : Asks (startOf s r stream len budget n)
+  start-asks = start-by Asks s r stream len budget n (λ _ e. absurd (wrong (cc))) (λ _ _ _ _. record { asks = refl; call = refl }) (λ e. absurd (wrong (cc)))
+
+  pub script-asks : (script : List ℕ) → Asks (xferOf s r stream len budget script n)
+  script-asks script = script-by Asks s r stream len budget n (λ _ e. absurd (wrong (cc))) (λ _ _ _ _. record { asks = refl; call = refl }) script (λ e. absurd (wrong (cc)))
+
+-- it ends at a feed with 1, 2, 5 or 7, and never runs
+pub xfer-after-setup-never-runs : (s : Sound) (f : Feed) (stream : ℕ) → Kept s → Long f → Pending (s .core .stage) stream → Unrun stream (fedOf s f .reply) (fedOf s f .sound .core .stage)
+xfer-after-setup-never-runs s f stream k l q =
+    let long = long-of f l in
+    step-unrun s (planOf s f) (pageOf f) stream (unrun (s .core) (verdictOf s f) _ (longOf f) stream (k .consistent) long (long-verdict s f long) q (fed s f))
+
+-- and 2 is right then: no stream has parameters
+pub pending-unset : (s : Sound) (stream i : ℕ) → Kept s → Pending (s .core .stage) stream → paramsOf s i .known ≡ 0
+pending-unset s stream i k q = k .unset (not-ready (s .core) (s .core .stage) (facts (s .core) (k .consistent)) (q .asks)) i

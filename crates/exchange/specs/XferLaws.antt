@@ -1,0 +1,130 @@
+-- The start of a transfer and a transfer over a script keep the invariant; and under demand 3's premises every check is passed.
+-- Assumes nothing.
+use mathlib.Core.Path.{_≡_, refl, ap}
+use mathlib.Core.Bool.{Bool, true, false, not, _&&_, _||_}
+use mathlib.Core.List.{List, []}
+use Prim.Native.Nat.{ℕ, _≤_, _%_}
+use lib.Dec.{leb, ltb, eqb}
+use lib.ListN.{length}
+use borrow.Author.Tests.{le-leb, ltb-false, eqb-true, eq-eqb, ne-eqb}
+use Rattle.codes.specs.SaysLaws.{guarded-by, passes}
+use Rattle.codes.specs.declared.answers.Refusal.{Refusal}
+use Rattle.turns.specs.Calls.{idleOf, startCall, startedOf}
+use Rattle.turns.specs.Script.{transferOf}
+use Rattle.turns.specs.Consistent as ring
+use Rattle.turns.specs.ConsistentLaws.{both}
+use Rattle.turns.specs.declared.ring.Track.{Track}
+use Rattle.turns.specs.declared.ring.Ring.{Ring}
+use Rattle.exchange.specs.State.{paramsOf}
+use Rattle.exchange.specs.Consistent.{numbersOk, periodOk, paramsOk, consistentOf, streamOk}
+use Rattle.exchange.specs.ConsistentLaws.{both-of, either-of, Paced, period-facts}
+use Rattle.exchange.specs.Plan.{isIdle}
+use Rattle.exchange.specs.PlanLaws.{idle-is}
+use Rattle.exchange.specs.Xfer.{xferBy, setUpPlan, refusedStep, setUpStep, startStep, doneStep, startOf, xferOf}
+use Rattle.exchange.specs.Kept.{Kept, Playable}
+use Rattle.exchange.specs.FineLaws.{ask-fine}
+use Rattle.exchange.specs.KeptLaws.{step-kept}
+use Rattle.exchange.specs.declared.state.Params.{Params}
+use Rattle.exchange.specs.declared.state.Call.the-variants.{Xfer}
+use Rattle.exchange.specs.declared.state.Stage.the-variants.{Idle}
+use Rattle.exchange.specs.declared.state.Sound.{Sound}
+use Rattle.exchange.specs.declared.xfer.XferStep.{XferStep}
+
+-- what holds of each end of the checks holds of what they come to
+xfer-by : {A : Type 0} (P : A → Type 0) (lengths : Bool) (s : Sound) (t : Track) (stream : ℕ) (refuse : Refusal → A) (setUp : A) (go : ℕ → A) →
+    ((x : Refusal) → P (refuse x)) → (consistentOf (s .core) ≡ true → s .core .stage ≡ Idle → s .core .ready ≡ false → P setUp) → P (go (paramsOf s stream .period))
+    → P (xferBy lengths s t stream refuse setUp go)
+xfer-by P lengths s t stream refuse setUp go a b g =
+    guarded-by P _ _ _
+    (λ _. guarded-by P _ _ _
+    (λ ok. guarded-by P _ _ _
+    (λ free. guarded-by P _ _ _
+    (λ _. guarded-by P _ _ _ (λ _. guarded-by P _ _ _ (λ _. g) (λ _. a _)) (λ _. a _))
+    (λ r.
+    let e = both (consistentOf (s .core)) (ring.consistentOf t && streamOk s stream) ok .0 in
+    let i = idle-is (s .core .stage) (both (isIdle (s .core .stage)) (idleOf t) free .0) in
+    b e i r))
+    (λ _. a _))
+    (λ _. a _))
+    (λ _. a _)
+
+-- the same of the start, and of a transfer over a script
+module _ (P : XferStep → Type 0) (s : Sound) (r : Ring) (stream len budget n : ℕ) (a : (x : Refusal) → P (refusedStep s r x))
+    (b : consistentOf (s .core) ≡ true → s .core .stage ≡ Idle → s .core .ready ≡ false → P (setUpStep s r stream)) where
+  pub start-by : P (startStep s r (startedOf r (startCall (r .track) stream len (paramsOf s stream .period) budget))) → P (startOf s r stream len budget n)
+  unfolding startOf
+  start-by = xfer-by P (leb 24 n) s (r .track) stream (refusedStep s r) (setUpStep s r stream) (λ period. startStep s r (startedOf r (startCall (r .track) stream len period budget))) a b
+
+  pub script-by : (script : List ℕ) → P (doneStep s (transferOf 3 r stream len (paramsOf s stream .period) budget script)) → P (xferOf s r stream len budget script n)
+  unfolding xferOf
+  script-by script =
+      xfer-by P (leb 24 n && eqb (length script % 12) 0) s (r .track) stream (refusedStep s r) (setUpStep s r stream) (λ period. doneStep s (transferOf 3 r stream len period budget script)) a b
+
+-- ---- they keep the invariant
+
+module _ (s : Sound) (r : Ring) (stream len budget n : ℕ) (k : Kept s) where
+  set-up-kept : consistentOf (s .core) ≡ true → s .core .stage ≡ Idle → s .core .ready ≡ false → Kept (setUpStep s r stream .sound)
+  set-up-kept e g f = step-kept s (setUpPlan s stream) [] k (record { counts = refl; ready = λ h. h }) (record { consistent = ask-fine (s .core) (Xfer stream) e g f refl; effect = tt })
+
+  pub start-kept : Kept (startOf s r stream len budget n .sound)
+  start-kept = start-by (λ x. Kept (x .sound)) s r stream len budget n (λ _. k) set-up-kept k
+
+  pub xfer-kept : (script : List ℕ) → Kept (xferOf s r stream len budget script n .sound)
+  xfer-kept script = script-by (λ x. Kept (x .sound)) s r stream len budget n (λ _. k) set-up-kept script k
+
+-- ---- a stream with parameters set, in a state that calls left
+
+module _ (s : Sound) (k : Kept s) (stream : ℕ) (known : paramsOf s stream .known ≡ 0 → ⊥) where
+  ready-by : (b : Bool) → s .core .ready ≡ b → s .core .ready ≡ true
+  ready-by true e = e
+  ready-by false e = absurd (known (k .unset e stream))
+
+  -- set-up is done
+  pub set-ready : s .core .ready ≡ true
+  set-ready = ready-by (s .core .ready) refl
+
+  range-by : (b : Bool) → ltb stream (s .core .counts .streams) ≡ b → ltb stream (s .core .counts .streams) ≡ true
+  range-by true e = e
+  range-by false e = absurd (known (k .beyond stream (ltb-false _ _ e)))
+
+  -- the stream is in range
+  pub set-range : ltb stream (s .core .counts .streams) ≡ true
+  set-range = range-by _ refl
+
+  known-by : (p : Params) (a b : Bool) → eqb (p .known) 0 ≡ a → (a || b) ≡ true → (p .known ≡ 0 → ⊥) → b ≡ true
+  known-by p true b z e h = absurd (h (eqb-true _ _ z))
+  known-by p false b z e h = e
+
+  -- "period 0, period above buffer, or buffer not a multiple of period gives 1": of parameters that are set, the period is above 0, within the buffer, and divides it
+  pub period-divides : Paced (paramsOf s stream)
+  period-divides =
+      let p = paramsOf s stream in
+      period-facts p (both (numbersOk p) (periodOk (p .buffer) (p .period)) (known-by p _ (numbersOk p && periodOk (p .buffer) (p .period)) refl (k .fine stream) known) .1)
+
+-- ---- under demand 3's premises every check is passed
+
+-- what calls left passes the start's own test, for every stream
+pub stream-fine : (s : Sound) (stream : ℕ) → Kept s → streamOk s stream ≡ true
+unfolding streamOk
+stream-fine s stream k = either-of (not (s .core .ready && ltb stream (s .core .counts .streams))) (paramsOk (paramsOf s stream)) (k .fine stream)
+
+pub passed-all : {A : Type 0} (lengths : Bool) (s : Sound) (r : Ring) (stream : ℕ) (refuse : Refusal → A) (setUp : A) (go : ℕ → A) → lengths ≡ true → Playable s r stream
+    → go (paramsOf s stream .period) ≡ xferBy lengths s (r .track) stream refuse setUp go
+passed-all lengths s r stream refuse setUp go long o =
+    let k = o .state in
+    let fine = stream-fine s stream k in
+    let ok = both-of (consistentOf (s .core)) (ring.consistentOf (r .track) && streamOk s stream) (k .consistent) (both-of (ring.consistentOf (r .track)) (streamOk s stream) (o .ring) fine) in
+    let free : (isIdle (s .core .stage) && idleOf (r .track)) ≡ true = both-of (isIdle (s .core .stage)) (idleOf (r .track)) (ap isIdle (o .closed)) (both-of (not (r .track .running)) (eqb (r .track .held) 0) (ap not (o .still)) (eq-eqb _ _ (o .empty))) in
+    let known : not (eqb (paramsOf s stream .known) 0) ≡ true = ap not (ne-eqb _ _ (o .set)) in
+    passes _ _ _ long (passes _ _ _ ok (passes _ _ _ free (passes _ _ _ (set-ready s k stream (o .set)) (passes _ _ _ (set-range s k stream (o .set)) (passes _ _ _ known refl)))))
+
+module _ (s : Sound) (r : Ring) (stream len budget n : ℕ) (o : Playable s r stream) (long : 24 ≤ n) where
+  pub start-is : startStep s r (startedOf r (startCall (r .track) stream len (paramsOf s stream .period) budget)) ≡ startOf s r stream len budget n
+  unfolding startOf
+  start-is = passed-all (leb 24 n) s r stream (refusedStep s r) (setUpStep s r stream) (λ period. startStep s r (startedOf r (startCall (r .track) stream len period budget))) (le-leb 24 n long) o
+
+  pub xfer-is : (script : List ℕ) → length script % 12 ≡ 0 → doneStep s (transferOf 3 r stream len (paramsOf s stream .period) budget script) ≡ xferOf s r stream len budget script n
+  unfolding xferOf
+  xfer-is script whole =
+      passed-all (leb 24 n && eqb (length script % 12) 0) s r stream (refusedStep s r) (setUpStep s r stream) (λ period. doneStep s (transferOf 3 r stream len period budget script))
+      (both-of (leb 24 n) (eqb (length script % 12) 0) (le-leb 24 n long) (eq-eqb _ _ whole)) o

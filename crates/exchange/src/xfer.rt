@@ -1,0 +1,191 @@
+// The start of a transfer, and a transfer over a whole script.
+ghost use mathlib.Core.Path.{_≡_};
+ghost use Prim.Native.Nat.{_≤_};
+ghost use lib.ListN.{length};
+ghost use Rattle.exchange.specs.Exchange.{messageAfter};
+ghost use Rattle.exchange.specs.Xfer.{xferBy, setUpPlan, refusedStep, setUpStep, startStep, doneStep, startOf, xferOf, xferMessage};
+ghost use Rattle.exchange.specs.StepLaws.{restBy};
+ghost use Rattle.exchange.specs.declared.xfer.Gate.the-variants.{Shut, SetUp, Open};
+use crate::calls::MESSAGE;
+use crate::calls::put;
+use crate::consistency::both;
+use crate::consistency::consistent;
+use crate::consistency::stream_ok;
+use crate::decide::ask_jacks;
+use crate::decide::is_idle_stage;
+use crate::effect::params_of;
+use crate::state::Call;
+use crate::state::Core;
+use crate::state::Params;
+use crate::state::Sound;
+use codes::Refusal;
+use records::Query;
+use turns::Done;
+use turns::Reading;
+use turns::Ring;
+use turns::Said;
+use turns::Track;
+use turns::Turned;
+use turns::is_consistent;
+use turns::is_idle;
+use turns::start;
+use turns::transfer;
+
+// A request of so many bytes to send, or what the start or the last turn says.
+pub enum XferReply {
+    Send(usize),
+    Says(Said),
+}
+
+pub struct XferStep {
+    pub sound: Sound,
+    pub ring: Ring,
+    pub reply: XferReply,
+    pub turns: u64,
+}
+
+// What the checks of a transfer come to: a refusal, set-up first, or a transfer by periods.
+pub enum Gate {
+    Shut(Refusal),
+    SetUp,
+    Open(u32),
+}
+
+// Set-up, then the stream's range, then its parameters.
+fn checked_by(c: Core, stream: u32, p: Params) -> Gate
+    ensures { λ r. ⌜ r ≡ restBy c stream p ⌝ }
+{
+    if !c.ready {
+        return Gate::SetUp;
+    }
+    if c.counts.streams <= stream {
+        return Gate::Shut(Refusal::InvalidParam);
+    }
+    if p.known == 0 {
+        return Gate::Shut(Refusal::IoError);
+    }
+    Gate::Open(p.period)
+}
+
+// Lengths, then consistency, then Busy, then the rest.
+fn checked(lengths: bool, s: Sound, t: Track, stream: u32) -> Gate
+    ensures { λ r. ⌜ r ≡ xferBy lengths s t stream Shut SetUp Open ⌝ }
+{
+    let core = s.core;
+    let stage = core.stage;
+    let params = params_of(s, stream);
+    let own = stream_ok(core, stream, params);
+    let sound = both(consistent(core), both(is_consistent(t), own));
+    let free = both(is_idle_stage(stage), is_idle(t));
+    if !lengths {
+        return Gate::Shut(Refusal::BadLength);
+    }
+    if !sound {
+        return Gate::Shut(Refusal::InvalidParam);
+    }
+    if !free {
+        return Gate::Shut(Refusal::Busy);
+    }
+    checked_by(core, stream, params)
+}
+
+fn refused(s: Sound, ring: Ring, refusal: Refusal) -> XferStep
+    ensures { λ r. ⌜ r ≡ refusedStep s ring refusal ⌝ }
+{
+    XferStep {
+        sound: s,
+        ring,
+        reply: XferReply::Says(Said::Refused(refusal)),
+        turns: 0,
+    }
+}
+
+// The transfer waits for set-up, and its first query goes out.
+fn set_up(s: Sound, ring: Ring, stream: u32, message: &mut [u8]) -> XferStep
+    requires { ⌜ 24 ≤ length (now message) ⌝ }
+    ensures { λ r. ⌜ (r ≡ setUpStep s ring stream) × (now (message .exit) ≡ messageAfter (setUpPlan s stream .say) (now (message .entry))) ⌝ }
+{
+    let plan = ask_jacks(s.core, Call::Xfer { stream });
+    let core = plan.core;
+    let say = plan.say;
+    put(say, message);
+    XferStep {
+        sound: Sound { core, ..s },
+        ring,
+        reply: XferReply::Send(Query::SIZE),
+        turns: 0,
+    }
+}
+
+fn started(s: Sound, ring: Ring, t: Turned) -> XferStep
+    ensures { λ r. ⌜ r ≡ startStep s ring t ⌝ }
+{
+    let after = t.ring;
+    let said = t.said;
+    XferStep {
+        sound: s,
+        ring: after,
+        reply: XferReply::Says(said),
+        turns: 0,
+    }
+}
+
+fn ended(s: Sound, d: Done) -> XferStep
+    ensures { λ r. ⌜ r ≡ doneStep s d ⌝ }
+{
+    let ring = d.ring;
+    let said = d.said;
+    XferStep {
+        sound: s,
+        ring,
+        reply: XferReply::Says(said),
+        turns: d.turns,
+    }
+}
+
+// The start of a transfer of some frames: it goes on, is refused, or begins set-up.
+pub fn pcm_xfer_start(
+    s: Sound,
+    ring: Ring,
+    stream: u32,
+    frames: &[u8],
+    budget: u64,
+    message: &mut [u8],
+) -> XferStep
+    ensures { λ r. ⌜ (r ≡ startOf s ring stream (length (now (frames .entry))) budget (length (now (message .entry)))) × (now (message .exit) ≡ xferMessage (startOf s ring stream (length (now (frames .entry))) budget (length (now (message .entry))) .reply) s stream (now (message .entry))) ⌝ }
+{
+    let outcome = checked(MESSAGE <= message.len(), s, ring.track, stream);
+    match outcome {
+        Gate::Shut(refusal) => refused(s, ring, refusal),
+        Gate::SetUp => set_up(s, ring, stream, message),
+        Gate::Open(period) => {
+            let t = start(ring, stream, frames, period as usize, budget);
+            started(s, ring, t)
+        }
+    }
+}
+
+// A transfer over a script of readings, quiet past its end.
+pub fn pcm_xfer(
+    s: Sound,
+    ring: Ring,
+    stream: u32,
+    frames: &[u8],
+    budget: u64,
+    script: &[u8],
+    message: &mut [u8],
+) -> XferStep
+    ensures { λ r. ⌜ (r ≡ xferOf s ring stream (length (now (frames .entry))) budget (now (script .entry)) (length (now (message .entry)))) × (now (message .exit) ≡ xferMessage (xferOf s ring stream (length (now (frames .entry))) budget (now (script .entry)) (length (now (message .entry))) .reply) s stream (now (message .entry))) ⌝ }
+{
+    let whole = script.len() % Reading::SIZE == 0;
+    let lengths = both(MESSAGE <= message.len(), whole);
+    let outcome = checked(lengths, s, ring.track, stream);
+    match outcome {
+        Gate::Shut(refusal) => refused(s, ring, refusal),
+        Gate::SetUp => set_up(s, ring, stream, message),
+        Gate::Open(period) => {
+            let d = transfer(ring, stream, frames, period as usize, budget, script);
+            ended(s, d)
+        }
+    }
+}
