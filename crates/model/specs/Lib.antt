@@ -1,0 +1,9 @@
+pub mod Device
+pub mod Control
+pub mod Transfer
+pub mod DeviceLaws
+pub mod PageLaws
+pub mod ControlLaws
+pub mod TransferLaws
+pub mod ModelLaws
+pub mod KeepLaws

@@ -1,0 +1,127 @@
+// The model device by value.
+ghost use mathlib.Core.Bool.{_&&_};
+ghost use mathlib.Core.Path.{_≡_};
+ghost use lib.Dec.{ltb};
+ghost use Rattle.model.specs.Device.{newDevice, withinOf, saysHeld, paramsSays, saysCount, playedSays};
+use records::ChannelMap;
+use records::JackInfo;
+use records::PcmInfo;
+use records::SetParameters;
+
+// How many records each table has.
+pub struct Counts {
+    pub jacks: u32,
+    pub streams: u32,
+    pub maps: u32,
+}
+
+// The parameters that a stream was set to, all 24 bytes as received; `known` is 0 where it never was.
+pub struct Held {
+    pub known: u8,
+    pub set: SetParameters,
+}
+
+pub struct Device {
+    pub counts: Counts,
+    pub jacks: [JackInfo; 170],
+    pub pcms: [PcmInfo; 127],
+    pub maps: [ChannelMap; 170],
+    pub params: [Held; 127],
+    // Payload bytes played by each stream, modulo 2^64.
+    pub played: [u64; 127],
+}
+
+// What a stream holds.
+pub enum HeldRead {
+    Is(SetParameters),
+    Nothing,
+    InvalidParam,
+}
+
+pub enum Count {
+    Is(u64),
+    InvalidParam,
+}
+
+// A device with larger tables than a page holds is refused everywhere.
+pub(crate) fn within(n: Counts) -> bool
+    ensures { λ r. ⌜ r ≡ withinOf n ⌝ }
+{
+    if 170 < n.jacks {
+        return false;
+    }
+    if 127 < n.streams {
+        return false;
+    }
+    n.maps <= 170
+}
+
+fn stream_ok(n: Counts, stream: u32) -> bool
+    ensures { λ r. ⌜ r ≡ (withinOf n && ltb stream (n .streams)) ⌝ }
+{
+    if within(n) { stream < n.streams } else { false }
+}
+
+impl Device {
+    // Of each table the first records count; no stream has parameters, and nothing was played.
+    pub fn new(
+        counts: Counts,
+        jacks: [JackInfo; 170],
+        pcms: [PcmInfo; 127],
+        maps: [ChannelMap; 170],
+    ) -> Device
+        ensures { λ r. ⌜ r ≡ newDevice counts jacks pcms maps ⌝ }
+    {
+        let set = SetParameters {
+            code: 0,
+            stream: 0,
+            buffer: 0,
+            period: 0,
+            features: 0,
+            channels: 0,
+            format: 0,
+            rate: 0,
+            zero: 0,
+        };
+        let nothing = Held { known: 0, set };
+        let params = [nothing; 127];
+        let played = [0u64; 127];
+        Device {
+            counts,
+            jacks,
+            pcms,
+            maps,
+            params,
+            played,
+        }
+    }
+
+    // The parameters of a stream.
+    pub fn params(self, stream: u32) -> HeldRead
+        ensures { λ r. ⌜ saysHeld r ≡ paramsSays self stream ⌝ }
+    {
+        let counts = self.counts;
+        if stream_ok(counts, stream) {
+            let i = stream as usize;
+            let held = self.params[i];
+            if held.known == 0 {
+                return HeldRead::Nothing;
+            }
+            let set = held.set;
+            return HeldRead::Is(set);
+        }
+        HeldRead::InvalidParam
+    }
+
+    // How many bytes a stream has played, modulo 2^64.
+    pub fn played(self, stream: u32) -> Count
+        ensures { λ r. ⌜ saysCount r ≡ playedSays self stream ⌝ }
+    {
+        let counts = self.counts;
+        if stream_ok(counts, stream) {
+            let i = stream as usize;
+            return Count::Is(self.played[i]);
+        }
+        Count::InvalidParam
+    }
+}

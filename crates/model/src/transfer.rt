@@ -1,0 +1,89 @@
+// Transfers.
+ghost use mathlib.Core.Bool.{_&&_};
+ghost use mathlib.Core.Path.{_≡_};
+ghost use Prim.Native.Nat.{_≤_};
+ghost use lib.Dec.{leb, ltb};
+ghost use lib.ListN.{length};
+ghost use Rattle.model.specs.Transfer.{streamOf, payloadOf, answered, statusIn, statusBy, deviceAfter, transferCall, answerAfter};
+use crate::device::Counts;
+use crate::device::Device;
+use crate::device::within;
+use crate::said::Control;
+use codes::Refusal;
+use records::Transfer;
+use records::TransferStatus;
+use std::num::wrapping_add_u64;
+
+pub struct Transferred {
+    pub device: Device,
+    pub said: Control,
+}
+
+// A request that names a stream of the device.
+fn plays(n: Counts, request: &[u8]) -> bool
+    ensures { λ r. ⌜ r ≡ (leb 4 (length (now (request .entry))) && ltb (streamOf (now (request .entry))) (n .streams)) ⌝ }
+{
+    if request.len() < Transfer::SIZE {
+        return false;
+    }
+    layout::get_u32(request, 0) < n.streams
+}
+
+// The status, with no latency.
+fn tell(d: Device, status: u32, answer: &mut [u8]) -> Transferred
+    requires { ⌜ 8 ≤ length (now answer) ⌝ }
+    ensures { λ r. ⌜ (r ≡ answered d) × (now (answer .exit) ≡ statusIn status (now (answer .entry))) ⌝ }
+{
+    let t = TransferStatus { status, latency: 0 };
+    t.write(answer);
+    Transferred {
+        device: d,
+        said: Control::Answer(TransferStatus::SIZE),
+    }
+}
+
+fn done(d: Device, request: &[u8], answer: &mut [u8]) -> Transferred
+    requires { ⌜ (8 ≤ length (now answer)) × (d .counts .streams ≤ 127) ⌝ }
+    ensures { λ r. ⌜ (r ≡ answered (deviceAfter d (now (request .entry)))) × (now (answer .exit) ≡ statusIn (statusBy d (now (request .entry))) (now (answer .entry))) ⌝ }
+{
+    let counts = d.counts;
+    if plays(counts, request) {
+        let i = layout::get_u32(request, 0) as usize;
+        let n = request.len() - Transfer::SIZE;
+        let mut after = d;
+        after.played[i] = wrapping_add_u64(d.played[i], n as u64);
+        return tell(after, TransferStatus::OK, answer);
+    }
+    tell(d, TransferStatus::BAD_MSG, answer)
+}
+
+// One transfer, one status. The stream's count grows by the payload's length.
+pub fn transfer(d: Device, request: &[u8], answer: &mut [u8]) -> Transferred
+    ensures { λ r. ⌜ (r ≡ transferCall d (now (request .entry)) (length (now (answer .entry)))) × (now (answer .exit) ≡ answerAfter d (now (request .entry)) (now (answer .entry))) ⌝ }
+{
+    if answer.len() < TransferStatus::SIZE {
+        return Transferred {
+            device: d,
+            said: Control::Refused(Refusal::BadLength),
+        };
+    }
+    let counts = d.counts;
+    if within(counts) {
+        return done(d, request, answer);
+    }
+    Transferred {
+        device: d,
+        said: Control::Refused(Refusal::InvalidParam),
+    }
+}
+
+// What the request plays: a part of the request itself.
+pub fn payload<'a>(d: Device, request: &'a [u8]) -> &'a [u8]
+    ensures { λ r. ⌜ now r ≡ payloadOf d (now (request .entry)) ⌝ }
+{
+    let counts = d.counts;
+    if plays(counts, request) {
+        return &request[Transfer::SIZE..];
+    }
+    &request[..0]
+}
