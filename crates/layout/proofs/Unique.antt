@@ -7,6 +7,10 @@ use Rattle.layout.proofs.get_u8.Reads as get-u8
 use Rattle.layout.proofs.get_u16.Reads as get-u16
 use Rattle.layout.proofs.get_u32.Reads as get-u32
 use Rattle.layout.proofs.get_u64.Reads as get-u64
+use Rattle.layout.proofs.u32_of.Reads as u32-of
+use Rattle.layout.proofs.u64_of.Reads as u64-of
+use Rattle.layout.proofs.u32_bytes.Reads as u32-bytes
+use Rattle.layout.proofs.u64_bytes.Reads as u64-bytes
 use Rattle.layout.proofs.put_u8.Reads as put-u8
 use Rattle.layout.proofs.put_u16.Reads as put-u16
 use Rattle.layout.proofs.put_u32.Reads as put-u32
@@ -23,6 +27,18 @@ get-u32-one κs a r₁ r₂ e₁ e₂ p q = p ∙ sym q
 
 pub get-u64-one : (κs : _) (a : _) (r₁ r₂ : _) (e₁ e₂ : _) → get-u64.Post κs a r₁ e₁ → get-u64.Post κs a r₂ e₂ → r₁ ≡ r₂
 get-u64-one κs a r₁ r₂ e₁ e₂ p q = p ∙ sym q
+
+pub u32-of-one : (κs : _) (a : _) (r₁ r₂ : _) (e₁ e₂ : _) → u32-of.Post κs a r₁ e₁ → u32-of.Post κs a r₂ e₂ → r₁ ≡ r₂
+u32-of-one κs a r₁ r₂ e₁ e₂ p q = p ∙ sym q
+
+pub u64-of-one : (κs : _) (a : _) (r₁ r₂ : _) (e₁ e₂ : _) → u64-of.Post κs a r₁ e₁ → u64-of.Post κs a r₂ e₂ → r₁ ≡ r₂
+u64-of-one κs a r₁ r₂ e₁ e₂ p q = p ∙ sym q
+
+pub u32-bytes-one : (κs : _) (a : _) (r₁ r₂ : _) (e₁ e₂ : _) → u32-bytes.Post κs a r₁ e₁ → u32-bytes.Post κs a r₂ e₂ → r₁ ≡ r₂
+u32-bytes-one κs a r₁ r₂ e₁ e₂ p q = p ∙ sym q
+
+pub u64-bytes-one : (κs : _) (a : _) (r₁ r₂ : _) (e₁ e₂ : _) → u64-bytes.Post κs a r₁ e₁ → u64-bytes.Post κs a r₂ e₂ → r₁ ≡ r₂
+u64-bytes-one κs a r₁ r₂ e₁ e₂ p q = p ∙ sym q
 
 pub put-u8-one : (κs : _) (a : _) (r₁ r₂ : _) (e₁ e₂ : _) → put-u8.Post κs a r₁ e₁ → put-u8.Post κs a r₂ e₂ → (r₁ ≡ r₂) × (now (e₁ .0) ≡ now (e₂ .0))
 put-u8-one κs a r₁ r₂ e₁ e₂ p q = (refl, p ∙ sym q)

@@ -141,6 +141,11 @@ pub numAt-out : (o w : ℕ) (s : List ℕ) → length s ≤ o → numAt o w s �
 unfolding numAt
 numAt-out o w s h = bytesAt-zero o w s h
 
+-- a number among bytes that were taken apart
+pub numAt-own : (o n m : ℕ) (s : List ℕ) → n ≤ m → numAt 0 n (bytesAt o m s) ≡ numAt o n s
+unfolding numAt
+numAt-own o n m s h = ap un (bytesAt-own 0 o n m s (omega arith) ∙ ap (λ (k : ℕ). bytesAt k n s) (add-zero o))
+
 pub numAt-one : (o : ℕ) (s : List ℕ) → numAt o 1 s ≡ getD s o 0
 unfolding numAt un bytesAt
 numAt-one o s = zero-add (getD s o 0)
