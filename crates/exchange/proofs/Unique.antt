@@ -13,6 +13,10 @@ use Rattle.exchange.proofs.consistency.params_ok.Reads as params-ok
 use Rattle.exchange.proofs.consistency.stream_ok.Reads as stream-ok
 use Rattle.exchange.proofs.decide.begin.Reads as begin
 use Rattle.exchange.proofs.decide.answer.Reads as answer
+use Rattle.exchange.proofs.decide.ask_jacks.Reads as ask-jacks
+use Rattle.exchange.proofs.effect.verdict_by.Reads as verdict-by
+use Rattle.exchange.proofs.xfer.xfer_gate.Reads as xfer-gate
+use Rattle.exchange.proofs.calls.tell.Reads as tell
 use Rattle.exchange.proofs.calls.jack_remap.Reads as jack-remap
 use Rattle.exchange.proofs.calls.pcm_set_params.Reads as pcm-set-params
 use Rattle.exchange.proofs.calls.pcm_prepare.Reads as pcm-prepare
@@ -56,6 +60,18 @@ begin-one κs a r₁ r₂ e₁ e₂ p q = same p q
 
 pub answer-one : (κs : _) (a : _) (r₁ r₂ : _) (e₁ e₂ : _) → answer.Post κs a r₁ e₁ → answer.Post κs a r₂ e₂ → r₁ ≡ r₂
 answer-one κs a r₁ r₂ e₁ e₂ p q = same p q
+
+pub ask-jacks-one : (κs : _) (a : _) (r₁ r₂ : _) (e₁ e₂ : _) → ask-jacks.Post κs a r₁ e₁ → ask-jacks.Post κs a r₂ e₂ → r₁ ≡ r₂
+ask-jacks-one κs a r₁ r₂ e₁ e₂ p q = same p q
+
+pub verdict-by-one : (κs : _) (a : _) (r₁ r₂ : _) (e₁ e₂ : _) → verdict-by.Post κs a r₁ e₁ → verdict-by.Post κs a r₂ e₂ → r₁ ≡ r₂
+verdict-by-one κs a r₁ r₂ e₁ e₂ p q = same p q
+
+pub xfer-gate-one : (κs : _) (a : _) (r₁ r₂ : _) (e₁ e₂ : _) → xfer-gate.Post κs a r₁ e₁ → xfer-gate.Post κs a r₂ e₂ → r₁ ≡ r₂
+xfer-gate-one κs a r₁ r₂ e₁ e₂ p q = same p q
+
+pub tell-one : (κs : _) (a : _) (r₁ r₂ : _) (e₁ e₂ : _) → tell.Post κs a r₁ e₁ → tell.Post κs a r₂ e₂ → (r₁ ≡ r₂) × (now (e₁ .1 .0) ≡ now (e₂ .1 .0))
+tell-one κs a r₁ r₂ e₁ e₂ p q = (same (p .0) (q .0), same (p .1) (q .1))
 
 pub jack-remap-one : (κs : _) (a : _) (r₁ r₂ : _) (e₁ e₂ : _) → jack-remap.Post κs a r₁ e₁ → jack-remap.Post κs a r₂ e₂ → (r₁ ≡ r₂) × (now (e₁ .1 .1 .1 .1 .1 .0) ≡ now (e₂ .1 .1 .1 .1 .1 .0))
 jack-remap-one κs a r₁ r₂ e₁ e₂ p q = (same (p .0) (q .0), same (p .1) (q .1))

@@ -4,7 +4,6 @@ use mathlib.Core.Bool.{Bool, true, false, not, _&&_, _||_}
 use Prim.Native.Nat.{ℕ, _%_}
 use lib.Dec.{leb, ltb, eqb}
 use Rattle.codes.specs.Says.{pick}
-use Rattle.exchange.specs.State.{paramsOf}
 use Rattle.exchange.specs.declared.state.Counts.{Counts}
 use Rattle.exchange.specs.declared.state.Params.{Params}
 use Rattle.exchange.specs.declared.state.Call.{Call}
@@ -12,7 +11,6 @@ use Rattle.exchange.specs.declared.state.Call.the-variants.{SetParams, C
 use Rattle.exchange.specs.declared.state.Stage.{Stage}
 use Rattle.exchange.specs.declared.state.Stage.the-variants.{Idle, JacksAsked, StreamsAsked, MapsAsked, Sent}
 use Rattle.exchange.specs.declared.state.Core.{Core}
-use Rattle.exchange.specs.declared.state.Sound.{Sound}
 
 -- "period 0, period above buffer, or buffer not a multiple of period gives 1"
 abbrev pub periodOk : ℕ → ℕ → Bool
@@ -82,5 +80,5 @@ consistentOf c =
 abbrev pub paramsOk : Params → Bool
 paramsOk p = eqb (p .known) 0 || (numbersOk p && periodOk (p .buffer) (p .period))
 
-unfoldable pub streamOk : Sound → ℕ → Bool
-streamOk s stream = not (s .core .ready && ltb stream (s .core .counts .streams)) || paramsOk (paramsOf s stream)
+unfoldable pub streamOk : Core → Params → ℕ → Bool
+streamOk c p stream = not (c .ready && ltb stream (c .counts .streams)) || paramsOk p

@@ -60,6 +60,13 @@ replyOf (Send q) = reply.Send (length (requestBytes q))
 replyOf (Done v) = reply.Done v
 replyOf (Refused r) = reply.Refused r
 
+-- the same told in a message of any length: a short one is refused, and nothing is written
+abbrev pub tellOf : Say → ℕ → Reply
+tellOf a n = pick (leb 24 n) (replyOf a) (reply.Refused BadLength)
+
+abbrev pub toldIn : Say → List ℕ → List ℕ
+toldIn a l = pick (leb 24 (length l)) (messageAfter a l) l
+
 -- ---- "ascending ids with direction 0, or 1. Other directions are in neither list."
 
 abbrev pub idsFrom : ℕ → ℕ → List PcmInfo → List ℕ

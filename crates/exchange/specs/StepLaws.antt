@@ -19,7 +19,6 @@ use Rattle.turns.specs.Script.{transferOf}
 use Rattle.turns.specs.declared.ring.Track.{Track}
 use Rattle.turns.specs.declared.ring.Ring.{Ring}
 use Rattle.exchange.specs.State.{paramsOf}
-use Rattle.exchange.specs.Consistent.{paramsOk, streamOk}
 use Rattle.exchange.specs.Exchange.{messageAfter, stepOf}
 use Rattle.exchange.specs.Xfer.{xferBy, refusedStep, setUpStep, startStep, doneStep, startOf, xferOf, xferMessage}
 use Rattle.exchange.specs.declared.state.Core.{Core}
@@ -42,10 +41,6 @@ pub moved : {p : Plan} (q : Plan) (s : Sound) (page l : List ℕ) {n : List ℕ}
 moved q s page l e h = (h .0 ∙ ap (λ (p : Plan). stepOf p s page) e, h .1 ∙ ap (λ (p : Plan). messageAfter (p .say) l) e)
 
 -- ---- the checks of a transfer
-
-pub stream-test : (s : Sound) (stream : ℕ) (p : Params) → p ≡ paramsOf s stream → (not (s .core .ready && ltb stream (s .core .counts .streams)) || paramsOk p) ≡ streamOk s stream
-unfolding streamOk
-stream-test s stream p e = ap (λ (q : Params). not (s .core .ready && ltb stream (s .core .counts .streams)) || paramsOk q) e
 
 -- what is left of the checks once state and ring are at rest
 abbrev pub restBy : Core → ℕ → Params → Gate

@@ -23,6 +23,8 @@ use Rattle.exchange.specs.Plan.{isIdle, queryOf, sendOf, soundAfter}
 use Rattle.exchange.specs.Exchange.{requestBytes, messageAfter}
 use Rattle.exchange.specs.declared.state.Call.the-variants.{Xfer}
 use Rattle.exchange.specs.declared.state.Stage.the-variants.{JacksAsked}
+use Rattle.exchange.specs.declared.state.Core.{Core}
+use Rattle.exchange.specs.declared.state.Params.{Params}
 use Rattle.exchange.specs.declared.state.Sound.{Sound}
 use Rattle.exchange.specs.declared.plan.Effect.the-variants.{Nothing}
 use Rattle.exchange.specs.declared.plan.Plan.{Plan}
@@ -30,20 +32,24 @@ use Rattle.exchange.specs.declared.xfer.XferReply.{XferReply}
 use Rattle.exchange.specs.declared.xfer.XferReply.the-variants.{Send, Says}
 use Rattle.exchange.specs.declared.xfer.XferStep.{XferStep}
 
--- THE CHECKS, in their order, over what is done at each end: the lengths, the consistency of state, ring and stream, Busy, set-up, range, parameters
-abbrev pub xferBy : {A : Type 0} → Bool → Sound → Track → ℕ → (Refusal → A) → A → (ℕ → A) → A
-xferBy lengths s t stream refuse setUp go =
+-- THE CHECKS, in their order, over what is done at each end: the lengths, the consistency of state, ring and stream, Busy, set-up, range, parameters.
+-- They look at the core and at the stream's own parameters alone
+abbrev pub gateBy : {A : Type 0} → Bool → Core → Params → Track → ℕ → (Refusal → A) → A → (ℕ → A) → A
+gateBy lengths c p t stream refuse setUp go =
     guard lengths
-    (guard (consistentOf (s .core) && (ring.consistentOf t && streamOk s stream))
-    (guard (isIdle (s .core .stage) && idleOf t)
-    (guard (s .core .ready)
-    (guard (ltb stream (s .core .counts .streams))
-    (guard (not (eqb (paramsOf s stream .known) 0)) (go (paramsOf s stream .period)) (refuse IoError))
+    (guard (consistentOf c && (ring.consistentOf t && streamOk c p stream))
+    (guard (isIdle (c .stage) && idleOf t)
+    (guard (c .ready)
+    (guard (ltb stream (c .counts .streams))
+    (guard (not (eqb (p .known) 0)) (go (p .period)) (refuse IoError))
     (refuse InvalidParam))
     setUp)
     (refuse Busy))
     (refuse InvalidParam))
     (refuse BadLength)
+
+abbrev pub xferBy : {A : Type 0} → Bool → Sound → Track → ℕ → (Refusal → A) → A → (ℕ → A) → A
+xferBy lengths s t stream refuse setUp go = gateBy lengths (s .core) (paramsOf s stream) t stream refuse setUp go
 
 -- the state waits for the answer to the first query of set-up
 abbrev pub setUpPlan : Sound → ℕ → Plan

@@ -41,7 +41,7 @@ xfer-by P lengths s t stream refuse setUp go a b g =
     (λ free. guarded-by P _ _ _
     (λ _. guarded-by P _ _ _ (λ _. guarded-by P _ _ _ (λ _. g) (λ _. a _)) (λ _. a _))
     (λ r.
-    let e = both (consistentOf (s .core)) (ring.consistentOf t && streamOk s stream) ok .0 in
+    let e = both (consistentOf (s .core)) (ring.consistentOf t && streamOk (s .core) (paramsOf s stream) stream) ok .0 in
     let i = idle-is (s .core .stage) (both (isIdle (s .core .stage)) (idleOf t) free .0) in
     b e i r))
     (λ _. a _))
@@ -104,7 +104,7 @@ module _ (s : Sound) (k : Kept s) (stream : ℕ) (known : paramsOf s stream .kno
 -- ---- under demand 3's premises every check is passed
 
 -- what calls left passes the start's own test, for every stream
-pub stream-fine : (s : Sound) (stream : ℕ) → Kept s → streamOk s stream ≡ true
+pub stream-fine : (s : Sound) (stream : ℕ) → Kept s → streamOk (s .core) (paramsOf s stream) stream ≡ true
 unfolding streamOk
 stream-fine s stream k = either-of (not (s .core .ready && ltb stream (s .core .counts .streams))) (paramsOk (paramsOf s stream)) (k .fine stream)
 
@@ -113,7 +113,7 @@ pub passed-all : {A : Type 0} (lengths : Bool) (s : Sound) (r : Ring) (stream : 
 passed-all lengths s r stream refuse setUp go long o =
     let k = o .state in
     let fine = stream-fine s stream k in
-    let ok = both-of (consistentOf (s .core)) (ring.consistentOf (r .track) && streamOk s stream) (k .consistent) (both-of (ring.consistentOf (r .track)) (streamOk s stream) (o .ring) fine) in
+    let ok = both-of (consistentOf (s .core)) (ring.consistentOf (r .track) && streamOk (s .core) (paramsOf s stream) stream) (k .consistent) (both-of (ring.consistentOf (r .track)) (streamOk (s .core) (paramsOf s stream) stream) (o .ring) fine) in
     let free : (isIdle (s .core .stage) && idleOf (r .track)) ≡ true = both-of (isIdle (s .core .stage)) (idleOf (r .track)) (ap isIdle (o .closed)) (both-of (not (r .track .running)) (eqb (r .track .held) 0) (ap not (o .still)) (eq-eqb _ _ (o .empty))) in
     let known : not (eqb (paramsOf s stream .known) 0) ≡ true = ap not (ne-eqb _ _ (o .set)) in
     passes _ _ _ long (passes _ _ _ ok (passes _ _ _ free (passes _ _ _ (set-ready s k stream (o .set)) (passes _ _ _ (set-range s k stream (o .set)) (passes _ _ _ known refl)))))

@@ -5,7 +5,7 @@ ghost use Prim.Native.Nat.{_≤_};
 ghost use lib.ListN.{length, drop};
 ghost use Rattle.codes.specs.declared.answers.Refusal.the-variants.{BadLength};
 ghost use Rattle.exchange.specs.Plan.{keepOf};
-ghost use Rattle.exchange.specs.Exchange.{requestBytes, messageAfter, replyOf, stepOf, callOf, feedOf, failOf};
+ghost use Rattle.exchange.specs.Exchange.{requestBytes, messageAfter, replyOf, tellOf, toldIn, stepOf, callOf, feedOf, failOf};
 ghost use Rattle.exchange.specs.Asked.{askedParams};
 ghost use Rattle.exchange.specs.declared.state.Kind.the-variants.{Prepare, Release, Start, Stop};
 ghost use Rattle.exchange.specs.declared.state.Field.the-variants.{Rates, Formats, Channels, Features};
@@ -94,6 +94,17 @@ pub(crate) fn put(say: Say, message: &mut [u8]) -> Reply
         Say::Done(v) => Reply::Done(v),
         Say::Refused(r) => Reply::Refused(r),
     }
+}
+
+// What is said, with a lent message: a request's own bytes are written, and a result writes none. A
+// short message is refused.
+pub fn tell(say: Say, message: &mut [u8]) -> Reply
+    ensures { λ r. ⌜ (r ≡ tellOf say (length (now (message .entry)))) × (now (message .exit) ≡ toldIn say (now (message .entry))) ⌝ }
+{
+    if message.len() < MESSAGE {
+        return Reply::Refused(Refusal::BadLength);
+    }
+    put(say, message)
 }
 
 // What a plan comes to, with the page at hand.

@@ -2,10 +2,10 @@
 //
 // Tests are put together as values, so that what uses them has no branch.
 ghost use mathlib.Core.Path.{_≡_};
-ghost use mathlib.Core.Bool.{not, _&&_, _||_};
+ghost use mathlib.Core.Bool.{_&&_, _||_};
 ghost use lib.Dec.{ltb};
 ghost use Rattle.codes.specs.Says.{pick};
-ghost use Rattle.exchange.specs.Consistent.{periodOk, numbersOk, callOk, sentOk, stageOk, behind, exactly, atMost, tablesOk, same, consistentOf, paramsOk};
+ghost use Rattle.exchange.specs.Consistent.{periodOk, numbersOk, callOk, sentOk, stageOk, behind, exactly, atMost, tablesOk, same, consistentOf, paramsOk, streamOk};
 use crate::state::Call;
 use crate::state::Core;
 use crate::state::Counts;
@@ -174,7 +174,7 @@ pub fn params_ok(p: Params) -> bool
 
 // The test that the start of a transfer makes besides, of its own stream's parameters.
 pub fn stream_ok(c: Core, stream: u32, p: Params) -> bool
-    ensures { λ r. ⌜ r ≡ (not (c .ready && ltb stream (c .counts .streams)) || paramsOk p) ⌝ }
+    ensures { λ r. ⌜ r ≡ streamOk c p stream ⌝ }
 {
     let looked = both(c.ready, stream < c.counts.streams);
     either(!looked, params_ok(p))

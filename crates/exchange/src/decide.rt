@@ -266,7 +266,7 @@ pub(crate) fn is_idle_stage(g: Stage) -> bool
 }
 
 // The first query of set-up.
-pub(crate) fn ask_jacks(c: Core, call: Call) -> Plan
+pub fn ask_jacks(c: Core, call: Call) -> Plan
     ensures { λ r. ⌜ r ≡ sendOf c (JacksAsked call) (queryOf 0x0001 (c .counts .jacks) 24) done.Nothing ⌝ }
 {
     let q = query(JackInfo::CODE, c.counts.jacks, JackInfo::SIZE as u32);

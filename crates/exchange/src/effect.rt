@@ -148,7 +148,7 @@ pub(crate) fn pending_look(stage: Stage, s: Sound) -> u64
 }
 
 // What a page says to what was asked. A command's answer has a status and nothing more.
-pub(crate) fn verdict_by(stage: Stage, n: Counts, page: &[u8]) -> Verdict
+pub fn verdict_by(stage: Stage, n: Counts, page: &[u8]) -> Verdict
     ensures { λ r. ⌜ r ≡ verdictBy stage n (now (page .entry)) ⌝ }
 {
     match stage {

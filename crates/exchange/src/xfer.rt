@@ -3,7 +3,7 @@ ghost use mathlib.Core.Path.{_≡_};
 ghost use Prim.Native.Nat.{_≤_};
 ghost use lib.ListN.{length};
 ghost use Rattle.exchange.specs.Exchange.{messageAfter};
-ghost use Rattle.exchange.specs.Xfer.{xferBy, setUpPlan, refusedStep, setUpStep, startStep, doneStep, startOf, xferOf, xferMessage};
+ghost use Rattle.exchange.specs.Xfer.{gateBy, xferBy, setUpPlan, refusedStep, setUpStep, startStep, doneStep, startOf, xferOf, xferMessage};
 ghost use Rattle.exchange.specs.StepLaws.{restBy};
 ghost use Rattle.exchange.specs.declared.xfer.Gate.the-variants.{Shut, SetUp, Open};
 use crate::calls::MESSAGE;
@@ -67,15 +67,14 @@ fn checked_by(c: Core, stream: u32, p: Params) -> Gate
     Gate::Open(p.period)
 }
 
-// Lengths, then consistency, then Busy, then the rest.
-fn checked(lengths: bool, s: Sound, t: Track, stream: u32) -> Gate
-    ensures { λ r. ⌜ r ≡ xferBy lengths s t stream Shut SetUp Open ⌝ }
+// The checks of a transfer, with the stream's own parameters: lengths, then consistency, then Busy,
+// then the rest.
+pub fn xfer_gate(lengths: bool, c: Core, p: Params, t: Track, stream: u32) -> Gate
+    ensures { λ r. ⌜ r ≡ gateBy lengths c p t stream Shut SetUp Open ⌝ }
 {
-    let core = s.core;
-    let stage = core.stage;
-    let params = params_of(s, stream);
-    let own = stream_ok(core, stream, params);
-    let sound = both(consistent(core), both(is_consistent(t), own));
+    let stage = c.stage;
+    let own = stream_ok(c, stream, p);
+    let sound = both(consistent(c), both(is_consistent(t), own));
     let free = both(is_idle_stage(stage), is_idle(t));
     if !lengths {
         return Gate::Shut(Refusal::BadLength);
@@ -86,7 +85,14 @@ fn checked(lengths: bool, s: Sound, t: Track, stream: u32) -> Gate
     if !free {
         return Gate::Shut(Refusal::Busy);
     }
-    checked_by(core, stream, params)
+    checked_by(c, stream, p)
+}
+
+fn checked(lengths: bool, s: Sound, t: Track, stream: u32) -> Gate
+    ensures { λ r. ⌜ r ≡ xferBy lengths s t stream Shut SetUp Open ⌝ }
+{
+    let params = params_of(s, stream);
+    xfer_gate(lengths, s.core, params, t, stream)
 }
 
 fn refused(s: Sound, ring: Ring, refusal: Refusal) -> XferStep

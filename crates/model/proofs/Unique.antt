@@ -16,6 +16,9 @@ use Rattle.model.specs.declared.device.Count.the-variants as count
 use Rattle.model.proofs.device.Device.new.Reads as device-new
 use Rattle.model.proofs.device.Device.params.Reads as device-params
 use Rattle.model.proofs.device.Device.played.Reads as device-played
+use Rattle.model.proofs.device.within.Reads as within
+use Rattle.model.proofs.control.asked.Reads as asked
+use Rattle.model.proofs.transfer.plays.Reads as plays
 use Rattle.model.proofs.control.control.Reads as control
 use Rattle.model.proofs.transfer.transfer.Reads as transfer
 use Rattle.model.proofs.transfer.payload.Reads as payload
@@ -45,6 +48,15 @@ count-answer count.InvalidParam = refl
 
 pub device-played-one : (κs : _) (a : _) (r₁ r₂ : _) (e₁ e₂ : _) → device-played.Post κs a r₁ e₁ → device-played.Post κs a r₂ e₂ → r₁ ≡ r₂
 device-played-one κs a r₁ r₂ e₁ e₂ p q = one saysCount countAnswer count-answer p q
+
+pub within-one : (κs : _) (a : _) (r₁ r₂ : _) (e₁ e₂ : _) → within.Post κs a r₁ e₁ → within.Post κs a r₂ e₂ → r₁ ≡ r₂
+within-one κs a r₁ r₂ e₁ e₂ p q = same p q
+
+pub asked-one : (κs : _) (a : _) (r₁ r₂ : _) (e₁ e₂ : _) → asked.Post κs a r₁ e₁ → asked.Post κs a r₂ e₂ → r₁ ≡ r₂
+asked-one κs a r₁ r₂ e₁ e₂ p q = same p q
+
+pub plays-one : (κs : _) (a : _) (r₁ r₂ : _) (e₁ e₂ : _) → plays.Post κs a r₁ e₁ → plays.Post κs a r₂ e₂ → r₁ ≡ r₂
+plays-one κs a r₁ r₂ e₁ e₂ p q = same p q
 
 -- the page is the third parameter
 pub control-one : (κs : _) (a : _) (r₁ r₂ : _) (e₁ e₂ : _) → control.Post κs a r₁ e₁ → control.Post κs a r₂ e₂ → (r₁ ≡ r₂) × (now (e₁ .1 .1 .0) ≡ now (e₂ .1 .1 .0))

@@ -35,7 +35,7 @@ pub struct Answered {
 }
 
 // The records that a query asks for: the first one, and how many.
-pub(crate) enum Range {
+pub enum Range {
     Of(usize, usize),
     Bad,
 }
@@ -54,7 +54,7 @@ fn tell(d: Device, status: u32, page: &mut [u8]) -> Answered
 
 // What a query asks for, if that is within the table of `n` records. A start and a count of 32
 // bits each are added in 64.
-fn asked(request: &[u8], size: usize, n: u32) -> Range
+pub fn asked(request: &[u8], size: usize, n: u32) -> Range
     ensures { λ r. ⌜ r ≡ rangeOf (now (request .entry)) size n ⌝ }
 {
     if request.len() != Query::SIZE {

@@ -44,7 +44,7 @@ pub enum Count {
 }
 
 // A device with larger tables than a page holds is refused everywhere.
-pub(crate) fn within(n: Counts) -> bool
+pub fn within(n: Counts) -> bool
     ensures { λ r. ⌜ r ≡ withinOf n ⌝ }
 {
     if 170 < n.jacks {

@@ -6,10 +6,12 @@ mod said;
 pub mod transfer;
 
 pub use control::Answered;
+pub use control::Range;
 pub use device::Count;
 pub use device::Counts;
 pub use device::Device;
 pub use device::Held;
 pub use device::HeldRead;
+pub use device::within;
 pub use said::Control;
 pub use transfer::Transferred;

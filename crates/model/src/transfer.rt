@@ -20,7 +20,7 @@ pub struct Transferred {
 }
 
 // A request that names a stream of the device.
-fn plays(n: Counts, request: &[u8]) -> bool
+pub fn plays(n: Counts, request: &[u8]) -> bool
     ensures { λ r. ⌜ r ≡ (leb 4 (length (now (request .entry))) && ltb (streamOf (now (request .entry))) (n .streams)) ⌝ }
 {
     if request.len() < Transfer::SIZE {

@@ -34,6 +34,10 @@ use Rattle.turns.proofs.calls.turn.Reads as turn
 use Rattle.turns.proofs.calls.drain_turn.Reads as drain-turn
 use Rattle.turns.proofs.calls.start.Reads as start
 use Rattle.turns.proofs.calls.next_offer.Reads as next-offer
+use Rattle.turns.proofs.calls.turn_track.Reads as turn-track
+use Rattle.turns.proofs.calls.drain_track.Reads as drain-track
+use Rattle.turns.proofs.calls.start_track.Reads as start-track
+use Rattle.turns.proofs.calls.offer_track.Reads as offer-track
 use Rattle.turns.proofs.script.transfer.Reads as transfer
 use Rattle.turns.proofs.reading.Reading.from_words.Reads as from-words
 use Rattle.turns.proofs.ring.Ring.new.Reads as new
@@ -48,6 +52,20 @@ use Rattle.turns.proofs.ring.Ring.turns_run.Reads as turns-run
 use Rattle.turns.proofs.ring.Ring.stream.Reads as stream
 use Rattle.turns.proofs.ring.Ring.carried.Reads as read-carried
 use Rattle.turns.proofs.ring.Ring.oldest.Reads as read-oldest
+
+-- ---- the calls, of the track alone
+
+pub turn-track-one : (κs : _) (a : _) (r₁ r₂ : _) (e₁ e₂ : _) → turn-track.Post κs a r₁ e₁ → turn-track.Post κs a r₂ e₂ → r₁ ≡ r₂
+turn-track-one κs a r₁ r₂ e₁ e₂ p q = same p q
+
+pub drain-track-one : (κs : _) (a : _) (r₁ r₂ : _) (e₁ e₂ : _) → drain-track.Post κs a r₁ e₁ → drain-track.Post κs a r₂ e₂ → r₁ ≡ r₂
+drain-track-one κs a r₁ r₂ e₁ e₂ p q = same p q
+
+pub start-track-one : (κs : _) (a : _) (r₁ r₂ : _) (e₁ e₂ : _) → start-track.Post κs a r₁ e₁ → start-track.Post κs a r₂ e₂ → r₁ ≡ r₂
+start-track-one κs a r₁ r₂ e₁ e₂ p q = same p q
+
+pub offer-track-one : (κs : _) (a : _) (r₁ r₂ : _) (e₁ e₂ : _) → offer-track.Post κs a r₁ e₁ → offer-track.Post κs a r₂ e₂ → r₁ ≡ r₂
+offer-track-one κs a r₁ r₂ e₁ e₂ p q = same p q
 
 -- ---- the calls
 

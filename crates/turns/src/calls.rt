@@ -23,7 +23,7 @@ use codes::Answer;
 use codes::Refusal;
 
 // The least room that a submission needs, with direct descriptors.
-const LEAST: usize = 3;
+pub const LEAST: usize = 3;
 
 // What the next turn submits, or why it would be refused.
 pub enum Offer {
@@ -63,7 +63,7 @@ fn length_agrees(t: Track, len: usize) -> bool
 }
 
 // A turn of the track, lent frames of some length.
-pub(crate) fn turn_track(least: usize, t: Track, len: usize, reading: Reading) -> Step
+pub fn turn_track(least: usize, t: Track, len: usize, reading: Reading) -> Step
     ensures { λ r. ⌜ r ≡ turnCall least t len reading ⌝ }
 {
     let agrees = length_agrees(t, len);
@@ -122,7 +122,7 @@ fn drain(t: Track, reading: Reading) -> Step
 }
 
 // A drain turn of the track.
-pub(crate) fn drain_track(t: Track, reading: Reading) -> Step
+pub fn drain_track(t: Track, reading: Reading) -> Step
     ensures { λ r. ⌜ r ≡ drainCall t reading ⌝ }
 {
     let sound = consistent(t);
@@ -155,7 +155,7 @@ fn fresh(t: Track, stream: u32, total: usize, period: usize, budget: u64) -> Tra
 }
 
 // The start of a transfer on the track.
-pub(crate) fn start_track(t: Track, stream: u32, total: usize, period: usize, budget: u64) -> Step
+pub fn start_track(t: Track, stream: u32, total: usize, period: usize, budget: u64) -> Step
     ensures { λ r. ⌜ r ≡ startCall t stream total period budget ⌝ }
 {
     let sound = consistent(t);
@@ -278,7 +278,7 @@ fn next_sent(choice: Choice, t: Track) -> Sent
 }
 
 // What the next turn of the track submits, or its refusal.
-pub(crate) fn offer_track(least: usize, t: Track, len: usize) -> Offer
+pub fn offer_track(least: usize, t: Track, len: usize) -> Offer
     ensures { λ r. ⌜ r ≡ offerCall least t len ⌝ }
 {
     let agrees = length_agrees(t, len);

@@ -7,13 +7,18 @@ mod ring;
 mod rules;
 mod script;
 
+pub use calls::LEAST;
 pub use calls::Offer;
+pub use calls::drain_track;
 pub use calls::drain_turn;
 pub use calls::is_idle;
 pub use calls::next_offer;
+pub use calls::offer_track;
 pub use calls::offered;
 pub use calls::start;
+pub use calls::start_track;
 pub use calls::turn;
+pub use calls::turn_track;
 pub use consistent::is_consistent;
 pub use in_place::Report;
 pub use in_place::drain_in_place;

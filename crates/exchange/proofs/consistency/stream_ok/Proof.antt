@@ -1,9 +1,11 @@
 -- `exchange::consistency::stream_ok` meets its contract, by those of its tests. Assumes nothing.
 use borrow.Author.Needs.{needs}
+use Rattle.exchange.specs.Consistent.{streamOk}
 use Rattle.exchange.proofs.consistency.stream_ok.Statement.{statement}
 use Rattle.exchange.proofs.consistency.stream_ok.Tie as tie
 
 returns : tie.Need-returns
+unfolding streamOk
 returns c = simp (c .either .ensures, c .before .params-ok .ensures, c .before .before .both .ensures)
 
 pub stream-ok-spec : {M : Type 1} → statement M

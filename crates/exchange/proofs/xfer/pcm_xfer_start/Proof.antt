@@ -7,7 +7,7 @@ use Rattle.exchange.proofs.xfer.pcm_xfer_start.Statement.{statement}
 use Rattle.exchange.proofs.xfer.pcm_xfer_start.Tie as tie
 
 set-up-requires : tie.Need-set-up-requires
-set-up-requires c κs = leb-true _ _ (set-up-long _ _ _ _ (sym (c .before .enum-told .given .1) ∙ c .before .before .before .checked .ensures))
+set-up-requires c κs = leb-true _ _ (set-up-long _ (c .before .before .before .before .before .before .args .s) _ (c .before .before .before .before .before .before .args .stream) (sym (c .before .enum-told .given .1) ∙ c .before .before .before .checked .ensures))
 
 returns : tie.Need-returns
 returns c =

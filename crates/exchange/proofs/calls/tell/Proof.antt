@@ -1,0 +1,19 @@
+-- `exchange::calls::tell` meets its contract: a short message is refused, and otherwise what is said is put. Assumes nothing.
+use mathlib.Core.Path.{sym, _∙_}
+use native.Mathlib.Omega.{arith}
+use borrow.Author.Needs.{needs}
+use borrow.Author.Tests.{le-leb, lt-leb}
+use Rattle.codes.specs.SaysLaws.{picks, skips}
+use Rattle.exchange.proofs.calls.tell.Statement.{statement}
+use Rattle.exchange.proofs.calls.tell.Tie as tie
+
+returns : tie.Need-returns
+returns c = let short = lt-leb 24 _ (c .if1 .taken) in (sym (skips _ _ _ short), sym (skips _ _ _ short))
+
+returns-2 : tie.Need-returns-2
+returns-2 c =
+    let long = le-leb 24 _ (c .before .before .before .before .if1 .left) in
+    (c .before .before .put .ensures .0 ∙ sym (picks _ _ _ long), c .before .before .put .ensures .1 ∙ sym (picks _ _ _ long))
+
+pub tell-spec : {M : Type 1} → statement M
+tell-spec = tie.close (tie.spec returns (λ c κs. search needs) (λ c. search needs) returns-2)
