@@ -19,7 +19,6 @@ pub mod Fields
 pub mod Lists
 pub mod Reached
 pub mod Demand
-pub mod Worked
 -- laws
 pub mod ConsistentLaws
 pub mod OwnLaws

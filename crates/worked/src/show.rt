@@ -1,0 +1,108 @@
+// Words and numbers of the output.
+use codes::Answer;
+use codes::Refusal;
+use exchange::StreamList;
+use exchange::Value;
+use libc::STDOUT_FILENO;
+
+pub fn text(s: &[u8]) {
+    io::write_all(STDOUT_FILENO, s);
+}
+
+pub fn decimal(n: u64) {
+    io::print_decimal(STDOUT_FILENO, n);
+}
+
+// In two columns.
+pub fn wide(n: u64) {
+    if n < 10 {
+        text(b" ");
+    }
+    decimal(n);
+}
+
+pub fn hex(n: u64) {
+    text(b"0x");
+    io::print_hex(STDOUT_FILENO, n, 1);
+}
+
+// A space, and two digits of a byte.
+fn byte(b: u8) {
+    text(b" ");
+    io::print_hex(STDOUT_FILENO, b as u64, 2);
+}
+
+pub fn bytes(s: &[u8]) {
+    let mut i: usize = 0;
+    while i < s.len() {
+        byte(s[i]);
+        i += 1;
+    }
+}
+
+fn name(a: Answer) {
+    match a {
+        Answer::Ok => text(b"Ok"),
+        Answer::InvalidParam => text(b"InvalidParam"),
+        Answer::IoError => text(b"IoError"),
+        Answer::Unsupported => text(b"Unsupported"),
+        Answer::NoInfo => text(b"NoInfo"),
+        Answer::TooMany => text(b"TooMany"),
+        Answer::WrongToken => text(b"WrongToken"),
+        Answer::QueueFailed => text(b"QueueFailed"),
+        Answer::Busy => text(b"Busy"),
+        Answer::OutOfTurns => text(b"OutOfTurns"),
+        Answer::BadLength => text(b"BadLength"),
+    }
+}
+
+// An answer's number, and document 01's name for it.
+pub fn answer(a: Answer) {
+    decimal(a.number() as u64);
+    text(b" ");
+    name(a);
+}
+
+pub fn refusal(r: Refusal) {
+    answer(r.answer());
+}
+
+// A space, and the id at a place of a list.
+fn id(list: StreamList, i: usize) {
+    if 127 <= i {
+        return;
+    }
+    text(b" ");
+    decimal(list.ids[i] as u64);
+}
+
+fn ids(list: StreamList) {
+    let count = list.count;
+    let mut i: u32 = 0;
+    while i < count {
+        id(list, i as usize);
+        i += 1;
+    }
+}
+
+// What a call results in.
+pub fn value(v: Value, list: StreamList) {
+    answer(Answer::Ok);
+    match v {
+        Value::Nothing => text(b""),
+        Value::Number(n) => {
+            text(b", ");
+            hex(n);
+        }
+        Value::Range { min, max } => {
+            text(b", ");
+            decimal(min as u64);
+            text(b" to ");
+            decimal(max as u64);
+        }
+        Value::Streams { direction: _ } => {
+            text(b", streams");
+            ids(list);
+        }
+    }
+}
