@@ -1,0 +1,29 @@
+-- The step of the track that the store holds, written over it. Assumes nothing.
+use borrow.Author.Needs.{needs}
+use mathlib.Core.Path.{_∙_}
+use Rattle.turns.specs.Calls.{turnCall}
+use Rattle.turns.specs.InPlace.{turnWords}
+use Rattle.ring_store.specs.Store.{ringOf}
+use Rattle.ring_store.specs.Calls.{turnIn}
+use Rattle.ring_store.specs.CallsLaws.{short, stepped}
+use Rattle.ring_store.proofs.calls.turn.Statement.{statement}
+use Rattle.ring_store.proofs.calls.turn.Tie as tie
+
+returns : tie.Need-returns
+unfolding turnIn
+returns c = short (c .before .before .args .ring .now) _ (search needs)
+
+returns-2 : tie.Need-returns-2
+unfolding turnIn turnWords ringOf
+returns-2 c =
+    let l = c .before .before in
+    let x = l .before .before in
+    let w = x .before in
+    let t = w .before in
+    let i = t .before .before in
+    let a = i .before .before .args in
+    stepped (a .ring .now) _ _ _ _ (λ k. (i .before .slice-known .given k) .fits) (i .if1 .left)
+    (x .turn-track .ensures ∙ (λ j. turnCall 3 (t .get-track .ensures j) (a .len) (w .from-words .ensures j))) (l .leave .ensures)
+
+pub turn-spec : {M : Type 1} → statement M
+turn-spec = tie.close (tie.spec returns (λ c κs. search needs) (λ c κs. tt) (λ c κs. tt) (λ c κs. search needs) (λ c. search needs) returns-2)

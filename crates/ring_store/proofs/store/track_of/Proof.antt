@@ -1,0 +1,17 @@
+-- Its numbers, and the descriptors of a submission by the flag. Assumes nothing.
+use mathlib.Core.Path.{ap}
+use mathlib.Core.Bool.{not}
+use Prim.Native.Nat.{ℕ}
+use lib.Dec.{eqb}
+use borrow.Author.Needs.{needs}
+use Rattle.turns.specs.declared.ring.Track.{Track}
+use Rattle.ring_store.proofs.store.track_of.Statement.{statement}
+use Rattle.ring_store.proofs.store.track_of.Tie as tie
+
+returns : tie.Need-returns
+returns c =
+    let a = c .before .args in
+    ap (λ (n : ℕ). record { per = n; head = a .head; tail = a .tail; held = a .held; stream = a .stream; total = a .total; period = a .period; next = a .next; budget = a .budget; turns = a .turns; running = not (eqb (a .flag) 0) }) (c .per-of .ensures)
+
+pub track-of-spec : {M : Type 1} → statement M
+track-of-spec = tie.close (tie.spec (λ c κs. tt) returns)

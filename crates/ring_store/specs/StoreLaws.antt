@@ -1,0 +1,145 @@
+-- A store written by place: a track or a slot over a store is the whole ring with that part new.
+-- Assumes nothing.
+use mathlib.Core.Path.{_≡_, refl, sym, ap, _∙_}
+use mathlib.Core.Bool.{Bool, true, false, not}
+use mathlib.Core.List.{List, [], _∷_, _++_, append-assoc}
+use Prim.Native.Nat.{ℕ, suc, _+_, _*_, _≤_, _<_}
+use native.Mathlib.Omega.{arith}
+use lib.Dec.{leb, eqb, ltb}
+use borrow.Author.Tests.{lt-ltb, le-ltb, ltb-true, ltb-false}
+use lib.ListN.{length, getD, set, take, drop, replicate, length-append, List·getD-eq-default, getD-replicate}
+use lib.Seq.{sets, set-out, length-take-le}
+use Rattle.layout.specs.Bytes.{le, numAt, bytesAt, Bytes}
+use Rattle.layout.specs.Layout.{write}
+use Rattle.layout.specs.Rows.{rowsBytes}
+use Rattle.layout.specs.LayoutLaws.{length-write, write-read}
+use Rattle.layout.specs.StoreLaws.{over, sets-but, sets-then}
+use Rattle.layout.specs.ChainLaws.{Got, Stored, got, stored}
+use Rattle.layout.specs.RowsLaws.{length-rows, length-rowsBytes, rows-at, rowsBytes-more, rows-split, rows-with, rows-same}
+use Rattle.codes.specs.Says.{pick}
+use Rattle.codes.specs.SaysLaws.{picks, skips}
+use Rattle.turns.specs.Ring.{blankSlot, newTrack, newRing}
+use Rattle.turns.specs.Calls.{carry}
+use Rattle.turns.specs.declared.ring.Slot.{Slot}
+use Rattle.turns.specs.declared.ring.Track.{Track}
+use Rattle.turns.specs.declared.ring.Ring.{Ring}
+use Rattle.turns.specs.declared.ring.Sent.{Sent}
+use Rattle.turns.specs.declared.ring.Sent.the-variants.{Nothing, Period}
+use Rattle.ring_store.specs.Store.{trackRow, trackValues, trackOf, trackAt, slotRow, slotBytes, slotAt, ringOf, ringBytes}
+
+-- ---- what the code stores
+
+abbrev pub trackBytes : Track → List ℕ
+trackBytes t = write trackRow (trackValues t)
+
+-- a slot at its place; there are 32
+abbrev pub slotOver : List ℕ → ℕ → Slot → List ℕ
+slotOver s slot x = pick (ltb slot 32) (sets s (80 + slot * 16) (slotBytes x)) s
+
+abbrev pub sentOver : List ℕ → Sent → List ℕ
+sentOver s Nothing = s
+sentOver s (Period slot offset len) = slotOver s slot (record { offset = offset; len = len })
+
+abbrev pub blankOver : List ℕ → List ℕ
+blankOver s = sets s 80 (rowsBytes slotBytes (replicate 32 blankSlot))
+
+-- ---- one slot
+
+pub slot-sized : (x : Slot) → length (slotBytes x) ≡ 16
+slot-sized x = length-write slotRow (x .offset ∷ x .len ∷ [])
+
+pub slot-same : (o : ℕ) (s : List ℕ) → Bytes s → slotBytes (slotAt o s) ≡ bytesAt o 16 s
+unfolding slotAt
+slot-same o s b = write-read o slotRow s b
+
+-- ---- a part over the whole
+
+-- the ring that a store holds, with another track
+abbrev pub withTrack : List ℕ → Track → Ring
+withTrack s t = record { track = t; slots = ringOf s .slots }
+
+-- THE TRACK ALONE: the slots, written again, are the bytes that stand there
+pub track-over : (s : List ℕ) (t : Track) → Bytes s → sets s 0 (trackBytes t) ≡ sets s 0 (ringBytes (withTrack s t))
+unfolding ringOf ringBytes bytesAt le
+track-over s t b =
+    sym (sets-but s 0 512 (trackBytes t))
+    ∙ ap (λ (l : List ℕ). sets s 0 (trackBytes t ++ l))
+    (ap (λ (k : ℕ). bytesAt k 512 s) (length-write trackRow (trackValues t)) ∙ sym (rows-same slotAt slotBytes 16 slot-same 80 32 s b))
+
+-- ONE SLOT over an encoded ring
+pub slot-over : (s : List ℕ) (r : Ring) (i : ℕ) (x : Slot) → i < length (r .slots) → sets (sets s 0 (ringBytes r)) (80 + i * 16) (slotBytes x) ≡ sets s 0 (ringBytes (record { track = r .track; slots = set (r .slots) i x }))
+unfolding ringBytes
+slot-over s r i x h =
+    let t = trackBytes (r .track) in
+    let a = rowsBytes slotBytes (take i (r .slots)) in
+    let b = rowsBytes slotBytes (drop (suc i) (r .slots)) in
+    let old = slotBytes (getD (r .slots) i blankSlot) in
+    let n : length (t ++ a) ≡ 80 + i * 16 =
+    length-append t a ∙ (λ k. length-write trackRow (trackValues (r .track)) k + (length-rowsBytes slotBytes 16 slot-sized (take i (r .slots)) ∙ ap (λ (m : ℕ). m * 16) (length-take-le i (r .slots) (omega arith))) k) in
+    ap (λ (l : List ℕ). sets (sets s 0 l) (80 + i * 16) (slotBytes x)) (ap (λ (l : List ℕ). t ++ l) (rows-split slotBytes (r .slots) i blankSlot h) ∙ sym (append-assoc t a (old ++ b)))
+    ∙ over s (t ++ a) old (slotBytes x) b (80 + i * 16) n (slot-sized (getD (r .slots) i blankSlot) ∙ sym (slot-sized x))
+    ∙ ap (sets s 0) (append-assoc t a (slotBytes x ++ b) ∙ ap (λ (l : List ℕ). t ++ l) (sym (rows-with slotBytes (r .slots) i x h)))
+
+pub slots-long : (s : List ℕ) → length (ringOf s .slots) ≡ 32
+unfolding ringOf
+slots-long s = length-rows slotAt 16 80 32 s
+
+slot-sent : (s : List ℕ) (t : Track) (slot : ℕ) (x : Slot) → Bytes s → (small : Bool) → ltb slot 32 ≡ small → slotOver (sets s 0 (trackBytes t)) slot x ≡ sets s 0 (ringBytes (record { track = t; slots = set (ringOf s .slots) slot x }))
+slot-sent s t slot x b true e =
+    let h : slot < 32 = ltb-true slot 32 e in
+    picks _ _ _ e
+    ∙ ap (λ (l : List ℕ). sets l (80 + slot * 16) (slotBytes x)) (track-over s t b)
+    ∙ slot-over s (withTrack s t) slot x (rw (slots-long s) h)
+slot-sent s t slot x b false e =
+    let h : 32 ≤ slot = ltb-false slot 32 e in
+    skips _ _ _ e
+    ∙ track-over s t b
+    ∙ ap (λ (l : List Slot). sets s 0 (ringBytes (record { track = t; slots = l }))) (sym (set-out (ringOf s .slots) slot x (rw (slots-long s) h)))
+
+-- WHAT A STEP LEAVES: its track, and then what it sent, over a store
+pub sent-over : (s : List ℕ) (t : Track) (sent : Sent) → Bytes s → sentOver (sets s 0 (trackBytes t)) sent ≡ sets s 0 (ringBytes (record { track = t; slots = carry (ringOf s .slots) sent }))
+sent-over s t Nothing b = track-over s t b
+sent-over s t (Period slot offset len) b = slot-sent s t slot (record { offset = offset; len = len }) b (ltb slot 32) refl
+
+-- ---- for the code
+
+-- a track by its eleven reads
+pub track-got : (s vs : List ℕ) → Got s 0 trackRow vs → trackOf vs ≡ trackAt s
+unfolding trackAt
+track-got s vs g = ap trackOf (got s 0 trackRow vs g)
+
+-- a slot by its two stores
+pub slot-stored : (n s : List ℕ) (slot : ℕ) (x : Slot) → slot < 32 → Stored n s (80 + slot * 16) slotRow (x .offset ∷ x .len ∷ []) → n ≡ slotOver s slot x
+slot-stored n s slot x h p = stored n s (80 + slot * 16) slotRow (x .offset ∷ x .len ∷ []) p ∙ sym (picks _ _ _ (lt-ltb slot 32 h))
+
+pub slot-none : (s : List ℕ) (slot : ℕ) (x : Slot) → 32 ≤ slot → s ≡ slotOver s slot x
+slot-none s slot x h = sym (skips _ _ _ (le-ltb slot 32 h))
+
+-- and by its two reads
+pub slot-got : (s : List ℕ) (slot : ℕ) {offset len : ℕ} → slot < 32 → offset ≡ numAt (80 + slot * 16) 8 s → len ≡ numAt (80 + slot * 16 + 8) 8 s → record { offset = offset; len = len } ≡ getD (ringOf s .slots) slot blankSlot
+unfolding ringOf slotAt
+slot-got s slot h p q = (λ i. record { offset = p i; len = q i }) ∙ sym (rows-at slotAt 16 80 32 slot s blankSlot h)
+
+pub slot-out : (s : List ℕ) (slot : ℕ) → 32 ≤ slot → blankSlot ≡ getD (ringOf s .slots) slot blankSlot
+slot-out s slot h = sym (List·getD-eq-default (ringOf s .slots) blankSlot (rw (slots-long s) h))
+
+-- the slots made blank, one after the other
+abbrev pub blanks : List Slot
+blanks = replicate 32 blankSlot
+
+pub blank-none : (s : List ℕ) → s ≡ sets s 80 (rowsBytes slotBytes (take 0 blanks))
+unfolding rowsBytes
+blank-none s = refl
+
+pub blank-more : (s s₁ s₂ : List ℕ) (i : ℕ) → i < 32 → s₁ ≡ sets s 80 (rowsBytes slotBytes (take i blanks)) → s₂ ≡ slotOver s₁ i blankSlot → s₂ ≡ sets s 80 (rowsBytes slotBytes (take (i + 1) blanks))
+blank-more s s₁ s₂ i h e p =
+    rowsBytes-more slotBytes 16 slot-sized s 80 i blanks blankSlot s₁ s₂ h e
+    (p ∙ picks _ _ _ (lt-ltb i 32 h) ∙ ap (λ (x : Slot). sets s₁ (80 + i * 16) (slotBytes x)) (sym (getD-replicate 32 i blankSlot blankSlot h)))
+
+pub blank-all : (s s₁ : List ℕ) (i : ℕ) → i ≡ 32 → s₁ ≡ sets s 80 (rowsBytes slotBytes (take i blanks)) → s₁ ≡ blankOver s
+blank-all s s₁ i z e = e ∙ ap (λ (n : ℕ). sets s 80 (rowsBytes slotBytes (take n blanks))) z
+
+-- a new ring: its track, and then every slot blank
+pub new-over : (s : List ℕ) → blankOver (sets s 0 (trackBytes (newTrack 3))) ≡ sets s 0 (ringBytes (newRing 3))
+unfolding ringBytes le
+new-over s = sets-then s 0 80 (trackBytes (newTrack 3)) (rowsBytes slotBytes blanks) (sym (length-write trackRow (trackValues (newTrack 3))))

@@ -1,0 +1,109 @@
+// The calls that change a ring in its store. A store under 592 bytes gets 10, and a refusal leaves
+// every byte as it was.
+ghost use mathlib.Core.Path.{_≡_};
+ghost use Prim.Native.Nat.{_≤_};
+ghost use lib.ListN.{length};
+ghost use Rattle.turns.specs.Ring.{saysSaid};
+ghost use Rattle.ring_store.specs.Calls.{newIn, turnIn, drainIn, startIn};
+ghost use Rattle.ring_store.specs.CallsLaws.{changesOf, stepOver};
+use crate::store;
+use crate::store::SIZE;
+use turns::Reading;
+use turns::Ring;
+use turns::Said;
+use turns::Step;
+
+// What a call says of a store that is too short.
+pub(crate) const BAD_LENGTH: u64 = 10;
+
+// What a turn says that goes on.
+const GOING: u64 = 512;
+
+fn number(said: Said) -> u64
+    ensures { λ r. ⌜ r ≡ saysSaid said .number ⌝ }
+{
+    match said {
+        Said::Going => GOING,
+        Said::Ended(answer) => answer.number() as u64,
+        Said::Refused(refusal) => refusal.number() as u64,
+    }
+}
+
+// A refusal changes nothing.
+fn changes(said: Said) -> bool
+    ensures { λ r. ⌜ r ≡ changesOf said ⌝ }
+{
+    match said {
+        Said::Going => true,
+        Said::Ended(_) => true,
+        Said::Refused(_) => false,
+    }
+}
+
+// What a step leaves: the track, and the slot that was filled.
+fn leave(ring: &mut [u8], step: Step) -> u64
+    requires { ⌜ 592 ≤ length (now ring) ⌝ }
+    ensures { λ r. ⌜ (r ≡ saysSaid (step .said) .number) × (now (ring .exit) ≡ stepOver (now (ring .entry)) step) ⌝ }
+{
+    let said = step.said;
+    let sent = step.sent;
+    let answer = number(said);
+    let changed = changes(said);
+    if !changed {
+        return answer;
+    }
+    store::put_track(ring, step.track);
+    store::put_sent(ring, sent);
+    answer
+}
+
+// A ring that no transfer ran on.
+pub fn new(ring: &mut [u8]) -> u64
+    ensures { λ r. ⌜ (r ≡ newIn (now (ring .entry)) .answer) × (now (ring .exit) ≡ newIn (now (ring .entry)) .ring) ⌝ }
+{
+    if ring.len() < SIZE {
+        return BAD_LENGTH;
+    }
+    let fresh = Ring::new();
+    store::put_track(ring, fresh.track);
+    store::put_blanks(ring);
+    0
+}
+
+// A turn of a transfer, with the length of the frames, and a reading in numbers.
+pub fn turn(ring: &mut [u8], len: usize, kind: u32, slot: u32, status: u32) -> u64
+    ensures { λ r. ⌜ (r ≡ turnIn (now (ring .entry)) len kind slot status .answer) × (now (ring .exit) ≡ turnIn (now (ring .entry)) len kind slot status .ring) ⌝ }
+{
+    if ring.len() < SIZE {
+        return BAD_LENGTH;
+    }
+    let t = store::get_track(ring);
+    let reading = Reading::from_words(kind, slot, status);
+    let step = turns::turn_track(turns::LEAST, t, len, reading);
+    leave(ring, step)
+}
+
+// A drain turn: frees an owed slot, oldest first.
+pub fn drain_turn(ring: &mut [u8], kind: u32, slot: u32, status: u32) -> u64
+    ensures { λ r. ⌜ (r ≡ drainIn (now (ring .entry)) kind slot status .answer) × (now (ring .exit) ≡ drainIn (now (ring .entry)) kind slot status .ring) ⌝ }
+{
+    if ring.len() < SIZE {
+        return BAD_LENGTH;
+    }
+    let t = store::get_track(ring);
+    let reading = Reading::from_words(kind, slot, status);
+    let step = turns::drain_track(t, reading);
+    leave(ring, step)
+}
+
+// The start of a transfer of len bytes of frames: nothing is submitted yet.
+pub fn start(ring: &mut [u8], stream: u32, len: usize, period: usize, budget: u64) -> u64
+    ensures { λ r. ⌜ (r ≡ startIn (now (ring .entry)) stream len period budget .answer) × (now (ring .exit) ≡ startIn (now (ring .entry)) stream len period budget .ring) ⌝ }
+{
+    if ring.len() < SIZE {
+        return BAD_LENGTH;
+    }
+    let t = store::get_track(ring);
+    let step = turns::start_track(t, stream, len, period, budget);
+    leave(ring, step)
+}

@@ -1,0 +1,28 @@
+// The ring as bytes in its owner's storage, advanced by place: a turn touches the track, and of the
+// slots only the one that it fills.
+ghost use mathlib.Core.Path.{_≡_};
+
+mod calls;
+mod reads;
+mod store;
+
+pub use calls::drain_turn;
+pub use calls::new;
+pub use calls::start;
+pub use calls::turn;
+pub use reads::carried;
+pub use reads::free_descriptors;
+pub use reads::in_flight;
+pub use reads::offered;
+pub use reads::oldest;
+pub use reads::running;
+pub use reads::stream;
+pub use reads::turns_run;
+pub use store::SIZE;
+pub use store::track;
+
+pub fn size() -> u64
+    ensures { λ r. ⌜ r ≡ 592 ⌝ }
+{
+    SIZE as u64
+}

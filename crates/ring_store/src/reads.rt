@@ -1,0 +1,192 @@
+// The calls that look at a ring in its store. What they tell stands in the result slice, 8 bytes a
+// value. A store under 592 bytes, or a result slice under 512, gets 10.
+ghost use mathlib.Core.Path.{_≡_};
+ghost use mathlib.Core.Bool.{_&&_};
+ghost use mathlib.Core.List.{[], _∷_};
+ghost use lib.Dec.{leb, ltb};
+ghost use lib.ListN.{length};
+ghost use Rattle.codes.specs.Says.{says, guard};
+ghost use Rattle.codes.specs.Answers.{saysRefusal};
+ghost use Rattle.turns.specs.Reads.{runningOf, inFlightOf, freeOf, turnsOf, streamOf, carriedOf};
+ghost use Rattle.turns.specs.Consistent.{consistentOf};
+ghost use Rattle.ring_store.specs.Store.{trackAt, ringOf};
+ghost use Rattle.ring_store.specs.Calls.{shown, saysSent, offerIn, oldestSays};
+use crate::calls::BAD_LENGTH;
+use crate::store;
+use crate::store::SIZE;
+use codes::Refusal;
+use turns::Offer;
+use turns::Sent;
+
+// The bytes that a result slice has at the least.
+const RESULT: usize = 512;
+
+// What a call says of a ring that is not consistent.
+const INVALID_PARAM: u64 = 1;
+
+// Both slices are long enough.
+fn roomy(ring: &[u8], result: &[u8]) -> bool
+    ensures { λ r. ⌜ r ≡ (leb 592 (length (now (ring .entry))) && leb 512 (length (now (result .entry)))) ⌝ }
+{
+    if ring.len() < SIZE {
+        return false;
+    }
+    RESULT <= result.len()
+}
+
+fn tell_refusal(ring: &[u8], refusal: Refusal, result: &mut [u8]) -> u64
+    ensures { λ r. ⌜ (r ≡ shown (now (ring .entry)) (now (result .entry)) (saysRefusal refusal) .answer) × (now (result .exit) ≡ shown (now (ring .entry)) (now (result .entry)) (saysRefusal refusal) .result) ⌝ }
+{
+    let room = roomy(ring, result);
+    if !room {
+        return BAD_LENGTH;
+    }
+    refusal.number() as u64
+}
+
+fn tell_one(ring: &[u8], sound: bool, value: u64, result: &mut [u8]) -> u64
+    ensures { λ r. ⌜ (r ≡ shown (now (ring .entry)) (now (result .entry)) (guard sound (says 0 (value ∷ [])) (says 1 [])) .answer) × (now (result .exit) ≡ shown (now (ring .entry)) (now (result .entry)) (guard sound (says 0 (value ∷ [])) (says 1 [])) .result) ⌝ }
+{
+    let room = roomy(ring, result);
+    if !room {
+        return BAD_LENGTH;
+    }
+    if !sound {
+        return INVALID_PARAM;
+    }
+    layout::put_u64(result, 0, value);
+    0
+}
+
+fn tell_two(ring: &[u8], sound: bool, first: u64, second: u64, result: &mut [u8]) -> u64
+    ensures { λ r. ⌜ (r ≡ shown (now (ring .entry)) (now (result .entry)) (guard sound (says 0 (first ∷ second ∷ [])) (says 1 [])) .answer) × (now (result .exit) ≡ shown (now (ring .entry)) (now (result .entry)) (guard sound (says 0 (first ∷ second ∷ [])) (says 1 [])) .result) ⌝ }
+{
+    let room = roomy(ring, result);
+    if !room {
+        return BAD_LENGTH;
+    }
+    if !sound {
+        return INVALID_PARAM;
+    }
+    layout::put_u64(result, 0, first);
+    layout::put_u64(result, 8, second);
+    0
+}
+
+fn tell_four(ring: &[u8], flag: u64, slot: u64, offset: u64, len: u64, result: &mut [u8]) -> u64
+    ensures { λ r. ⌜ (r ≡ shown (now (ring .entry)) (now (result .entry)) (says 0 (flag ∷ slot ∷ offset ∷ len ∷ [])) .answer) × (now (result .exit) ≡ shown (now (ring .entry)) (now (result .entry)) (says 0 (flag ∷ slot ∷ offset ∷ len ∷ [])) .result) ⌝ }
+{
+    let room = roomy(ring, result);
+    if !room {
+        return BAD_LENGTH;
+    }
+    layout::put_u64(result, 0, flag);
+    layout::put_u64(result, 8, slot);
+    layout::put_u64(result, 16, offset);
+    layout::put_u64(result, 24, len);
+    0
+}
+
+fn tell_sent(ring: &[u8], sent: Sent, result: &mut [u8]) -> u64
+    ensures { λ r. ⌜ (r ≡ shown (now (ring .entry)) (now (result .entry)) (saysSent sent) .answer) × (now (result .exit) ≡ shown (now (ring .entry)) (now (result .entry)) (saysSent sent) .result) ⌝ }
+{
+    match sent {
+        Sent::Nothing => tell_four(ring, 0, 0, 0, 0, result),
+        Sent::Period { slot, offset, len } => {
+            tell_four(ring, 1, slot as u64, offset as u64, len as u64, result)
+        }
+    }
+}
+
+// What the next turn submits, refused as the turn would be: 1, slot, offset and length, or 0 four
+// times.
+pub fn offered(ring: &[u8], len: usize, result: &mut [u8]) -> u64
+    ensures { λ r. ⌜ (r ≡ offerIn (now (ring .entry)) len (now (result .entry)) .answer) × (now (result .exit) ≡ offerIn (now (ring .entry)) len (now (result .entry)) .result) ⌝ }
+{
+    let t = store::track(ring);
+    let offer = turns::offer_track(turns::LEAST, t, len);
+    match offer {
+        Offer::Is(sent) => tell_sent(ring, sent, result),
+        Offer::Refused(refusal) => tell_refusal(ring, refusal, result),
+    }
+}
+
+// 1 where a transfer runs, else 0.
+pub fn running(ring: &[u8], result: &mut [u8]) -> u64
+    ensures { λ r. ⌜ (r ≡ shown (now (ring .entry)) (now (result .entry)) (runningOf (trackAt (now (ring .entry)))) .answer) × (now (result .exit) ≡ shown (now (ring .entry)) (now (result .entry)) (runningOf (trackAt (now (ring .entry)))) .result) ⌝ }
+{
+    let t = store::track(ring);
+    let sound = turns::is_consistent(t);
+    let flag = store::flag_of(t.running);
+    tell_one(ring, sound, flag as u64, result)
+}
+
+pub fn in_flight(ring: &[u8], result: &mut [u8]) -> u64
+    ensures { λ r. ⌜ (r ≡ shown (now (ring .entry)) (now (result .entry)) (inFlightOf (trackAt (now (ring .entry)))) .answer) × (now (result .exit) ≡ shown (now (ring .entry)) (now (result .entry)) (inFlightOf (trackAt (now (ring .entry)))) .result) ⌝ }
+{
+    let t = store::track(ring);
+    let sound = turns::is_consistent(t);
+    tell_one(ring, sound, t.held as u64, result)
+}
+
+// The difference is made only of a consistent ring, where it cannot fall below 0.
+pub fn free_descriptors(ring: &[u8], result: &mut [u8]) -> u64
+    ensures { λ r. ⌜ (r ≡ shown (now (ring .entry)) (now (result .entry)) (freeOf (trackAt (now (ring .entry)))) .answer) × (now (result .exit) ≡ shown (now (ring .entry)) (now (result .entry)) (freeOf (trackAt (now (ring .entry)))) .result) ⌝ }
+{
+    let t = store::track(ring);
+    let sound = turns::is_consistent(t);
+    if !sound {
+        return tell_one(ring, false, 0, result);
+    }
+    let free = 32 - t.held * t.per;
+    tell_one(ring, true, free as u64, result)
+}
+
+// Turns run in the transfer that runs, or in the last one that ran.
+pub fn turns_run(ring: &[u8], result: &mut [u8]) -> u64
+    ensures { λ r. ⌜ (r ≡ shown (now (ring .entry)) (now (result .entry)) (turnsOf (trackAt (now (ring .entry)))) .answer) × (now (result .exit) ≡ shown (now (ring .entry)) (now (result .entry)) (turnsOf (trackAt (now (ring .entry)))) .result) ⌝ }
+{
+    let t = store::track(ring);
+    let sound = turns::is_consistent(t);
+    tell_one(ring, sound, t.turns, result)
+}
+
+pub fn stream(ring: &[u8], result: &mut [u8]) -> u64
+    ensures { λ r. ⌜ (r ≡ shown (now (ring .entry)) (now (result .entry)) (streamOf (trackAt (now (ring .entry)))) .answer) × (now (result .exit) ≡ shown (now (ring .entry)) (now (result .entry)) (streamOf (trackAt (now (ring .entry)))) .result) ⌝ }
+{
+    let t = store::track(ring);
+    let sound = turns::is_consistent(t);
+    tell_one(ring, sound, t.stream as u64, result)
+}
+
+// A slot of a consistent ring.
+fn is_slot(ring: &[u8], slot: usize) -> bool
+    ensures { λ r. ⌜ r ≡ (ltb slot 32 && consistentOf (trackAt (now (ring .entry)))) ⌝ }
+{
+    if 32 <= slot {
+        return false;
+    }
+    let t = store::track(ring);
+    turns::is_consistent(t)
+}
+
+// What a slot carries, or carried last: offset and length.
+pub fn carried(ring: &[u8], slot: usize, result: &mut [u8]) -> u64
+    ensures { λ r. ⌜ (r ≡ shown (now (ring .entry)) (now (result .entry)) (carriedOf (ringOf (now (ring .entry))) slot) .answer) × (now (result .exit) ≡ shown (now (ring .entry)) (now (result .entry)) (carriedOf (ringOf (now (ring .entry))) slot) .result) ⌝ }
+{
+    let sound = is_slot(ring, slot);
+    let held = store::get_slot(ring, slot);
+    tell_two(ring, sound, held.offset as u64, held.len as u64, result)
+}
+
+// The oldest in flight, which the next completion must name: 1 and its slot, or 0 twice.
+pub fn oldest(ring: &[u8], result: &mut [u8]) -> u64
+    ensures { λ r. ⌜ (r ≡ shown (now (ring .entry)) (now (result .entry)) (oldestSays (trackAt (now (ring .entry)))) .answer) × (now (result .exit) ≡ shown (now (ring .entry)) (now (result .entry)) (oldestSays (trackAt (now (ring .entry)))) .result) ⌝ }
+{
+    let t = store::track(ring);
+    let sound = turns::is_consistent(t);
+    if t.held == 0 {
+        return tell_two(ring, sound, 0, 0, result);
+    }
+    tell_two(ring, sound, 1, t.tail as u64, result)
+}

@@ -1,0 +1,229 @@
+// The track and the slots at their places in a store.
+ghost use mathlib.Core.Path.{_≡_};
+ghost use lib.Dec.{leb};
+ghost use Prim.Native.Nat.{_+_, _≤_};
+ghost use mathlib.Core.List.{[], _∷_};
+ghost use lib.ListN.{length, getD};
+ghost use lib.Seq.{sets};
+ghost use Rattle.codes.specs.Says.{pick};
+ghost use Rattle.layout.specs.Bytes.{le, numAt};
+ghost use Rattle.layout.specs.Layout.{write};
+ghost use Rattle.turns.specs.Ring.{blankSlot};
+ghost use Rattle.ring_store.specs.Store.{trackRow, trackValues, trackOf, trackAt, ringOf};
+ghost use Rattle.ring_store.specs.StoreLaws.{slotOver, sentOver, blankOver};
+use layout;
+use turns::Sent;
+use turns::Slot;
+use turns::Track;
+
+// The bytes of a ring.
+pub const SIZE: usize = 592;
+
+// The track's bytes, before the slots.
+const TRACK: usize = 80;
+
+const SLOT: usize = 16;
+
+const SLOTS: usize = 32;
+
+// Numbers that lie within the store.
+fn word(s: &[u8], at: usize) -> u64
+    requires { ⌜ at + 8 ≤ length (now s) ⌝ }
+    ensures { λ r. ⌜ r ≡ numAt at 8 (now (s .entry)) ⌝ }
+{
+    layout::u64_of([
+        s[at],
+        s[at + 1],
+        s[at + 2],
+        s[at + 3],
+        s[at + 4],
+        s[at + 5],
+        s[at + 6],
+        s[at + 7],
+    ])
+}
+
+fn half(s: &[u8], at: usize) -> u32
+    requires { ⌜ at + 4 ≤ length (now s) ⌝ }
+    ensures { λ r. ⌜ r ≡ numAt at 4 (now (s .entry)) ⌝ }
+{
+    layout::u32_of([s[at], s[at + 1], s[at + 2], s[at + 3]])
+}
+
+fn put_word(s: &mut [u8], at: usize, v: u64)
+    requires { ⌜ at + 8 ≤ length (now s) ⌝ }
+    ensures { λ _. ⌜ now (s .exit) ≡ sets (now (s .entry)) at (le 8 v) ⌝ }
+{
+    let bytes = layout::u64_bytes(v);
+    s[at] = bytes[0];
+    s[at + 1] = bytes[1];
+    s[at + 2] = bytes[2];
+    s[at + 3] = bytes[3];
+    s[at + 4] = bytes[4];
+    s[at + 5] = bytes[5];
+    s[at + 6] = bytes[6];
+    s[at + 7] = bytes[7];
+}
+
+fn put_half(s: &mut [u8], at: usize, v: u32)
+    requires { ⌜ at + 4 ≤ length (now s) ⌝ }
+    ensures { λ _. ⌜ now (s .exit) ≡ sets (now (s .entry)) at (le 4 v) ⌝ }
+{
+    let bytes = layout::u32_bytes(v);
+    s[at] = bytes[0];
+    s[at + 1] = bytes[1];
+    s[at + 2] = bytes[2];
+    s[at + 3] = bytes[3];
+}
+
+// `running` is 0 or 1. With another number there the store holds no ring: 0 descriptors to a
+// submission fail every test of it.
+fn per_of(flag: u32, per: usize) -> usize
+    ensures { λ r. ⌜ r ≡ pick (leb flag 1) per 0 ⌝ }
+{
+    if flag <= 1 { per } else { 0 }
+}
+
+pub(crate) fn flag_of(running: bool) -> u32
+    ensures { λ r. ⌜ r ≡ pick running 1 0 ⌝ }
+{
+    if running { 1 } else { 0 }
+}
+
+// A track from its numbers, in the store's order.
+fn track_of(
+    per: u64,
+    head: u64,
+    tail: u64,
+    held: u64,
+    total: u64,
+    period: u64,
+    next: u64,
+    budget: u64,
+    turns: u64,
+    stream: u32,
+    flag: u32,
+) -> Track
+    ensures { λ r. ⌜ r ≡ trackOf (per ∷ head ∷ tail ∷ held ∷ total ∷ period ∷ next ∷ budget ∷ turns ∷ stream ∷ flag ∷ []) ⌝ }
+{
+    Track {
+        per: per_of(flag, per as usize),
+        head: head as usize,
+        tail: tail as usize,
+        held: held as usize,
+        stream,
+        total: total as usize,
+        period: period as usize,
+        next: next as usize,
+        budget,
+        turns,
+        running: flag != 0,
+    }
+}
+
+// The track that a store holds; bytes past the end of a short one are 0.
+pub fn track(ring: &[u8]) -> Track
+    ensures { λ r. ⌜ r ≡ trackAt (now (ring .entry)) ⌝ }
+{
+    track_of(
+        layout::get_u64(ring, 0),
+        layout::get_u64(ring, 8),
+        layout::get_u64(ring, 16),
+        layout::get_u64(ring, 24),
+        layout::get_u64(ring, 32),
+        layout::get_u64(ring, 40),
+        layout::get_u64(ring, 48),
+        layout::get_u64(ring, 56),
+        layout::get_u64(ring, 64),
+        layout::get_u32(ring, 72),
+        layout::get_u32(ring, 76),
+    )
+}
+
+// The same of a store that is long enough, with no test at each field: a turn is made of little else.
+pub(crate) fn get_track(ring: &[u8]) -> Track
+    requires { ⌜ 592 ≤ length (now ring) ⌝ }
+    ensures { λ r. ⌜ r ≡ trackAt (now (ring .entry)) ⌝ }
+{
+    track_of(
+        word(ring, 0),
+        word(ring, 8),
+        word(ring, 16),
+        word(ring, 24),
+        word(ring, 32),
+        word(ring, 40),
+        word(ring, 48),
+        word(ring, 56),
+        word(ring, 64),
+        half(ring, 72),
+        half(ring, 76),
+    )
+}
+
+// A track written over a store's.
+pub(crate) fn put_track(ring: &mut [u8], t: Track)
+    requires { ⌜ 592 ≤ length (now ring) ⌝ }
+    ensures { λ _. ⌜ now (ring .exit) ≡ sets (now (ring .entry)) 0 (write trackRow (trackValues t)) ⌝ }
+{
+    let flag = flag_of(t.running);
+    put_word(ring, 0, t.per as u64);
+    put_word(ring, 8, t.head as u64);
+    put_word(ring, 16, t.tail as u64);
+    put_word(ring, 24, t.held as u64);
+    put_word(ring, 32, t.total as u64);
+    put_word(ring, 40, t.period as u64);
+    put_word(ring, 48, t.next as u64);
+    put_word(ring, 56, t.budget);
+    put_word(ring, 64, t.turns);
+    put_half(ring, 72, t.stream);
+    put_half(ring, 76, flag);
+}
+
+// A slot written over a store's. There are 32: no other is stored.
+fn put_slot(ring: &mut [u8], slot: usize, carried: Slot)
+    ensures { λ _. ⌜ now (ring .exit) ≡ slotOver (now (ring .entry)) slot carried ⌝ }
+{
+    if SLOTS <= slot {
+        return;
+    }
+    let at = TRACK + slot * SLOT;
+    layout::put_u64(ring, at, carried.offset as u64);
+    layout::put_u64(ring, at + 8, carried.len as u64);
+}
+
+// What a turn submitted, written in its slot.
+pub(crate) fn put_sent(ring: &mut [u8], sent: Sent)
+    ensures { λ _. ⌜ now (ring .exit) ≡ sentOver (now (ring .entry)) sent ⌝ }
+{
+    match sent {
+        Sent::Nothing => {}
+        Sent::Period { slot, offset, len } => put_slot(ring, slot, Slot { offset, len }),
+    }
+}
+
+// Every slot blank.
+pub(crate) fn put_blanks(ring: &mut [u8])
+    ensures { λ _. ⌜ now (ring .exit) ≡ blankOver (now (ring .entry)) ⌝ }
+{
+    let mut i = 0;
+    while i < SLOTS {
+        put_slot(ring, i, Slot { offset: 0, len: 0 });
+        i += 1;
+    }
+}
+
+// What a slot carries; a number that is no slot's carries nothing.
+pub(crate) fn get_slot(ring: &[u8], slot: usize) -> Slot
+    ensures { λ r. ⌜ r ≡ getD (ringOf (now (ring .entry)) .slots) slot blankSlot ⌝ }
+{
+    if SLOTS <= slot {
+        return Slot { offset: 0, len: 0 };
+    }
+    let from = TRACK + slot * SLOT;
+    let offset = layout::get_u64(ring, from);
+    let len = layout::get_u64(ring, from + 8);
+    Slot {
+        offset: offset as usize,
+        len: len as usize,
+    }
+}
