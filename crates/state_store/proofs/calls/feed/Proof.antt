@@ -1,0 +1,64 @@
+-- `state_store::calls::feed` meets its contract: the lengths, then the answer. Assumes nothing.
+use mathlib.Core.Path.{sym, ap, _∙_}
+use borrow.Author.Tests.{not-true, not-false}
+use Rattle.state_store.specs.Flat.{wholeFlat}
+use Rattle.state_store.specs.Store.{coreOf}
+use Rattle.state_store.specs.declared.flat.Head.{Head}
+use Rattle.state_store.specs.FinishLaws.{long-state, long-message, feed-unread, feed-short, fed}
+use borrow.Author.Needs.{needs}
+use Rattle.state_store.proofs.calls.feed.Statement.{statement}
+use Rattle.state_store.proofs.calls.feed.Tie as tie
+
+returns : tie.Need-returns
+returns c =
+    let a = c .before .before .before .before .before .before .args in
+    feed-unread (a .state .now) (a .message .now) (a .result .now) (a .page .now) (sym (c .before .both .ensures) ∙ not-true _ (c .if1 .taken))
+
+returns-2 : tie.Need-returns-2
+returns-2 c =
+    let d = c .before .before in
+    let a = d .before .before .before .before .before .before .args in
+    feed-short (a .state .now) (a .message .now) (a .result .now) (sym (d .before .both .ensures) ∙ not-false _ (d .if1 .left)) (a .page .now)
+    (λ k. (d .before .before .before .before .before .slice-known .given k) .fits) (sym (c .before .both2 .ensures) ∙ not-true _ (c .if2 .taken))
+
+finish-requires : tie.Need-finish-requires
+finish-requires c κs =
+    let d = c .before .before .before .before .before .before .before .before .before .before .before in
+    let e = d .before .before in
+    let a = e .before .before .before .before .before .before .args in (
+      long-state (a .state .now) (a .result .now) (sym (e .before .both .ensures) ∙ not-false _ (e .if1 .left)),
+      long-message (a .page .now) (a .message .now) (sym (d .before .both2 .ensures) ∙ not-false _ (d .if2 .left)),
+    )
+
+returns-3 : tie.Need-returns-3
+returns-3 c =
+    let f = c .before .before .before .before .before .before in
+    let w = f .before .before .before in
+    let h = w .before .before .before .before .before .before .before in
+    let e = h .before .before in
+    let d = e .before .before in
+    let a = d .before .before .before .before .before .before .args in
+    f .finish .ensures
+    ∙ fed (a .state .now) (a .message .now) (a .result .now) (sym (d .before .both .ensures) ∙ not-false _ (d .if1 .left))
+    (w .is-whole .ensures ∙ ap (λ (h : Head). wholeFlat (h .flat)) (h .get-head .ensures)) (w .before .before .before .before .before .before .core-of .ensures ∙ ap coreOf (h .get-head .ensures)) (a .page .now)
+    (sym (e .before .both2 .ensures) ∙ not-false _ (e .if2 .left)) (w .before .before .before .before .before .verdict-by .ensures) (w .before .before .before .pending-look .ensures) (w .before .before .answer .ensures)
+
+pub feed-spec : {M : Type 1} → statement M
+feed-spec =
+    tie.close
+    (tie.spec
+    (λ c κs. tt)
+    returns
+    (λ c κs. tt)
+    returns-2
+    (λ c κs. tt)
+    (λ c κs. tt)
+    (λ c κs. tt)
+    (λ c κs. tt)
+    (λ c κs. tt)
+    (λ c κs. tt)
+    finish-requires
+    (λ c. search needs)
+    (λ c. search needs)
+    (λ c. search needs)
+    returns-3)

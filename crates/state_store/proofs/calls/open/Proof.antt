@@ -1,0 +1,85 @@
+-- `state_store::calls::open` meets its contract: by what the checks come to. Assumes nothing.
+use mathlib.Core.Path.{sym, ap, _∙_}
+use Rattle.state_store.specs.Flat.{wholeFlat}
+use Rattle.state_store.specs.Store.{coreOf}
+use Rattle.state_store.specs.declared.flat.Head.{Head}
+use Rattle.state_store.specs.Calls.{opened}
+use Rattle.state_store.specs.FinishLaws.{settingUpBy}
+use Rattle.state_store.specs.OpenLaws.{gated, set-up-long, opens}
+use Rattle.state_store.specs.declared.calls.Opening.the-variants.{Says, Open}
+use Rattle.exchange.specs.declared.xfer.Gate.the-variants as gate
+use Rattle.state_store.specs.StoreLaws.{core-at}
+use Prim.Native.Nat.{ℕ}
+use borrow.Author.Needs.{needs}
+use Rattle.state_store.proofs.calls.open.Statement.{statement}
+use Rattle.state_store.proofs.calls.open.Tie as tie
+
+set-up-requires : tie.Need-set-up-requires
+set-up-requires c κs =
+    let x = c .before .before .before .before in
+    let a = x .before .before .before .before .before .before .before .before .before .before .args in
+    let s = a .state .now in
+    let m = a .message .now in
+    let t = a .t in
+    let stream = a .stream in
+    let g = gated s m t stream (x .before .both .ensures) (x .before .before .before .before .before .core-of .ensures ∙ ap coreOf (x .before .before .before .before .before .before .get-head .ensures)) (x .before .before .params-at .ensures) (x .xfer-gate .ensures) in
+    set-up-long s m t stream (sym (c .before .before .enum-told .given .1) ∙ g)
+
+returns : tie.Need-returns
+returns c =
+    let x = c .before .before .before .before in
+    let a = x .before .before .before .before .before .before .before .before .before .before .args in
+    let s = a .state .now in
+    let m = a .message .now in
+    let t = a .t in
+    let stream = a .stream in
+    let g = gated s m t stream (x .before .both .ensures) (x .before .before .before .before .before .core-of .ensures ∙ ap coreOf (x .before .before .before .before .before .before .get-head .ensures)) (x .before .before .params-at .ensures) (x .xfer-gate .ensures) in
+    ap (λ (n : ℕ). opened (Says n) s m) (c .number .ensures) ∙ opens s m t stream (gate.Shut _) (sym (c .before .before .gate .given .1) ∙ g)
+
+returns-2 : tie.Need-returns-2
+returns-2 c =
+    let x = c .before .before .before .before .before .before .before .before .before in
+    let a = x .before .before .before .before .before .before .before .before .before .before .args in
+    let s = a .state .now in
+    let m = a .message .now in
+    let t = a .t in
+    let stream = a .stream in
+    let g = gated s m t stream (x .before .both .ensures) (x .before .before .before .before .before .core-of .ensures ∙ ap coreOf (x .before .before .before .before .before .before .get-head .ensures)) (x .before .before .params-at .ensures) (x .xfer-gate .ensures) in
+    c .before .before .before .before .set-up .ensures
+    ∙ (λ i. settingUpBy ((x .before .before .before .before .is-whole .ensures ∙ ap (λ (h : Head). wholeFlat (h .flat)) (x .before .before .before .before .before .before .get-head .ensures)) i) ((x .before .before .before .before .before .core-of .ensures ∙ ap coreOf (x .before .before .before .before .before .before .get-head .ensures) ∙ sym (core-at s)) i) s stream m)
+    ∙ opens s m t stream gate.SetUp (sym (c .before .before .before .before .before .before .before .enum-told .given .1) ∙ g)
+
+returns-3 : tie.Need-returns-3
+returns-3 c =
+    let x = c .before .before .before in
+    let a = x .before .before .before .before .before .before .before .before .before .before .args in
+    let s = a .state .now in
+    let m = a .message .now in
+    let t = a .t in
+    let stream = a .stream in
+    let g = gated s m t stream (x .before .both .ensures) (x .before .before .before .before .before .core-of .ensures ∙ ap coreOf (x .before .before .before .before .before .before .get-head .ensures)) (x .before .before .params-at .ensures) (x .xfer-gate .ensures) in
+    opens s m t stream (gate.Open _) (sym (c .before .gate2 .given .1) ∙ g)
+
+pub open-spec : {M : Type 1} → statement M
+open-spec =
+    tie.close
+    (tie.spec
+    (λ c κs. tt)
+    (λ c κs. tt)
+    (λ c κs. tt)
+    (λ c κs. tt)
+    (λ c κs. tt)
+    (λ c κs. tt)
+    (λ c. search needs)
+    (λ c κs. tt)
+    (λ c. search needs)
+    (λ c. search needs)
+    set-up-requires
+    (λ c. search needs)
+    (λ c. search needs)
+    returns
+    (λ c. search needs)
+    (λ c. search needs)
+    returns-2
+    (λ c. search needs)
+    returns-3)

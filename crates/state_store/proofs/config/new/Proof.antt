@@ -1,0 +1,18 @@
+-- `state_store::config::new` meets its contract: the core, then zeros. Assumes nothing.
+use Rattle.state_store.specs.NewLaws.{new-short, new-made}
+use borrow.Author.Needs.{needs}
+use Rattle.state_store.proofs.config.new.Statement.{statement}
+use Rattle.state_store.proofs.config.new.Tie as tie
+
+returns : tie.Need-returns
+returns c = let a = c .before .before .args in new-short (a .state .now) (a .jacks) (a .streams) (a .chmaps) (c .if1 .taken)
+
+returns-2 : tie.Need-returns-2
+returns-2 c =
+    let d = c .before .before .before .before .before .before in
+    let t = d .before .before in
+    let a = t .before .before .args in
+    new-made (a .state .now) (a .jacks) (a .streams) (a .chmaps) (t .if1 .left) (d .put-core .ensures) (c .before .before .clear .ensures)
+
+pub new-spec : {M : Type 1} → statement M
+new-spec = tie.close (tie.spec returns (λ c κs. tt) (λ c κs. search needs) (λ c. search needs) returns-2)

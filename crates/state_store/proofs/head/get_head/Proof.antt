@@ -1,0 +1,54 @@
+-- `state_store::head::get_head` meets its contract: the list of its reads, in the layout's order. Assumes nothing.
+use mathlib.Core.Path.{ap}
+use Rattle.layout.specs.ChainLaws.{got}
+use Rattle.layout.specs.ChainLaws.Got.{get, end}
+use Rattle.state_store.specs.Store.{headRow, headFrom, headAt}
+use Rattle.state_store.proofs.head.get_head.Statement.{statement}
+use Rattle.state_store.proofs.head.get_head.Tie as tie
+
+returns : tie.Need-returns
+unfolding headAt
+returns c =
+    let c17 = c .before in
+    let c16 = c17 .before in
+    let c15 = c16 .before in
+    let c14 = c15 .before in
+    let c13 = c14 .before in
+    let c12 = c13 .before in
+    let c11 = c12 .before in
+    let c10 = c11 .before in
+    let c9 = c10 .before in
+    let c8 = c9 .before in
+    let c7 = c8 .before in
+    let c6 = c7 .before in
+    let c5 = c6 .before in
+    let c4 = c5 .before in
+    let c3 = c4 .before in
+    let c2 = c3 .before in
+    let c1 = c2 .before in
+    ap headFrom (got (c1 .before .before .args .s .now) 0 headRow _
+    (get (c1 .get-u32 .ensures) (get (c2 .get-u322 .ensures) (get (c3 .get-u323 .ensures) (get (c4 .get-u324 .ensures) (get (c5 .get-u325 .ensures) (get (c6 .get-u326 .ensures) (get (c7 .get-u8 .ensures) (get (c8 .get-u82 .ensures) (get (c9 .get-u83 .ensures) (get (c10 .get-u84 .ensures) (get (c11 .get-u327 .ensures) (get (c12 .get-u328 .ensures) (get (c13 .get-u329 .ensures) (get (c14 .get-u3210 .ensures) (get (c15 .get-u85 .ensures) (get (c16 .get-u86 .ensures) (get (c17 .get-u87 .ensures) (get (c .get-u88 .ensures) end)))))))))))))))))))
+
+pub get-head-spec : {M : Type 1} → statement M
+get-head-spec =
+    tie.close
+    (tie.spec
+    (λ c κs. tt)
+    (λ c κs. tt)
+    (λ c κs. tt)
+    (λ c κs. tt)
+    (λ c κs. tt)
+    (λ c κs. tt)
+    (λ c κs. tt)
+    (λ c κs. tt)
+    (λ c κs. tt)
+    (λ c κs. tt)
+    (λ c κs. tt)
+    (λ c κs. tt)
+    (λ c κs. tt)
+    (λ c κs. tt)
+    (λ c κs. tt)
+    (λ c κs. tt)
+    (λ c κs. tt)
+    (λ c κs. tt)
+    returns)

@@ -1,0 +1,29 @@
+-- `state_store::place::look` meets its contract, case by case. Assumes nothing.
+use borrow.Author.Needs.{needs}
+use Rattle.state_store.proofs.place.look.Statement.{statement}
+use Rattle.state_store.proofs.place.look.Tie as tie
+
+returns-3 : tie.Need-returns-3
+returns-3 c = rw (c .before .before .call .given .1) (c .jack-features .ensures)
+
+returns-5 : tie.Need-returns-5
+returns-5 c = rw (c .before .before .call2 .given .1) (c .stream-field .ensures)
+
+pub look-spec : {M : Type 1} → statement M
+look-spec =
+    tie.close
+    (tie.spec
+    (λ c. search needs)
+    (λ c. search needs)
+    (λ c. search needs)
+    (λ c κs. search needs)
+    (λ c. search needs)
+    (λ c. search needs)
+    (λ c κs. search needs)
+    (λ c. search needs)
+    (λ c. search needs)
+    (λ c. search needs)
+    returns-3
+    (λ c. search needs)
+    returns-5
+    (λ c. search needs))

@@ -1,0 +1,140 @@
+-- The calls on a state that stands in a lent byte store: the call by value on the state that the store holds, and the state that it leaves, written
+-- over it. A store under 14,304 bytes, or a result slice under 512, gets 10 and nothing is looked at.
+-- Assumes nothing.
+use mathlib.Core.Bool.{Bool, _&&_}
+use mathlib.Core.List.{List, [], _∷_, _++_}
+use Prim.Native.Nat.{ℕ, _+_}
+use lib.Dec.{leb}
+use lib.ListN.{length, take}
+use lib.Seq.{sets}
+use Rattle.layout.specs.Bytes.{le}
+use Rattle.layout.specs.Layout.{write}
+use Rattle.layout.specs.Rows.{rowsBytes}
+use Rattle.codes.specs.Says.{guard}
+use Rattle.codes.specs.Answers.{saysRefusal}
+use Rattle.codes.specs.declared.answers.Refusal.{Refusal}
+use Rattle.turns.specs.declared.ring.Track.{Track}
+use Rattle.exchange.specs.State.{newSound}
+use Rattle.exchange.specs.Consistent.{consistentOf}
+use Rattle.exchange.specs.Plan.{soundAfter}
+use Rattle.exchange.specs.Exchange.{saysReply, messageAfter, stepOf, callOf, feedOf, failOf}
+use Rattle.exchange.specs.Xfer.{xferBy, setUpPlan}
+use Rattle.exchange.specs.declared.state.Call.{Call}
+use Rattle.exchange.specs.declared.state.Counts.{Counts}
+use Rattle.exchange.specs.declared.plan.Value.{Value}
+use Rattle.exchange.specs.declared.plan.Value.the-variants as value
+use Rattle.exchange.specs.declared.plan.Plan.{Plan}
+use Rattle.exchange.specs.declared.calls.Reply.{Reply}
+use Rattle.exchange.specs.declared.calls.Reply.the-variants as reply
+use Rattle.exchange.specs.declared.calls.StreamList.{StreamList}
+use Rattle.state_store.specs.Store.{soundOf, soundBytes, stateAfter}
+use Rattle.state_store.specs.declared.calls.Opening.{Opening}
+use Rattle.state_store.specs.declared.calls.Opening.the-variants.{Says, Open}
+
+-- an answer by its number, and what state, message and result hold then
+pub record Told : Type 0 where
+  pub answer : ℕ
+  pub state : List ℕ
+  pub message : List ℕ
+  pub result : List ℕ
+
+abbrev pub left : ℕ → List ℕ → List ℕ → List ℕ → Told
+left a s m r = record { answer = a; state = s; message = m; result = r }
+
+-- ---- a result: a number in 8 bytes; a range as min 1, max 1; a list of streams as its count 4, then each id 4
+
+abbrev pub valueBytes : Value → StreamList → List ℕ
+valueBytes value.Nothing l = []
+valueBytes (value.Number x) l = le 8 x
+valueBytes (value.Range min max) l = write (1 ∷ 1 ∷ []) (min ∷ max ∷ [])
+valueBytes (value.Streams direction) l = le 4 (l .count) ++ rowsBytes (le 4) (take (l .count) (l .ids))
+
+abbrev pub resultBytes : Reply → StreamList → List ℕ
+resultBytes (reply.Send n) l = []
+resultBytes (reply.Done v) l = valueBytes v l
+resultBytes (reply.Refused r) l = []
+
+-- ---- a plan, carried out on the store
+
+abbrev pub told : List ℕ → Plan → List ℕ → List ℕ → List ℕ → Told
+told s p page m r =
+    let x = stepOf p (soundOf s) page in
+    record {
+      answer = saysReply (x .reply) .number;
+      state = stateAfter s (x .sound);
+      message = messageAfter (p .say) m;
+      result = sets r 0 (resultBytes (x .reply) (x .streams));
+    }
+
+abbrev pub tooShort : List ℕ → List ℕ → List ℕ → Told
+tooShort s m r = record { answer = 10; state = s; message = m; result = r }
+
+abbrev pub lengths : List ℕ → List ℕ → Bool
+lengths s r = leb 14304 (length s) && leb 512 (length r)
+
+unfoldable pub callIn : List ℕ → Track → Call → List ℕ → List ℕ → Told
+callIn s t call m r = guard (lengths s r) (told s (callOf (soundOf s) t call (length m)) [] m r) (tooShort s m r)
+
+unfoldable pub feedIn : List ℕ → List ℕ → List ℕ → List ℕ → Told
+feedIn s page m r = guard (lengths s r) (told s (feedOf (soundOf s) page (length m)) page m r) (tooShort s m r)
+
+unfoldable pub failIn : List ℕ → List ℕ → List ℕ → Told
+failIn s m r = guard (lengths s r) (told s (failOf (soundOf s) (length m)) [] m r) (tooShort s m r)
+
+-- ---- the start of a transfer, as far as the state goes: an answer, or a transfer by periods that the ring is to start
+
+pub record Opened : Type 0 where
+  pub opening : Opening
+  pub state : List ℕ
+  pub message : List ℕ
+
+abbrev pub opened : Opening → List ℕ → List ℕ → Opened
+opened o s m = record { opening = o; state = s; message = m }
+
+abbrev pub shut : List ℕ → List ℕ → Refusal → Opened
+shut s m x = record { opening = Says (saysRefusal x .number); state = s; message = m }
+
+abbrev pub settingUp : List ℕ → ℕ → List ℕ → Opened
+settingUp s stream m =
+    let p = setUpPlan (soundOf s) stream in
+    record { opening = Says (256 + 16); state = stateAfter s (soundAfter (p .effect) (p .core) (soundOf s) []); message = messageAfter (p .say) m }
+
+unfoldable pub openIn : List ℕ → Track → ℕ → List ℕ → Opened
+openIn s t stream m =
+    xferBy (leb 14304 (length s) && leb 24 (length m)) (soundOf s) t stream (shut s m) (settingUp s stream m)
+    (λ period. record { opening = Open period; state = s; message = m })
+
+-- ---- a new state, and the reads of the configured counts: 1 for a state that fails the consistency test
+
+pub record Made : Type 0 where
+  pub answer : ℕ
+  pub state : List ℕ
+
+abbrev pub newIn : List ℕ → ℕ → ℕ → ℕ → Made
+newIn s jacks streams maps = guard (leb 14304 (length s)) (record { answer = 0; state = sets s 0 (soundBytes (newSound jacks streams maps)) }) (record { answer = 10; state = s })
+
+abbrev pub made : ℕ → List ℕ → Made
+made a s = record { answer = a; state = s }
+
+pub record Shown : Type 0 where
+  pub answer : ℕ
+  pub result : List ℕ
+
+abbrev pub shown : ℕ → List ℕ → Shown
+shown a r = record { answer = a; result = r }
+
+abbrev pub jackCount : Counts → ℕ
+jackCount n = n .jacks
+
+abbrev pub streamCount : Counts → ℕ
+streamCount n = n .streams
+
+abbrev pub mapCount : Counts → ℕ
+mapCount n = n .maps
+
+unfoldable pub countIn : List ℕ → (Counts → ℕ) → List ℕ → Shown
+countIn s count r =
+    let c = soundOf s .core in
+    guard (lengths s r)
+    (guard (consistentOf c) (record { answer = 0; result = sets r 0 (le 8 (count (c .counts))) }) (record { answer = 1; result = r }))
+    (record { answer = 10; result = r })

@@ -1,0 +1,166 @@
+-- A plan, carried out on a store by parts: the laws for the code that goes from the head to the plan, and from the plan to what is left.
+-- Assumes nothing.
+use mathlib.Core.Path.{_≡_, refl, sym, ap, _∙_}
+use mathlib.Core.Bool.{Bool, true, false, _&&_}
+use mathlib.Core.List.{List, []}
+use Prim.Native.Nat.{ℕ, _+_, _≤_}
+use native.Mathlib.Omega.{arith}
+use lib.Dec.{leb, eqb}
+use lib.ListN.{length}
+use lib.Seq.{sets}
+use borrow.Author.Tests.{le-leb, leb-true}
+use Rattle.layout.specs.Bytes.{Bytes}
+use Rattle.layout.specs.LayoutLaws.{length-write}
+use Rattle.codes.specs.Says.{pick, guard}
+use Rattle.codes.specs.SaysLaws.{picks, skips, passes, stops}
+use Rattle.codes.specs.Answers.{saysAnswer}
+use Rattle.codes.specs.Answers as answers
+use Rattle.codes.specs.declared.answers.Answer.{Answer}
+use Rattle.codes.specs.declared.answers.Answer.the-variants as answer
+use Rattle.codes.specs.declared.answers.Refusal.the-variants.{BadLength}
+use Rattle.records.specs.Records.{query, queryValues, remap, remapValues, pcmCommand, pcmCommandValues, setParameters, setParametersValues}
+use Rattle.turns.specs.ConsistentLaws.{both}
+use Rattle.turns.specs.declared.ring.Track.{Track}
+use Rattle.tables.specs.declared.verdict.Verdict.{Verdict}
+use Rattle.tables.specs.declared.verdict.Verdict.the-variants.{Failed}
+use Rattle.exchange.specs.Plan.{keepOf, queryOf, sendOf, lookOf, beginOf, answerOf, verdictBy, pendingLook, soundAfter}
+use Rattle.exchange.specs.Exchange.{saysReply, requestBytes, messageAfter, replyOf, tellOf, toldIn, listOf, callOf, feedOf, failOf}
+use Rattle.exchange.specs.declared.state.Call.{Call}
+use Rattle.exchange.specs.declared.state.Call.the-variants.{Xfer}
+use Rattle.exchange.specs.declared.state.Stage.the-variants.{JacksAsked}
+use Rattle.exchange.specs.declared.state.Core.{Core}
+use Rattle.exchange.specs.declared.plan.Request.{Request}
+use Rattle.exchange.specs.declared.plan.Request.the-variants as request
+use Rattle.exchange.specs.declared.plan.Say.{Say}
+use Rattle.exchange.specs.declared.plan.Say.the-variants.{Send, Done, Refused}
+use Rattle.exchange.specs.declared.plan.Effect.{Effect}
+use Rattle.exchange.specs.declared.plan.Effect.the-variants.{Nothing}
+use Rattle.exchange.specs.declared.plan.Plan.{Plan}
+use Rattle.state_store.specs.Store.{headAt, coreOf, whole, soundOf, soundBytes}
+use Rattle.state_store.specs.Calls.{Told, left, told, tooShort, lengths, resultBytes, callIn, feedIn, failIn, Opened, opened}
+use Rattle.state_store.specs.declared.calls.Opening.the-variants.{Says}
+use Rattle.state_store.specs.StoreLaws.{core-at}
+use Rattle.state_store.specs.RefusedLaws.{state-kept}
+
+-- ---- a plan carried out, by whether the store is whole
+
+abbrev pub changed : Bool → List ℕ → Effect → Core → List ℕ → List ℕ
+changed w s e c page = pick w (sets s 0 (soundBytes (soundAfter e c (soundOf s) page))) s
+
+abbrev pub finished : Bool → List ℕ → Plan → List ℕ → List ℕ → List ℕ → Told
+finished w s p page m r =
+    left (saysReply (replyOf (p .say)) .number) (changed w s (p .effect) (p .core) page) (messageAfter (p .say) m)
+    (sets r 0 (resultBytes (replyOf (p .say)) (listOf (p .say) (p .core .read .streams) (soundOf s .pcms))))
+
+module _ (w : Bool) (s : List ℕ) (e : Effect) (c : Core) (page : List ℕ) where
+  pub change-none : w ≡ false → s ≡ changed w s e c page
+  change-none h = sym (skips w _ s h)
+
+  pub change-all : {l : List ℕ} → w ≡ true → l ≡ sets s 0 (soundBytes (soundAfter e c (soundOf s) page)) → l ≡ changed w s e c page
+  change-all h p = p ∙ sym (picks w _ s h)
+
+-- a transfer that waits for set-up, by the core at hand
+abbrev pub settingUpBy : Bool → Core → List ℕ → ℕ → List ℕ → Opened
+settingUpBy w c s stream m =
+    let p = sendOf c (JacksAsked (Xfer stream)) (queryOf 0x0001 (c .counts .jacks) 24) Nothing in
+    opened (Says (256 + 16)) (changed w s (p .effect) (p .core) []) (messageAfter (p .say) m)
+
+-- the number of a reply: at most 256 and the longest request
+request-small : (q : Request) → length (requestBytes q) ≤ 24
+request-small (request.Query q) = omega (arith, length-write query (queryValues q))
+request-small (request.Remap q) = omega (arith, length-write remap (remapValues q))
+request-small (request.Command q) = omega (arith, length-write pcmCommand (pcmCommandValues q))
+request-small (request.Set q) = omega (arith, length-write setParameters (setParametersValues q))
+
+answer-small : (a : Answer) → saysAnswer a .number ≤ 280
+answer-small answer.Ok = omega arith
+answer-small answer.InvalidParam = omega arith
+answer-small answer.IoError = omega arith
+answer-small answer.Unsupported = omega arith
+answer-small answer.NoInfo = omega arith
+answer-small answer.TooMany = omega arith
+answer-small answer.WrongToken = omega arith
+answer-small answer.QueueFailed = omega arith
+answer-small answer.Busy = omega arith
+answer-small answer.OutOfTurns = omega arith
+answer-small answer.BadLength = omega arith
+
+pub reply-small : (a : Say) → saysReply (replyOf a) .number ≤ 280
+reply-small (Send q) = omega (arith, request-small q)
+reply-small (Done v) = omega arith
+reply-small (Refused r) = answer-small (answers.answerOf r)
+
+-- what is told in a message that is long enough
+module _ (a : Say) (m : List ℕ) (l : 24 ≤ length m) where
+  pub tells : tellOf a (length m) ≡ replyOf a
+  tells = picks _ _ _ (le-leb 24 (length m) l)
+
+  pub says-in : toldIn a m ≡ messageAfter a m
+  says-in = picks _ _ _ (le-leb 24 (length m) l)
+
+-- ---- lengths
+
+pub long-state : (s r : List ℕ) → lengths s r ≡ true → 14304 ≤ length s
+long-state s r e = leb-true 14304 (length s) (both (leb 14304 (length s)) (leb 512 (length r)) e .0)
+
+pub long-message : (page m : List ℕ) → (eqb (length page) 4096 && leb 24 (length m)) ≡ true → 24 ≤ length m
+long-message page m e = leb-true 24 (length m) (both (eqb (length page) 4096) (leb 24 (length m)) e .1)
+
+-- ---- from the head to the plan
+
+too-short : (s m r : List ℕ) (x : Told) → lengths s r ≡ false → left 10 s m r ≡ guard (lengths s r) x (tooShort s m r)
+too-short s m r x e = stops _ _ _ e refl
+
+module _ (s m r : List ℕ) where
+  pub call-unread : (t : Track) (call : Call) → lengths s r ≡ false → left 10 s m r ≡ callIn s t call m r
+  unfolding callIn
+  call-unread t call e = too-short s m r _ e
+
+  pub feed-unread : (page : List ℕ) → lengths s r ≡ false → left 10 s m r ≡ feedIn s page m r
+  unfolding feedIn
+  feed-unread page e = too-short s m r _ e
+
+  pub fail-unread : lengths s r ≡ false → left 10 s m r ≡ failIn s m r
+  unfolding failIn
+  fail-unread e = too-short s m r _ e
+
+  short : (page : List ℕ) → Bytes s → left 10 s m r ≡ told s (keepOf (soundOf s .core) BadLength) page m r
+  short page b = ap (λ (t : List ℕ). left 10 t m r) (sym (state-kept s m r b (whole s) refl))
+
+  module _ (l : lengths s r ≡ true) where
+    pub call-short : (t : Track) (call : Call) → Bytes s → leb 24 (length m) ≡ false → left 10 s m r ≡ callIn s t call m r
+    unfolding callIn callOf
+    call-short t call b e = passes _ _ _ l (short [] b ∙ ap (λ (p : Plan). told s p [] m r) (stops _ _ _ e refl))
+
+    pub feed-short : (page : List ℕ) → Bytes s → (eqb (length page) 4096 && leb 24 (length m)) ≡ false → left 10 s m r ≡ feedIn s page m r
+    unfolding feedIn feedOf
+    feed-short page b e = passes _ _ _ l (short page b ∙ ap (λ (p : Plan). told s p page m r) (stops _ _ _ e refl))
+
+    pub fail-short : Bytes s → leb 24 (length m) ≡ false → left 10 s m r ≡ failIn s m r
+    unfolding failIn failOf
+    fail-short b e = passes _ _ _ l (short [] b ∙ ap (λ (p : Plan). told s p [] m r) (stops _ _ _ e refl))
+
+    module _ {w : Bool} {c : Core} (v : w ≡ whole s) (d : c ≡ coreOf (headAt s)) where
+      at-core : c ≡ soundOf s .core
+      at-core = d ∙ sym (core-at s)
+
+      done : (page : List ℕ) {p q : Plan} → p ≡ q → finished w s p page m r ≡ told s q page m r
+      done page e = λ i. finished (v i) s (e i) page m r
+
+      pub called : (t : Track) (call : Call) {k : ℕ} {p : Plan} → leb 24 (length m) ≡ true → k ≡ lookOf (soundOf s) call → p ≡ beginOf c t call k → finished w s p [] m r ≡ callIn s t call m r
+      unfolding callIn callOf
+      called t call e k p = passes _ _ _ l (done [] (passes _ _ _ e (p ∙ (λ i. beginOf (at-core i) t call (k i)))))
+
+      pub fed : (page : List ℕ) {x : Verdict} {k : ℕ} {p : Plan} → (eqb (length page) 4096 && leb 24 (length m)) ≡ true → x ≡ verdictBy (c .stage) (c .counts) page
+          → k ≡ pendingLook (c .stage) (soundOf s) → p ≡ answerOf c x k → finished w s p page m r ≡ feedIn s page m r
+      unfolding feedIn feedOf
+      fed page e x k p =
+          passes _ _ _ l
+          (done page (passes _ _ _ e (p ∙ (λ i. answerOf c (x i) (k i))
+          ∙ ap (λ (z : Core). answerOf z (verdictBy (z .stage) (z .counts) page) (pendingLook (z .stage) (soundOf s))) at-core)))
+
+      pub failed : {k : ℕ} {p : Plan} → leb 24 (length m) ≡ true → k ≡ pendingLook (c .stage) (soundOf s) → p ≡ answerOf c Failed k → finished w s p [] m r ≡ failIn s m r
+      unfolding failIn failOf
+      failed e k p =
+          passes _ _ _ l
+          (done [] (passes _ _ _ e (p ∙ ap (answerOf c Failed) k ∙ ap (λ (z : Core). answerOf z Failed (pendingLook (z .stage) (soundOf s))) at-core)))

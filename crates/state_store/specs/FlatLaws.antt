@@ -1,0 +1,117 @@
+-- A stage and its fields: each is had back from the other, where the fields are whole.
+-- Assumes nothing.
+use mathlib.Core.Path.{_≡_, refl, sym, ap, ap₂, _∙_}
+use mathlib.Core.Bool.{Bool, true, false, not, _&&_, false≢true}
+use mathlib.Core.List.{List, [], _∷_}
+use Prim.Native.Nat.{ℕ}
+use lib.Dec.{eqb}
+use lib.ListN.{drop}
+use borrow.Author.Tests.{eq-eqb, eqb-true}
+use Rattle.codes.specs.Says.{pick}
+use Rattle.codes.specs.SaysLaws.{picks}
+use Rattle.turns.specs.ConsistentLaws.{both}
+use Rattle.exchange.specs.declared.state.Kind.{Kind}
+use Rattle.exchange.specs.declared.state.Kind.the-variants.{Prepare, Release, Start, Stop}
+use Rattle.exchange.specs.declared.state.Field.{Field}
+use Rattle.exchange.specs.declared.state.Field.the-variants.{Rates, Formats, Channels, Features}
+use Rattle.exchange.specs.declared.state.Call.{Call}
+use Rattle.exchange.specs.declared.state.Call.the-variants.{SetParams, Command, Remap, Streams, Supported, Xfer}
+use Rattle.exchange.specs.declared.state.Stage.{Stage}
+use Rattle.exchange.specs.declared.state.Stage.the-variants.{Idle, JacksAsked, StreamsAsked, MapsAsked, Sent}
+use Rattle.exchange.specs.declared.state.Core.{Core}
+use Rattle.state_store.specs.Flat.{flatValues, kindNumber, kindOf, fieldNumber, fieldOf, callFlat, staged, flatOf, flatCall, flatStage, flatReady, sameFlat, wholeFlat}
+use Rattle.state_store.specs.Store.{headFrom, headOf, coreOf}
+use Rattle.state_store.specs.declared.flat.Flat.{Flat}
+use Rattle.state_store.specs.declared.flat.Head.{Head}
+
+-- ---- a stage is had back from its fields
+
+kind-back : (k : Kind) → kindOf (kindNumber k) ≡ k
+kind-back Prepare = refl
+kind-back Release = refl
+kind-back Start = refl
+kind-back Stop = refl
+
+field-back : (f : Field) → fieldOf (fieldNumber f) ≡ f
+field-back Rates = refl
+field-back Formats = refl
+field-back Channels = refl
+field-back Features = refl
+
+module _ (ready : Bool) (n : ℕ) where
+  call-back : (call : Call) → flatCall (staged ready n (callFlat call)) ≡ call
+  call-back (SetParams stream to) = refl
+  call-back (Command kind stream) = ap (λ (k : Kind). Command k stream) (kind-back kind)
+  call-back (Remap jack association sequence) = refl
+  call-back (Streams direction) = refl
+  call-back (Supported field stream) = ap (λ (f : Field). Supported f stream) (field-back field)
+  call-back (Xfer stream) = refl
+
+module _ (ready : Bool) where
+  pub flat-stage : (g : Stage) → flatStage (flatOf ready g) ≡ g
+  flat-stage Idle = refl
+  flat-stage (JacksAsked call) = ap JacksAsked (call-back ready 1 call)
+  flat-stage (StreamsAsked call) = ap StreamsAsked (call-back ready 2 call)
+  flat-stage (MapsAsked call) = ap MapsAsked (call-back ready 3 call)
+  flat-stage (Sent call) = ap Sent (call-back ready 4 call)
+
+flag-back : (b : Bool) → not (eqb (pick b 1 0) 0) ≡ b
+flag-back true = refl
+flag-back false = refl
+
+pub flat-ready : (ready : Bool) (g : Stage) → flatReady (flatOf ready g) ≡ ready
+flat-ready ready Idle = flag-back ready
+flat-ready ready (JacksAsked call) = flag-back ready
+flat-ready ready (StreamsAsked call) = flag-back ready
+flat-ready ready (MapsAsked call) = flag-back ready
+flat-ready ready (Sent call) = flag-back ready
+
+-- ---- the test of wholeness
+
+eqb-self : (n : ℕ) → eqb n n ≡ true
+eqb-self n = eq-eqb n n refl
+
+same-self : (f : Flat) → sameFlat f f ≡ true
+unfolding sameFlat
+same-self f = simp eqb-self
+
+-- two lists that are not empty, value by value
+abbrev agree : ℕ → List ℕ → ℕ → List ℕ → Bool
+agree x [] y [] = eqb x y
+agree x [] y (v ∷ vs) = false
+agree x (u ∷ us) y [] = false
+agree x (u ∷ us) y (v ∷ vs) = eqb x y && agree u us v vs
+
+agree-true : (x : ℕ) (us : List ℕ) (y : ℕ) (vs : List ℕ) → agree x us y vs ≡ true → x ∷ us ≡ y ∷ vs
+agree-true x [] y [] e = ap (λ (n : ℕ). n ∷ []) (eqb-true x y e)
+agree-true x [] y (v ∷ vs) e = absurd (false≢true e)
+agree-true x (u ∷ us) y [] e = absurd (false≢true e)
+agree-true x (u ∷ us) y (v ∷ vs) e =
+    let h = both (eqb x y) (agree u us v vs) e in
+    ap₂ (λ (n : ℕ) (l : List ℕ). n ∷ l) (eqb-true x y (h .0)) (agree-true u us v vs (h .1))
+
+same-true : (f g : Flat) → sameFlat f g ≡ true → f ≡ g
+unfolding sameFlat
+same-true f g e =
+    ap (λ (vs : List ℕ). headFrom (0 ∷ 0 ∷ 0 ∷ 0 ∷ 0 ∷ 0 ∷ vs) .flat)
+    (agree-true (f .ready) (drop 1 (flatValues f)) (g .ready) (drop 1 (flatValues g)) e)
+
+-- the fields of a stage are whole
+pub flat-whole : (ready : Bool) (g : Stage) → wholeFlat (flatOf ready g) ≡ true
+unfolding wholeFlat
+flat-whole ready g = (λ i. sameFlat (flatOf ready g) (flatOf (flat-ready ready g i) (flat-stage ready g i))) ∙ same-self (flatOf ready g)
+
+-- fields that are whole are those of their stage
+pub flat-same : (f : Flat) → wholeFlat f ≡ true → flatOf (flatReady f) (flatStage f) ≡ f
+unfolding wholeFlat
+flat-same f e = sym (same-true f (flatOf (flatReady f) (flatStage f)) e)
+
+-- ---- a core and its head
+
+pub core-back : (c : Core) → coreOf (headOf c) ≡ c
+core-back c =
+    picks _ _ _ (flat-whole (c .ready) (c .stage))
+    ∙ (λ i. record { counts = c .counts; read = c .read; ready = flat-ready (c .ready) (c .stage) i; stage = flat-stage (c .ready) (c .stage) i })
+
+pub core-same : (h : Head) → wholeFlat (h .flat) ≡ true → headOf (coreOf h) ≡ h
+core-same h e = ap headOf (picks _ _ _ e) ∙ (λ i. record { counts = h .counts; read = h .read; flat = flat-same (h .flat) e i })

@@ -1,0 +1,18 @@
+-- The definitions of `state_store`.
+pub mod Flat
+pub mod Store
+pub mod Calls
+pub mod Effect
+pub mod HeadLaws
+pub mod FlatLaws
+pub mod TableLaws
+pub mod OverLaws
+pub mod PlaceLaws
+pub mod ListedLaws
+pub mod EffectLaws
+pub mod StoreLaws
+pub mod OpenLaws
+pub mod NewLaws
+pub mod WholeLaws
+pub mod RefusedLaws
+pub mod FinishLaws

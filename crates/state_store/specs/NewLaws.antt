@@ -1,0 +1,112 @@
+-- A new state is its core and 14,256 bytes of 0; and the laws for the reads of the configured counts.
+-- Assumes nothing.
+use mathlib.Core.Path.{_≡_, refl, sym, ap, _∙_}
+use mathlib.Core.Bool.{true, false}
+use mathlib.Core.List.{List, [], _∷_, _++_}
+use Prim.Native.Nat.{ℕ, zero, suc, _+_, _*_, _≤_, _<_}
+use native.Mathlib.Nat.{zero-add, suc-add, suc-mul, zero-mul, add-comm}
+use lib.ListN.{length, set, replicate}
+use lib.Seq.{sets}
+use borrow.Author.Tests.{le-leb, lt-leb}
+use Rattle.layout.specs.Bytes.{le}
+use Rattle.layout.specs.Rows.{rowsBytes}
+use Rattle.layout.specs.StoreLaws.{sets-then}
+use Rattle.codes.specs.Says.{guard}
+use Rattle.codes.specs.SaysLaws.{passes, stops}
+use Rattle.records.specs.BackLaws.{jackInfoOf, pcmInfoOf, channelMapOf}
+use Rattle.tables.specs.Tables.{noJacks, noStreams, noMaps}
+use Rattle.exchange.specs.State.{unset, newCore}
+use Rattle.exchange.specs.Consistent.{consistentOf}
+use Rattle.exchange.specs.declared.state.Counts.{Counts}
+use Rattle.exchange.specs.declared.state.Core.{Core}
+use Rattle.state_store.specs.Store.{jackBytes, pcmBytes, mapBytes, paramsBytes, headAt, coreOf, soundBytes}
+use Rattle.state_store.specs.Calls.{lengths, made, newIn, Shown, shown, countIn}
+use Rattle.state_store.specs.OverLaws.{headBytes, head-sized}
+use Rattle.state_store.specs.StoreLaws.{core-at}
+
+unfoldable pub zeros : ℕ → List ℕ
+zeros n = replicate n 0
+
+length-zeros : (n : ℕ) → length (zeros n) ≡ n
+unfolding zeros
+length-zeros zero = refl
+length-zeros (suc n) = ap suc (length-zeros n)
+
+zeros-add : (a b : ℕ) → zeros a ++ zeros b ≡ zeros (a + b)
+unfolding zeros
+zeros-add zero b = ap zeros (sym (zero-add b))
+zeros-add (suc a) b = ap (λ (l : List ℕ). 0 ∷ l) (zeros-add a b) ∙ ap zeros (sym (suc-add a b))
+
+-- a turn of the loop that clears
+pub zeros-more : (s : List ℕ) (o n : ℕ) (l : List ℕ) → l ≡ sets s o (zeros n) → set l (o + n) 0 ≡ sets s o (zeros (n + 1))
+unfolding zeros
+zeros-more s o n l e =
+    ap (λ (k : List ℕ). sets k (o + n) (0 ∷ [])) e
+    ∙ sets-then s o (o + n) (zeros n) (0 ∷ []) (ap (λ (k : ℕ). o + k) (sym (length-zeros n)))
+    ∙ ap (sets s o) (zeros-add n 1)
+
+pub zeros-none : (s : List ℕ) (o : ℕ) → s ≡ sets s o (zeros 0)
+unfolding zeros
+zeros-none s o = refl
+
+-- rows of a record of zeros
+rows-zero : {A : Type 0} (g : A → List ℕ) (size : ℕ) (z : A) → g z ≡ zeros size → (n : ℕ) → rowsBytes g (replicate n z) ≡ zeros (n * size)
+unfolding rowsBytes zeros
+rows-zero g size z e zero = ap zeros (sym (zero-mul size))
+rows-zero g size z e (suc n) =
+    (λ i. e i ++ rows-zero g size z e n i)
+    ∙ zeros-add size (n * size)
+    ∙ ap zeros (add-comm size (n * size) ∙ sym (suc-mul n size))
+
+no-jack : jackBytes (jackInfoOf []) ≡ zeros 24
+unfolding le zeros
+no-jack = refl
+
+no-stream : pcmBytes (pcmInfoOf []) ≡ zeros 32
+unfolding le zeros
+no-stream = refl
+
+no-map : mapBytes (channelMapOf []) ≡ zeros 24
+unfolding le zeros
+no-map = refl
+
+no-params : paramsBytes unset ≡ zeros 16
+unfolding le zeros
+no-params = refl
+
+no-tables : rowsBytes jackBytes noJacks ++ (rowsBytes pcmBytes noStreams ++ (rowsBytes mapBytes noMaps ++ rowsBytes paramsBytes (replicate 127 unset))) ≡ zeros 14256
+no-tables =
+    (λ i. rows-zero jackBytes 24 (jackInfoOf []) no-jack 170 i ++ (rows-zero pcmBytes 32 (pcmInfoOf []) no-stream 127 i
+    ++ (rows-zero mapBytes 24 (channelMapOf []) no-map 170 i ++ rows-zero paramsBytes 16 unset no-params 127 i)))
+    ∙ ap (λ (l : List ℕ). zeros 4080 ++ (zeros 4064 ++ l)) (zeros-add 4080 2032)
+    ∙ ap (λ (l : List ℕ). zeros 4080 ++ l) (zeros-add 4064 6112)
+    ∙ zeros-add 4080 10176
+
+module _ (s : List ℕ) (jacks streams maps : ℕ) where
+  pub new-short : length s < 14304 → made 10 s ≡ newIn s jacks streams maps
+  new-short h = stops _ _ _ (lt-leb 14304 (length s) h) refl
+
+  pub new-made : {l m : List ℕ} → 14304 ≤ length s → l ≡ sets s 0 (headBytes (newCore jacks streams maps)) → m ≡ sets l 48 (zeros 14256) → made 0 m ≡ newIn s jacks streams maps
+  unfolding soundBytes
+  new-made h e f =
+      let b = headBytes (newCore jacks streams maps) in
+      passes _ _ _ (le-leb 14304 (length s) h)
+      (ap (made 0)
+      (f
+      ∙ ap (λ (l : List ℕ). sets l 48 (zeros 14256)) e
+      ∙ sets-then s 0 48 b (zeros 14256) (sym (zero-add (length b) ∙ head-sized (newCore jacks streams maps)))
+      ∙ ap (λ (l : List ℕ). sets s 0 (b ++ l)) (sym no-tables)))
+
+-- ---- the configured counts
+
+abbrev pub countBy : Core → ℕ → List ℕ → Shown
+countBy c n r = guard (consistentOf c) (shown 0 (sets r 0 (le 8 n))) (shown 1 r)
+
+module _ (s r : List ℕ) (count : Counts → ℕ) where
+  pub count-unread : lengths s r ≡ false → shown 10 r ≡ countIn s count r
+  unfolding countIn
+  count-unread e = stops _ _ _ e refl
+
+  pub counted : {c : Core} → lengths s r ≡ true → c ≡ coreOf (headAt s) → countBy c (count (c .counts)) r ≡ countIn s count r
+  unfolding countIn
+  counted l e = passes _ _ _ l (ap (λ (z : Core). countBy z (count (z .counts)) r) (e ∙ sym (core-at s)))

@@ -1,0 +1,58 @@
+-- The start of a transfer goes by what its checks come to: a refusal, set-up first, or a transfer by periods.
+-- Assumes nothing.
+use mathlib.Core.Path.{_≡_, refl, sym, ap, _∙_, subst}
+use mathlib.Core.Bool.{Bool, true, false, _&&_}
+use mathlib.Core.List.{List}
+use Prim.Native.Nat.{ℕ, _≤_}
+use lib.Dec.{leb}
+use lib.ListN.{length}
+use borrow.Author.Tests.{leb-true}
+use Rattle.codes.specs.Says.{guard}
+use Rattle.turns.specs.ConsistentLaws.{both}
+use Rattle.turns.specs.declared.ring.Track.{Track}
+use Rattle.exchange.specs.State.{paramsOf}
+use Rattle.exchange.specs.Xfer.{gateBy, xferBy}
+use Rattle.exchange.specs.StepLaws as step
+use Rattle.exchange.specs.declared.state.Params.{Params}
+use Rattle.exchange.specs.declared.state.Core.{Core}
+use Rattle.exchange.specs.declared.xfer.Gate.{Gate}
+use Rattle.exchange.specs.declared.xfer.Gate.the-variants.{Shut, SetUp}
+use Rattle.exchange.specs.declared.xfer.Gate.the-variants as gate
+use Rattle.state_store.specs.Store.{headAt, coreOf, soundOf}
+use Rattle.state_store.specs.Calls.{Opened, opened, shut, settingUp, openIn}
+use Rattle.state_store.specs.StoreLaws.{core-at}
+use Rattle.state_store.specs.declared.calls.Opening.the-variants.{Open}
+
+guard-ap : {A B : Type 0} (f : A → B) (t : Bool) (a b : A) → f (guard t a b) ≡ guard t (f a) (f b)
+unfolding guard
+guard-ap f true a b = refl
+guard-ap f false a b = refl
+
+module _ (s m : List ℕ) (t : Track) (stream : ℕ) where
+  abbrev long : Bool
+  long = leb 14304 (length s) && leb 24 (length m)
+
+  abbrev pub gateIn : Gate
+  gateIn = xferBy long (soundOf s) t stream Shut SetUp gate.Open
+
+  pub gated : {b : Bool} {c : Core} {p : Params} {g : Gate} → b ≡ long → c ≡ coreOf (headAt s) → p ≡ paramsOf (soundOf s) stream → g ≡ gateBy b c p t stream Shut SetUp gate.Open → g ≡ gateIn
+  gated b c p g = g ∙ (λ i. gateBy (b i) ((c ∙ sym (core-at s)) i) (p i) t stream Shut SetUp gate.Open)
+
+  -- set-up is begun only where the lengths are right
+  pub set-up-long : SetUp ≡ gateIn → (14304 ≤ length s) × (24 ≤ length m)
+  set-up-long e =
+      let h = both (leb 14304 (length s)) (leb 24 (length m)) (step.set-up-long long (soundOf s) t stream e) in
+      (leb-true 14304 (length s) (h .0), leb-true 24 (length m) (h .1))
+
+  abbrev pub openBy : Gate → Opened
+  openBy (Shut x) = shut s m x
+  openBy SetUp = settingUp s stream m
+  openBy (gate.Open period) = opened (Open period) s m
+
+  pub opens : (g : Gate) → g ≡ gateIn → openBy g ≡ openIn s t stream m
+  unfolding openIn
+  opens g e = ap openBy e ∙ simp (guard-ap openBy)
+
+  -- what holds at each end of the checks holds of the start
+  pub opened-by : (P : Opened → Type 0) → ((g : Gate) → g ≡ gateIn → P (openBy g)) → P (openIn s t stream m)
+  opened-by P f = subst P (opens gateIn refl) (f gateIn refl)

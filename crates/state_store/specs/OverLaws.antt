@@ -1,0 +1,151 @@
+-- A state written over the store that it was read from: what it has in common with the store is not stored again.
+-- Assumes nothing.
+use mathlib.Core.Path.{_≡_, sym, ap, _∙_}
+use mathlib.Core.List.{List, [], _∷_, _++_}
+use Prim.Native.Nat.{ℕ, _+_, _*_}
+use native.Mathlib.Omega.{arith}
+use native.Mathlib.Numerals.{towards-numerals}
+use lib.ListN.{length}
+use lib.Seq.{sets}
+use Rattle.layout.specs.Bytes.{bytesAt, Bytes}
+use Rattle.layout.specs.Layout.{write}
+use Rattle.layout.specs.Rows.{rowsBytes}
+use Rattle.layout.specs.LayoutLaws.{length-write, write-read}
+use Rattle.layout.specs.StoreLaws.{sets-then}
+use Rattle.layout.specs.RowsLaws.{length-rows, length-rowsBytes}
+use Rattle.records.specs.Records.{jackInfo, jackInfoValues, pcmInfo, pcmInfoValues, channelMap, channelMapValues}
+use Rattle.records.specs.declared.info.JackInfo.{JackInfo}
+use Rattle.records.specs.declared.info.PcmInfo.{PcmInfo}
+use Rattle.records.specs.declared.info.ChannelMap.{ChannelMap}
+use Rattle.tables.specs.Tables.{jackAt, pcmAt, mapAt}
+use Rattle.exchange.specs.declared.state.Params.{Params}
+use Rattle.exchange.specs.declared.state.Core.{Core}
+use Rattle.exchange.specs.declared.state.Sound.{Sound}
+use Rattle.exchange.specs.Plan.{soundAfter}
+use Rattle.exchange.specs.declared.plan.Effect.the-variants.{Nothing}
+use Rattle.state_store.specs.Store.{headRow, headValues, headOf, jackBytes, pcmBytes, mapBytes, paramsRow, paramsBytes, paramsAt, soundOf, soundBytes}
+use Rattle.state_store.specs.TableLaws.{Alike, alike-self, alike-on, alike-after, table-kept}
+
+-- ---- of each record: its size, and that what was read, written again, is the bytes that stand there
+
+pub jack-sized : (r : JackInfo) → length (jackBytes r) ≡ 24
+jack-sized r = length-write jackInfo (jackInfoValues r)
+
+pub pcm-sized : (r : PcmInfo) → length (pcmBytes r) ≡ 32
+pcm-sized r = length-write pcmInfo (pcmInfoValues r)
+
+pub map-sized : (r : ChannelMap) → length (mapBytes r) ≡ 24
+map-sized r = length-write channelMap (channelMapValues r)
+
+pub params-sized : (p : Params) → length (paramsBytes p) ≡ 16
+params-sized p = length-write paramsRow (p .known ∷ p .channels ∷ p .format ∷ p .rate ∷ p .buffer ∷ p .period ∷ p .features ∷ [])
+
+pub jack-same : (o : ℕ) (s : List ℕ) → Bytes s → jackBytes (jackAt o s) ≡ bytesAt o 24 s
+unfolding jackAt
+jack-same o s b = write-read o jackInfo s b
+
+pub pcm-same : (o : ℕ) (s : List ℕ) → Bytes s → pcmBytes (pcmAt o s) ≡ bytesAt o 32 s
+unfolding pcmAt
+pcm-same o s b = write-read o pcmInfo s b
+
+pub map-same : (o : ℕ) (s : List ℕ) → Bytes s → mapBytes (mapAt o s) ≡ bytesAt o 24 s
+unfolding mapAt
+map-same o s b = write-read o channelMap s b
+
+pub params-same : (o : ℕ) (s : List ℕ) → Bytes s → paramsBytes (paramsAt o s) ≡ bytesAt o 16 s
+unfolding paramsAt
+params-same o s b = simp towards-numerals at (write-read o paramsRow s b)
+
+-- ---- the core
+
+abbrev pub headBytes : Core → List ℕ
+headBytes c = write headRow (headValues (headOf c))
+
+pub head-sized : (c : Core) → length (headBytes c) ≡ 48
+head-sized c = length-write headRow (headValues (headOf c))
+
+-- a store with the core new, from the tables on
+pub head-alike : (s : List ℕ) (c : Core) → Alike 48 (sets s 0 (headBytes c)) s
+head-alike s c = alike-after 0 0 48 s s (headBytes c) (alike-self 0 s) (omega arith) (omega (arith, head-sized c))
+
+-- ---- a state with tables of the right lengths is written core first, then each table at its place
+
+pub record Sized (x : Sound) : Type 0 where
+  pub jacks : length (x .jacks) ≡ 170
+  pub pcms : length (x .pcms) ≡ 127
+  pub maps : length (x .maps) ≡ 170
+
+pub tables-apart : (s : List ℕ) (x : Sound) → Sized x
+    → sets s 0 (soundBytes x) ≡ sets (sets (sets (sets (sets s 0 (headBytes (x .core))) 48 (rowsBytes jackBytes (x .jacks))) 4128 (rowsBytes pcmBytes (x .pcms))) 8192 (rowsBytes mapBytes (x .maps))) 12272 (rowsBytes paramsBytes (x .params))
+unfolding soundBytes
+tables-apart s x z =
+    let h = headBytes (x .core) in
+    let j = rowsBytes jackBytes (x .jacks) in
+    let p = rowsBytes pcmBytes (x .pcms) in
+    let m = rowsBytes mapBytes (x .maps) in
+    let q = rowsBytes paramsBytes (x .params) in
+    let lj : length j ≡ 4080 = length-rowsBytes jackBytes 24 jack-sized (x .jacks) ∙ ap (λ (k : ℕ). k * 24) (z .jacks) in
+    let lp : length p ≡ 4064 = length-rowsBytes pcmBytes 32 pcm-sized (x .pcms) ∙ ap (λ (k : ℕ). k * 32) (z .pcms) in
+    let lm : length m ≡ 4080 = length-rowsBytes mapBytes 24 map-sized (x .maps) ∙ ap (λ (k : ℕ). k * 24) (z .maps) in
+    let t = sets s 0 h in
+    sym
+    (sets-then (sets (sets t 48 j) 4128 p) 8192 12272 m q (sym (ap (λ (k : ℕ). 8192 + k) lm))
+    ∙ sets-then (sets t 48 j) 4128 8192 p (m ++ q) (sym (ap (λ (k : ℕ). 4128 + k) lp))
+    ∙ sets-then t 48 4128 j (p ++ (m ++ q)) (sym (ap (λ (k : ℕ). 48 + k) lj))
+    ∙ sets-then s 0 48 h (j ++ (p ++ (m ++ q))) (sym (ap (λ (k : ℕ). 0 + k) (head-sized (x .core)))))
+
+pub sized-of : (s : List ℕ) (c : Core) → Sized (soundAfter Nothing c (soundOf s) [])
+unfolding soundOf
+sized-of s c = record { jacks = length-rows jackAt 24 48 170 s; pcms = length-rows pcmAt 32 4128 127 s; maps = length-rows mapAt 24 8192 170 s }
+
+-- ---- each table of the store as it was, and all from one place on
+
+abbrev pub jacksIn : List ℕ → List ℕ
+jacksIn s = rowsBytes jackBytes (soundOf s .jacks)
+
+abbrev pub pcmsIn : List ℕ → List ℕ
+pcmsIn s = rowsBytes pcmBytes (soundOf s .pcms)
+
+abbrev pub mapsIn : List ℕ → List ℕ
+mapsIn s = rowsBytes mapBytes (soundOf s .maps)
+
+abbrev pub paramsIn : List ℕ → List ℕ
+paramsIn s = rowsBytes paramsBytes (soundOf s .params)
+
+module _ (s : List ℕ) (b : Bytes s) (u : List ℕ) where
+  pub jacks-kept : Alike 48 u s → sets u 48 (jacksIn s) ≡ u
+  unfolding soundOf
+  jacks-kept = table-kept jackAt jackBytes 24 jack-same 48 170 u s b
+
+  pub pcms-kept : Alike 4128 u s → sets u 4128 (pcmsIn s) ≡ u
+  unfolding soundOf
+  pcms-kept = table-kept pcmAt pcmBytes 32 pcm-same 4128 127 u s b
+
+  pub maps-kept : Alike 8192 u s → sets u 8192 (mapsIn s) ≡ u
+  unfolding soundOf
+  maps-kept = table-kept mapAt mapBytes 24 map-same 8192 170 u s b
+
+  pub params-kept : Alike 12272 u s → sets u 12272 (paramsIn s) ≡ u
+  unfolding soundOf
+  params-kept = table-kept paramsAt paramsBytes 16 params-same 12272 127 u s b
+
+  pub kept-from-maps : Alike 8192 u s → sets (sets u 8192 (mapsIn s)) 12272 (paramsIn s) ≡ u
+  kept-from-maps a =
+      ap (λ (l : List ℕ). sets l 12272 (paramsIn s)) (maps-kept a)
+      ∙ params-kept (alike-on 8192 12272 u s a (omega arith))
+
+  pub kept-from-pcms : Alike 4128 u s
+      → sets (sets (sets u 4128 (pcmsIn s)) 8192 (mapsIn s)) 12272 (paramsIn s) ≡ u
+  kept-from-pcms a =
+      ap (λ (l : List ℕ). sets (sets l 8192 (mapsIn s)) 12272 (paramsIn s)) (pcms-kept a)
+      ∙ kept-from-maps (alike-on 4128 8192 u s a (omega arith))
+
+  pub kept-from-jacks : Alike 48 u s
+      → sets (sets (sets (sets u 48 (jacksIn s)) 4128 (pcmsIn s)) 8192 (mapsIn s)) 12272 (paramsIn s) ≡ u
+  kept-from-jacks a =
+      ap (λ (l : List ℕ). sets (sets (sets l 4128 (pcmsIn s)) 8192 (mapsIn s)) 12272 (paramsIn s)) (jacks-kept a)
+      ∙ kept-from-pcms (alike-on 48 4128 u s a (omega arith))
+
+-- THE CORE ALONE: its 48 bytes, stored, leave the state with that core and with the tables as they were
+pub core-over : (s : List ℕ) (c : Core) → Bytes s → sets s 0 (write headRow (headValues (headOf c))) ≡ sets s 0 (soundBytes (soundAfter Nothing c (soundOf s) []))
+core-over s c b = sym (tables-apart s (soundAfter Nothing c (soundOf s) []) (sized-of s c) ∙ kept-from-jacks s b (sets s 0 (headBytes c)) (head-alike s c))

@@ -1,0 +1,165 @@
+-- What is refused leaves every lent byte as it was: the state, the message and the result.
+-- Assumes nothing.
+use mathlib.Core.Path.{_≡_, refl, sym, ap, _∙_}
+use mathlib.Core.Bool.{Bool, true, false, false≢true}
+use mathlib.Core.List.{List, [], _∷_}
+use mathlib.Core.Logic.{inl, inr}
+use Prim.Native.Nat.{ℕ, _<_}
+use native.Mathlib.Omega.{arith}
+use lib.Dec.{lit<}
+use lib.ListN.{length}
+use lib.Seq.{sets}
+use Rattle.layout.specs.Bytes.{Bytes}
+use Rattle.codes.specs.Says.{pick}
+use Rattle.codes.specs.SaysLaws.{guarded-by, skips}
+use Rattle.codes.specs.Answers.{saysRefusal}
+use Rattle.codes.specs.declared.answers.Refusal.{Refusal}
+use Rattle.codes.specs.declared.answers.Refusal.the-variants.{InvalidParam, BadLength}
+use Rattle.tables.specs.declared.verdict.Verdict.{Verdict}
+use Rattle.turns.specs.declared.ring.Track.{Track}
+use Rattle.exchange.specs.Consistent.{consistentOf}
+use Rattle.exchange.specs.Plan.{keepOf}
+use Rattle.exchange.specs.Exchange.{saysReply, replyOf, stepOf, callOf}
+use Rattle.exchange.specs.Feed.{Feed, paged, failed, planOf, pageOf, fedOf}
+use Rattle.exchange.specs.OwnLaws.{One, ownRefusals}
+use Rattle.exchange.specs.PlanLaws.{Answered, short, idle, asks-streams, asks-maps, cuts, finishes, ends, fails, fed}
+use Rattle.exchange.specs.Refused.{refused-writes-nothing, refused-unchanged, Left, same, closed, cut, done, refused-feed}
+use Rattle.exchange.specs.declared.state.Call.{Call}
+use Rattle.exchange.specs.declared.state.Call.the-variants.{SetParams, Command, Remap, Streams, Supported, Xfer}
+use Rattle.exchange.specs.declared.state.Sound.{Sound}
+use Rattle.exchange.specs.declared.plan.Plan.{Plan}
+use Rattle.exchange.specs.declared.calls.Reply.{Reply}
+use Rattle.exchange.specs.declared.calls.Reply.the-variants as reply
+use Rattle.state_store.specs.Store.{whole, soundOf, soundBytes, stateAfter}
+use Rattle.state_store.specs.Calls.{Told, told, tooShort, resultBytes, callIn, feedIn, failIn, Opened, openIn}
+use Rattle.state_store.specs.StoreLaws.{core-at, store-same}
+use Rattle.state_store.specs.OpenLaws.{gateIn, openBy, opened-by}
+use Rattle.exchange.specs.declared.xfer.Gate.{Gate}
+use Rattle.exchange.specs.declared.xfer.Gate.the-variants.{Shut, SetUp, Open}
+use Rattle.state_store.specs.declared.calls.Opening.the-variants.{Says}
+
+pub record Unchanged (s m r : List ℕ) (x : Told) : Type 0 where
+  pub state : x .state ≡ s
+  pub message : x .message ≡ m
+  pub result : x .result ≡ r
+
+-- ---- numbers 1 to 255 are refusals
+
+record IsRefused (y : Reply) : Type 0 where
+  why : Refusal
+  is : y ≡ reply.Refused why
+
+refused-by : (y : Reply) → 0 < saysReply y .number → saysReply y .number < 256 → IsRefused y
+refused-by (reply.Send n) a b = absurd (omega arith)
+refused-by (reply.Done v) a b = absurd (omega arith)
+refused-by (reply.Refused x) a b = record { why = x; is = refl }
+
+-- of all that a feed is refused with, 10 alone leaves the state as it was, whatever was asked
+abbrev Below : List ℕ → Type 0
+Below [] = Unit {0}
+Below (x ∷ xs) = (x < 10) × Below xs
+
+lacks : (n : ℕ) (ns : List ℕ) → Below ns → n ≡ 10 → One n ns → ⊥
+lacks n (x ∷ xs) h e (inl o) = let k : x < 10 = h .0 in omega arith
+lacks n (x ∷ xs) h e (inr o) = lacks n xs (h .1) e o
+
+own-below : (call : Call) → Below (ownRefusals call)
+own-below (SetParams stream to) = (lit< tt, tt)
+own-below (Command kind stream) = tt
+own-below (Remap jack association sequence) = (lit< tt, (lit< tt, (lit< tt, tt)))
+own-below (Streams direction) = tt
+own-below (Supported field stream) = (lit< tt, tt)
+own-below (Xfer stream) = (lit< tt, (lit< tt, tt))
+
+ten-left : (x : Sound) (r : Refusal) {y : Sound} → saysRefusal r .number ≡ 10 → Left x r y → y ≡ x
+ten-left x r e (same o) = refl
+ten-left x r e (closed o g) = absurd (lacks (saysRefusal r .number) (2 ∷ 3 ∷ 7 ∷ []) (lit< tt, (lit< tt, (lit< tt, tt))) e o)
+ten-left x r e (cut o a) = absurd (lacks (saysRefusal r .number) (2 ∷ 5 ∷ 7 ∷ []) (lit< tt, (lit< tt, (lit< tt, tt))) e o)
+ten-left x r e (done {call} n maps o g) = absurd (lacks (saysRefusal r .number) (ownRefusals call) (own-below call) e o)
+
+-- ---- a plan that refuses, with nothing changed
+
+module _ (s m r : List ℕ) (b : Bytes s) where
+  pub state-kept : (w : Bool) → whole s ≡ w → pick w (sets s 0 (soundBytes (soundOf s))) s ≡ s
+  state-kept true e = store-same s b e
+  state-kept false e = refl
+
+  pub told-unchanged : (p : Plan) (page : List ℕ) (x : Refusal) → replyOf (p .say) ≡ reply.Refused x → stepOf p (soundOf s) page .sound ≡ soundOf s → Unchanged s m r (told s p page m r)
+  told-unchanged p page x e k =
+      record {
+        state = ap (stateAfter s) k ∙ state-kept (whole s) refl;
+        message = refused-writes-nothing (p .say) x m e;
+        result = ap (λ (y : Reply). sets r 0 (resultBytes y (stepOf p (soundOf s) page .streams))) e;
+      }
+
+  -- ---- A CALL: whatever it is refused with
+
+  pub call-refused : (t : Track) (call : Call) → 0 < callIn s t call m r .answer → callIn s t call m r .answer < 256 → Unchanged s m r (callIn s t call m r)
+  unfolding callIn
+  call-refused t call =
+      let p = callOf (soundOf s) t call (length m) in
+      guarded-by (λ (x : Told). 0 < x .answer → x .answer < 256 → Unchanged s m r x) _ _ _
+      (λ _ a z. let y = refused-by (replyOf (p .say)) a z in told-unchanged p [] (y .why) (y .is) (refused-unchanged (soundOf s) t call (length m) (y .why) (y .is)))
+      (λ _ _ _. record { state = refl; message = refl; result = refl })
+
+  -- ---- A FEED: 10, and 1 for a state that fails the consistency test (of which a store that is not whole is one)
+
+  barred : {v : Verdict} {look : ℕ} {long : Bool} {p : Plan} (page : List ℕ) → consistentOf (soundOf s .core) ≡ false → Answered (soundOf s .core) v look long p → Unchanged s m r (told s p page m r)
+  barred page e (short _) = told-unchanged (keepOf (soundOf s .core) BadLength) page BadLength refl refl
+  barred page e (idle _) = told-unchanged (keepOf (soundOf s .core) InvalidParam) page InvalidParam refl refl
+  barred page e (asks-streams k _) = absurd (false≢true (sym e ∙ k))
+  barred page e (asks-maps k _ _) = absurd (false≢true (sym e ∙ k))
+  barred page e (cuts _ _ _ k _) = absurd (false≢true (sym e ∙ k))
+  barred page e (finishes k _ _) = absurd (false≢true (sym e ∙ k))
+  barred page e (ends k _ _) = absurd (false≢true (sym e ∙ k))
+  barred page e (fails _ k _) = absurd (false≢true (sym e ∙ k))
+
+  inconsistent : (f : Feed) → consistentOf (soundOf s .core) ≡ false → Unchanged s m r (told s (planOf (soundOf s) f) (pageOf f) m r)
+  inconsistent f e = barred (pageOf f) e (fed (soundOf s) f)
+
+  feed-unchanged : (f : Feed) → saysReply (fedOf (soundOf s) f .reply) .number ≡ 10 → Unchanged s m r (told s (planOf (soundOf s) f) (pageOf f) m r)
+  feed-unchanged f e =
+      let y = refused-by (fedOf (soundOf s) f .reply) (omega arith) (omega arith) in
+      let n : saysRefusal (y .why) .number ≡ 10 = sym (ap (λ (a : Reply). saysReply a .number) (y .is)) ∙ e in
+      told-unchanged (planOf (soundOf s) f) (pageOf f) (y .why) (y .is) (ten-left (soundOf s) (y .why) n (refused-feed (soundOf s) f (y .why) (y .is)))
+
+  abbrev Kept : Told → Type 0
+  Kept = Unchanged s m r
+
+  nothing : Kept (tooShort s m r)
+  nothing = record { state = refl; message = refl; result = refl }
+
+  pub feed-refused : (page : List ℕ) → feedIn s page m r .answer ≡ 10 → Kept (feedIn s page m r)
+  unfolding feedIn
+  feed-refused page = guarded-by (λ (x : Told). x .answer ≡ 10 → Kept x) _ _ _ (λ _. feed-unchanged (paged page (length m))) (λ _ _. nothing)
+
+  pub fail-refused : failIn s m r .answer ≡ 10 → Kept (failIn s m r)
+  unfolding failIn
+  fail-refused = guarded-by (λ (x : Told). x .answer ≡ 10 → Kept x) _ _ _ (λ _. feed-unchanged (failed (length m))) (λ _ _. nothing)
+
+  module _ (e : consistentOf (soundOf s .core) ≡ false) where
+    pub feed-inconsistent : (page : List ℕ) → Kept (feedIn s page m r)
+    unfolding feedIn
+    feed-inconsistent page = guarded-by Kept _ _ _ (λ _. inconsistent (paged page (length m)) e) (λ _. nothing)
+
+    pub fail-inconsistent : Kept (failIn s m r)
+    unfolding failIn
+    fail-inconsistent = guarded-by Kept _ _ _ (λ _. inconsistent (failed (length m)) e) (λ _. nothing)
+
+-- a store that is not whole fails the consistency test
+pub not-whole : (s : List ℕ) → whole s ≡ false → consistentOf (soundOf s .core) ≡ false
+unfolding consistentOf
+not-whole s e = ap consistentOf (core-at s ∙ skips _ _ _ e)
+
+-- ---- THE START OF A TRANSFER: whatever it is refused with
+
+pub open-refused : (s m : List ℕ) (t : Track) (stream n : ℕ) → openIn s t stream m .opening ≡ Says n → n < 256 → (openIn s t stream m .state ≡ s) × (openIn s t stream m .message ≡ m)
+open-refused s m t stream n = opened-by s m t stream P by
+  where
+    P : Opened → Type 0
+    P o = o .opening ≡ Says n → n < 256 → (o .state ≡ s) × (o .message ≡ m)
+
+    by : (g : Gate) → g ≡ gateIn s m t stream → P (openBy s m t stream g)
+    by (Shut x) _ e k = (refl, refl)
+    by SetUp _ e k = let z : 272 ≡ n = cc in absurd (omega arith)
+    by (Open period) _ e k = (refl, refl)

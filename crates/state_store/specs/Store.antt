@@ -1,0 +1,121 @@
+-- The state as bytes in its owner's storage: 48 bytes of core, then jacks, streams, maps and parameters, a row for each.
+-- Assumes nothing.
+use mathlib.Core.Bool.{Bool, true}
+use mathlib.Core.List.{List, [], _∷_, _++_}
+use Prim.Native.Nat.{ℕ, _+_}
+use lib.ListN.{getD}
+use lib.Seq.{sets}
+use Rattle.layout.specs.Bytes.{numAt}
+use Rattle.layout.specs.Layout.{write, readAt}
+use Rattle.layout.specs.Rows.{rowsAt, rowsBytes}
+use Rattle.codes.specs.Says.{pick}
+use Rattle.records.specs.Records.{jackInfo, jackInfoValues, pcmInfo, pcmInfoValues, channelMap, channelMapValues}
+use Rattle.records.specs.declared.info.JackInfo.{JackInfo}
+use Rattle.records.specs.declared.info.PcmInfo.{PcmInfo}
+use Rattle.records.specs.declared.info.ChannelMap.{ChannelMap}
+use Rattle.tables.specs.Tables.{jackAt, pcmAt, mapAt}
+use Rattle.exchange.specs.declared.state.Params.{Params}
+use Rattle.exchange.specs.declared.state.Core.{Core}
+use Rattle.exchange.specs.declared.state.Sound.{Sound}
+use Rattle.exchange.specs.declared.state.Call.the-variants.{Streams}
+use Rattle.exchange.specs.declared.state.Stage.the-variants.{JacksAsked}
+use Rattle.state_store.specs.Flat.{flatRow, flatValues, flatOf, flatStage, flatReady, wholeFlat}
+use Rattle.state_store.specs.declared.flat.Head.{Head}
+
+-- ---- the core: configured counts 4 each, table counts 4 each, then the stage
+
+abbrev pub headRow : List ℕ
+headRow = 4 ∷ 4 ∷ 4 ∷ 4 ∷ 4 ∷ 4 ∷ flatRow
+
+abbrev pub headValues : Head → List ℕ
+headValues h = h .counts .jacks ∷ h .counts .streams ∷ h .counts .maps ∷ h .read .jacks ∷ h .read .streams ∷ h .read .maps ∷ flatValues (h .flat)
+
+abbrev pub headFrom : List ℕ → Head
+headFrom vs =
+    record {
+      counts = record { jacks = getD vs 0 0; streams = getD vs 1 0; maps = getD vs 2 0 };
+      read = record { jacks = getD vs 3 0; streams = getD vs 4 0; maps = getD vs 5 0 };
+      flat =
+          record {
+            ready = getD vs 6 0;
+            stage = getD vs 7 0;
+            call = getD vs 8 0;
+            part = getD vs 9 0;
+            id = getD vs 10 0;
+            first = getD vs 11 0;
+            second = getD vs 12 0;
+            third = getD vs 13 0;
+            known = getD vs 14 0;
+            channels = getD vs 15 0;
+            format = getD vs 16 0;
+            rate = getD vs 17 0;
+          };
+    }
+
+unfoldable pub headAt : List ℕ → Head
+headAt s = headFrom (readAt 0 headRow s)
+
+abbrev pub headOf : Core → Head
+headOf c = record { counts = c .counts; read = c .read; flat = flatOf (c .ready) (c .stage) }
+
+-- a store whose stage is written as it must be
+abbrev pub whole : List ℕ → Bool
+whole s = wholeFlat (headAt s .flat)
+
+-- the core of a head; one that is not whole reads as done with set-up that still asks for jacks, which fails the consistency test
+abbrev pub coreOf : Head → Core
+coreOf h =
+    pick (wholeFlat (h .flat))
+    (record { counts = h .counts; read = h .read; ready = flatReady (h .flat); stage = flatStage (h .flat) })
+    (record { counts = h .counts; read = h .read; ready = true; stage = JacksAsked (Streams 0) })
+
+-- ---- rows
+
+abbrev pub jackBytes : JackInfo → List ℕ
+jackBytes r = write jackInfo (jackInfoValues r)
+
+abbrev pub pcmBytes : PcmInfo → List ℕ
+pcmBytes r = write pcmInfo (pcmInfoValues r)
+
+abbrev pub mapBytes : ChannelMap → List ℕ
+mapBytes r = write channelMap (channelMapValues r)
+
+-- known 1, channels 1, format 1, rate 1, buffer 4, period 4, features 4
+abbrev pub paramsRow : List ℕ
+paramsRow = 1 ∷ 1 ∷ 1 ∷ 1 ∷ 4 ∷ 4 ∷ 4 ∷ []
+
+abbrev pub paramsBytes : Params → List ℕ
+paramsBytes p = write paramsRow (p .known ∷ p .channels ∷ p .format ∷ p .rate ∷ p .buffer ∷ p .period ∷ p .features ∷ [])
+
+unfoldable pub paramsAt : ℕ → List ℕ → Params
+paramsAt o s =
+    record {
+      known = numAt o 1 s;
+      channels = numAt (o + 1) 1 s;
+      format = numAt (o + 2) 1 s;
+      rate = numAt (o + 3) 1 s;
+      buffer = numAt (o + 4) 4 s;
+      period = numAt (o + 8) 4 s;
+      features = numAt (o + 12) 4 s;
+    }
+
+-- ---- THE STATE that a store holds, and the bytes of a state: 14,304
+
+unfoldable pub soundOf : List ℕ → Sound
+soundOf s =
+    record {
+      core = coreOf (headAt s);
+      jacks = rowsAt jackAt 24 48 170 s;
+      pcms = rowsAt pcmAt 32 4128 127 s;
+      maps = rowsAt mapAt 24 8192 170 s;
+      params = rowsAt paramsAt 16 12272 127 s;
+    }
+
+unfoldable pub soundBytes : Sound → List ℕ
+soundBytes x =
+    write headRow (headValues (headOf (x .core)))
+    ++ (rowsBytes jackBytes (x .jacks) ++ (rowsBytes pcmBytes (x .pcms) ++ (rowsBytes mapBytes (x .maps) ++ rowsBytes paramsBytes (x .params))))
+
+-- what a store holds once its state is x: a store that is not whole holds no state, and stays
+abbrev pub stateAfter : List ℕ → Sound → List ℕ
+stateAfter s x = pick (whole s) (sets s 0 (soundBytes x)) s

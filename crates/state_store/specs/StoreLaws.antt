@@ -1,0 +1,228 @@
+-- The state that a store holds, and the store that holds a state.
+-- Assumes nothing.
+use mathlib.Core.Path.{_≡_, refl, sym, ap, _∙_}
+use mathlib.Core.Bool.{true}
+use mathlib.Core.List.{List, [], _∷_, _++_, append-assoc, append-nil}
+use Prim.Native.Nat.{ℕ, zero, suc, _+_, _*_, _≤_}
+use native.Mathlib.Nat.{zero-add, add-zero, add-assoc}
+use native.Mathlib.Numerals.{towards-numerals}
+use lib.ListN.{length, getD, drop, length-append}
+use lib.Seq.{sets, sets-eq}
+use Rattle.layout.specs.Bytes.{bytesAt, Bytes}
+use Rattle.layout.specs.Layout.{size, write, readAt, Fit}
+use Rattle.layout.specs.LayoutLaws.{length-write, read-write, write-read, read-own}
+use Rattle.layout.specs.Rows.{rowsAt, rowsBytes}
+use Rattle.layout.specs.BytesLaws.{bytesAt-append}
+use Rattle.layout.specs.RowsLaws.{length-rowsBytes, AllOk, rows-back}
+use Rattle.layout.specs.StoreLaws.{sets-same}
+use Rattle.records.specs.Records.{jackInfo, jackInfoValues, pcmInfo, pcmInfoValues, channelMap, channelMapValues}
+use Rattle.records.specs.BackLaws.{jackInfoOf, pcmInfoOf, channelMapOf}
+use Rattle.tables.specs.Tables.{jackAt, pcmAt, mapAt}
+use Rattle.exchange.specs.declared.state.Params.{Params}
+use Rattle.exchange.specs.declared.state.Sound.{Sound}
+use Rattle.state_store.specs.Store.{headRow, headValues, headFrom, headAt, headOf, coreOf, whole, jackBytes, pcmBytes, mapBytes, paramsRow, paramsAt, paramsBytes, soundOf, soundBytes}
+use Rattle.state_store.specs.FlatLaws.{core-back, core-same}
+use Rattle.state_store.specs.OverLaws.{jack-sized, pcm-sized, map-sized, params-sized, headBytes, head-sized, core-over}
+use Rattle.state_store.specs.declared.flat.Head.{Head}
+
+-- ---- WHAT WAS READ, WRITTEN AGAIN, leaves a store that is whole
+
+head-again : (s : List ℕ) → Bytes s → whole s ≡ true → headBytes (coreOf (headAt s)) ≡ bytesAt 0 48 s
+unfolding headAt
+head-again s b w = ap (λ (h : Head). write headRow (headValues h)) (core-same (headAt s) w) ∙ write-read 0 headRow s b
+
+pub core-at : (s : List ℕ) → soundOf s .core ≡ coreOf (headAt s)
+unfolding soundOf
+core-at s = refl
+
+pub store-same : (s : List ℕ) → Bytes s → whole s ≡ true → sets s 0 (soundBytes (soundOf s)) ≡ s
+store-same s b w =
+    sym (core-over s (soundOf s .core) b)
+    ∙ ap (sets s 0) (ap headBytes (core-at s) ∙ head-again s b w)
+    ∙ sets-same s 0 48
+
+-- ---- WHAT WAS WRITTEN IS READ BACK
+
+pub head-back : (h : Head) (r : List ℕ) → Fit headRow (headValues h) → headAt (write headRow (headValues h) ++ r) ≡ h
+unfolding headAt
+head-back h r f = ap headFrom (read-write headRow (headValues h) r f)
+
+-- a table, over the layout of its records
+abbrev pub AllFit : {A : Type 0} → List ℕ → (A → List ℕ) → List A → Type 0
+AllFit ws values [] = Unit {0}
+AllFit ws values (x ∷ xs) = Fit ws (values x) × AllFit ws values xs
+
+module _ {A : Type 0} (ws : List ℕ) (values : A → List ℕ) (of : List ℕ → A) (is : (x : A) → of (values x) ≡ x) (f : ℕ → List ℕ → A)
+    (reads : (o : ℕ) (s : List ℕ) → f o s ≡ of (readAt o ws s)) where
+  abbrev g : A → List ℕ
+  g x = write ws (values x)
+
+  own : (o : ℕ) (s : List ℕ) → f o s ≡ f 0 (bytesAt o (size ws) s)
+  own o s = reads o s ∙ ap of (read-own o ws s) ∙ sym (reads 0 (bytesAt o (size ws) s))
+
+  sized : (x : A) → length (g x) ≡ size ws
+  sized x = length-write ws (values x)
+
+  back : (x : A) → Fit ws (values x) → f 0 (g x) ≡ x
+  back x h = reads 0 (g x) ∙ ap of (ap (readAt 0 ws) (sym (append-nil (g x))) ∙ read-write ws (values x) [] h) ∙ is x
+
+  abbrev Ok : A → Type 0
+  Ok x = Fit ws (values x)
+
+  all : (xs : List A) → AllFit ws values xs → AllOk f g (size ws) own sized Ok back xs
+  all [] h = tt
+  all (x ∷ xs) h = (h .0, all xs (h .1))
+
+  -- what stands before is passed over
+  past : (a t : List ℕ) (k n : ℕ) → rowsAt f (size ws) (length a + k) n (a ++ t) ≡ rowsAt f (size ws) k n t
+  unfolding rowsAt
+  past a t k zero = refl
+  past a t k (suc n) =
+      λ i. (own (length a + k) (a ++ t) ∙ ap (f 0) (bytesAt-append a t k (size ws)) ∙ sym (own k t)) i
+      ∷ (ap (λ (z : ℕ). rowsAt f (size ws) z n (a ++ t)) (add-assoc (length a) k (size ws)) ∙ past a t (k + size ws) n) i
+
+  table-back : (a c : List ℕ) (xs : List A) (o n : ℕ) → length a ≡ o → length xs ≡ n → AllFit ws values xs → rowsAt f (size ws) o n (a ++ (rowsBytes g xs ++ c)) ≡ xs
+  table-back a c xs o n p q h =
+      let t = rowsBytes g xs ++ c in
+      (λ i. rowsAt f (size ws) (sym (add-zero (length a) ∙ p) i) (sym q i) (a ++ t))
+      ∙ past a t 0 (length xs)
+      ∙ rows-back f g (size ws) own sized Ok back xs c (all xs h)
+
+-- ---- the four tables
+
+jack-reads : (o : ℕ) (s : List ℕ) → jackAt o s ≡ jackInfoOf (readAt o jackInfo s)
+unfolding jackAt
+jack-reads o s = refl
+
+pcm-reads : (o : ℕ) (s : List ℕ) → pcmAt o s ≡ pcmInfoOf (readAt o pcmInfo s)
+unfolding pcmAt
+pcm-reads o s = refl
+
+map-reads : (o : ℕ) (s : List ℕ) → mapAt o s ≡ channelMapOf (readAt o channelMap s)
+unfolding mapAt
+map-reads o s = refl
+
+abbrev pub paramsValues : Params → List ℕ
+paramsValues p = p .known ∷ p .channels ∷ p .format ∷ p .rate ∷ p .buffer ∷ p .period ∷ p .features ∷ []
+
+abbrev paramsFrom : List ℕ → Params
+paramsFrom vs = record { known = getD vs 0 0; channels = getD vs 1 0; format = getD vs 2 0; rate = getD vs 3 0; buffer = getD vs 4 0; period = getD vs 5 0; features = getD vs 6 0 }
+
+params-reads : (o : ℕ) (s : List ℕ) → paramsAt o s ≡ paramsFrom (readAt o paramsRow s)
+unfolding paramsAt
+params-reads o s = simp towards-numerals
+
+-- five runs and what follows, cut before each
+module _ (h j p m q : List ℕ) where
+  abbrev five : List ℕ
+  five = h ++ (j ++ (p ++ (m ++ q)))
+
+  whole-cut : five ≡ (((h ++ j) ++ p) ++ m) ++ q
+  whole-cut = simp append-assoc
+
+  module _ (c : List ℕ) where
+    first-cut : five ++ c ≡ h ++ (j ++ (p ++ (m ++ (q ++ c))))
+    first-cut = simp append-assoc
+
+    second-cut : five ++ c ≡ (h ++ j) ++ (p ++ (m ++ (q ++ c)))
+    second-cut = simp append-assoc
+
+    third-cut : five ++ c ≡ ((h ++ j) ++ p) ++ (m ++ (q ++ c))
+    third-cut = simp append-assoc
+
+    fourth-cut : five ++ c ≡ (((h ++ j) ++ p) ++ m) ++ (q ++ c)
+    fourth-cut = simp append-assoc
+
+-- a state with tables of the right lengths, each number of which fits its width
+pub record Fits (x : Sound) : Type 0 where
+  pub core : Fit headRow (headValues (headOf (x .core)))
+  pub jacks : AllFit jackInfo jackInfoValues (x .jacks)
+  pub pcms : AllFit pcmInfo pcmInfoValues (x .pcms)
+  pub maps : AllFit channelMap channelMapValues (x .maps)
+  pub params : AllFit paramsRow paramsValues (x .params)
+  pub jacks-170 : length (x .jacks) ≡ 170
+  pub pcms-127 : length (x .pcms) ≡ 127
+  pub maps-170 : length (x .maps) ≡ 170
+  pub params-127 : length (x .params) ≡ 127
+
+module _ (x : Sound) (f : Fits x) where
+  abbrev h : List ℕ
+  h = headBytes (x .core)
+
+  abbrev j : List ℕ
+  j = rowsBytes jackBytes (x .jacks)
+
+  abbrev p : List ℕ
+  p = rowsBytes pcmBytes (x .pcms)
+
+  abbrev m : List ℕ
+  m = rowsBytes mapBytes (x .maps)
+
+  abbrev q : List ℕ
+  q = rowsBytes paramsBytes (x .params)
+
+  lj : length j ≡ 4080
+  lj = length-rowsBytes jackBytes 24 jack-sized (x .jacks) ∙ ap (λ (k : ℕ). k * 24) (f .jacks-170)
+
+  lp : length p ≡ 4064
+  lp = length-rowsBytes pcmBytes 32 pcm-sized (x .pcms) ∙ ap (λ (k : ℕ). k * 32) (f .pcms-127)
+
+  lm : length m ≡ 4080
+  lm = length-rowsBytes mapBytes 24 map-sized (x .maps) ∙ ap (λ (k : ℕ). k * 24) (f .maps-170)
+
+  lq : length q ≡ 2032
+  lq = length-rowsBytes paramsBytes 16 params-sized (x .params) ∙ ap (λ (k : ℕ). k * 16) (f .params-127)
+
+  to-pcms : length (h ++ j) ≡ 4128
+  to-pcms = length-append h j ∙ (λ i. head-sized (x .core) i + lj i)
+
+  to-maps : length ((h ++ j) ++ p) ≡ 8192
+  to-maps = length-append (h ++ j) p ∙ (λ i. to-pcms i + lp i)
+
+  to-params : length (((h ++ j) ++ p) ++ m) ≡ 12272
+  to-params = length-append ((h ++ j) ++ p) m ∙ (λ i. to-maps i + lm i)
+
+  to-end : length (soundBytes x) ≡ 14304
+  unfolding soundBytes
+  to-end = ap length (whole-cut h j p m q) ∙ length-append (((h ++ j) ++ p) ++ m) q ∙ (λ i. to-params i + lq i)
+
+  module _ (c : List ℕ) where
+    core-in : coreOf (headAt (soundBytes x ++ c)) ≡ x .core
+    unfolding soundBytes
+    core-in =
+        ap (λ (l : List ℕ). coreOf (headAt l)) (first-cut h j p m q c)
+        ∙ ap coreOf (head-back (headOf (x .core)) (j ++ (p ++ (m ++ (q ++ c)))) (f .core))
+        ∙ core-back (x .core)
+
+    jacks-in : rowsAt jackAt 24 48 170 (soundBytes x ++ c) ≡ x .jacks
+    unfolding soundBytes
+    jacks-in =
+        ap (rowsAt jackAt 24 48 170) (first-cut h j p m q c)
+        ∙ table-back jackInfo jackInfoValues jackInfoOf (λ r. refl) jackAt jack-reads h (p ++ (m ++ (q ++ c))) (x .jacks) 48 170 (head-sized (x .core)) (f .jacks-170) (f .jacks)
+
+    pcms-in : rowsAt pcmAt 32 4128 127 (soundBytes x ++ c) ≡ x .pcms
+    unfolding soundBytes
+    pcms-in =
+        ap (rowsAt pcmAt 32 4128 127) (second-cut h j p m q c)
+        ∙ table-back pcmInfo pcmInfoValues pcmInfoOf (λ r. refl) pcmAt pcm-reads (h ++ j) (m ++ (q ++ c)) (x .pcms) 4128 127 to-pcms (f .pcms-127) (f .pcms)
+
+    maps-in : rowsAt mapAt 24 8192 170 (soundBytes x ++ c) ≡ x .maps
+    unfolding soundBytes
+    maps-in =
+        ap (rowsAt mapAt 24 8192 170) (third-cut h j p m q c)
+        ∙ table-back channelMap channelMapValues channelMapOf (λ r. refl) mapAt map-reads ((h ++ j) ++ p) (q ++ c) (x .maps) 8192 170 to-maps (f .maps-170) (f .maps)
+
+    params-in : rowsAt paramsAt 16 12272 127 (soundBytes x ++ c) ≡ x .params
+    unfolding soundBytes
+    params-in =
+        ap (rowsAt paramsAt 16 12272 127) (fourth-cut h j p m q c)
+        ∙ table-back paramsRow paramsValues paramsFrom (λ r. refl) paramsAt params-reads (((h ++ j) ++ p) ++ m) c (x .params) 12272 127 to-params (f .params-127) (f .params)
+
+    sound-back : soundOf (soundBytes x ++ c) ≡ x
+    unfolding soundOf
+    sound-back = λ i. record { core = core-in i; jacks = jacks-in i; pcms = pcms-in i; maps = maps-in i; params = params-in i }
+
+pub store-back : (s : List ℕ) (x : Sound) → Fits x → 14304 ≤ length s → soundOf (sets s 0 (soundBytes x)) ≡ x
+store-back s x f l =
+    let e : 0 + length (soundBytes x) ≡ 14304 = zero-add (length (soundBytes x)) ∙ to-end x f in
+    ap soundOf (sets-eq (soundBytes x) s 0 (rw e l)) ∙ sound-back x f (drop (0 + length (soundBytes x)) s)

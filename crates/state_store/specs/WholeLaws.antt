@@ -1,0 +1,236 @@
+-- What a call leaves is whole: the numbers of a core that fit their widths still fit after any call or answer.
+-- Assumes nothing.
+use mathlib.Core.Path.{_≡_, refl, sym, ap, _∙_, subst}
+use mathlib.Core.Bool.{Bool, true, false}
+use mathlib.Core.List.{List, [], _∷_, _++_}
+use Prim.Native.Nat.{ℕ, zero, suc, _+_, _<_, _≤_, _^_}
+use native.Mathlib.Nat.{zero-add}
+use native.Mathlib.Omega.{arith}
+use lib.Dec.{lit<, leb}
+use lib.ListN.{length, drop, set}
+use lib.Seq.{sets, sets-eq, getD-set-other}
+use borrow.Author.Tests.{leb-true}
+use Rattle.layout.specs.Bytes.{bytesAt, Bytes}
+use Rattle.layout.specs.Layout.{readAt, Fit}
+use Rattle.layout.specs.Rows.{rowsBytes}
+use Rattle.layout.specs.LayoutLaws.{read-fits, read-own}
+use Rattle.layout.specs.StoreLaws.{sets-then}
+use Rattle.codes.specs.Says.{pick}
+use Rattle.codes.specs.SaysLaws.{picks, guarded-by}
+use Rattle.tables.specs.Tables.{isGood}
+use Rattle.tables.specs.declared.verdict.Verdict.{Verdict}
+use Rattle.turns.specs.ConsistentLaws.{both}
+use Rattle.turns.specs.declared.ring.Track.{Track}
+use Rattle.exchange.specs.State.{newSound}
+use Rattle.exchange.specs.Plan.{soundAfter}
+use Rattle.exchange.specs.Feed.{Feed, paged, failed, planOf, pageOf}
+use Rattle.exchange.specs.Exchange.{callOf}
+use Rattle.exchange.specs.Xfer.{setUpPlan}
+use Rattle.exchange.specs.OwnLaws.{Own, sets as sends, commands, remaps, lists, tells, refuses, picked-by}
+use Rattle.exchange.specs.PlanLaws.{Begun, bars, asks, goes, begun, counted, Answered, short, idle, asks-streams, asks-maps, cuts, finishes, ends, fails, fed}
+use Rattle.exchange.specs.declared.state.Counts.{Counts}
+use Rattle.exchange.specs.declared.state.Call.{Call}
+use Rattle.exchange.specs.declared.state.Call.the-variants.{Xfer}
+use Rattle.exchange.specs.declared.state.Stage.{Stage}
+use Rattle.exchange.specs.declared.state.Stage.the-variants.{Idle, JacksAsked, StreamsAsked, MapsAsked, Sent}
+use Rattle.exchange.specs.declared.state.Core.{Core}
+use Rattle.exchange.specs.declared.state.Sound.{Sound}
+use Rattle.exchange.specs.declared.plan.Effect.{Effect}
+use Rattle.exchange.specs.declared.plan.Effect.the-variants.{Nothing, FillJacks, FillStreams, FillMaps, Store}
+use Rattle.exchange.specs.declared.plan.Plan.{Plan}
+use Rattle.exchange.specs.declared.xfer.Gate.{Gate}
+use Rattle.exchange.specs.declared.xfer.Gate.the-variants.{Shut, SetUp, Open}
+use Rattle.state_store.specs.Flat.{flatRow, flatValues, callFlat, staged, flatOf, wholeFlat}
+use Rattle.state_store.specs.Store.{headRow, headValues, headFrom, headAt, headOf, coreOf, whole, jackBytes, pcmBytes, mapBytes, paramsBytes, soundOf, soundBytes}
+use Rattle.state_store.specs.Calls.{Told, told, lengths, callIn, feedIn, failIn, Opened, settingUp, openIn, Made, newIn}
+use Rattle.state_store.specs.FlatLaws.{core-back, core-same, flat-whole}
+use Rattle.state_store.specs.OverLaws.{headBytes, head-sized}
+use Rattle.state_store.specs.StoreLaws.{core-at, head-back}
+use Rattle.state_store.specs.OpenLaws.{gateIn, openBy, set-up-long, opened-by}
+use Rattle.state_store.specs.declared.flat.Head.{Head}
+
+-- ---- a core whose numbers fit their widths, as every core of the code does
+
+-- the ten fields of a call
+abbrev pub FitCall : Call → Type 0
+FitCall call = Fit (drop 2 flatRow) (drop 2 (flatValues (callFlat call)))
+
+abbrev pub FitStage : Stage → Type 0
+FitStage Idle = Unit {0}
+FitStage (JacksAsked call) = FitCall call
+FitStage (StreamsAsked call) = FitCall call
+FitStage (MapsAsked call) = FitCall call
+FitStage (Sent call) = FitCall call
+
+abbrev FitCounts : Counts → Type 0
+FitCounts n = Fit (4 ∷ 4 ∷ 4 ∷ []) (n .jacks ∷ n .streams ∷ n .maps ∷ [])
+
+pub record FitCore (c : Core) : Type 0 where
+  pub counts : FitCounts (c .counts)
+  pub read : FitCounts (c .read)
+  pub stage : FitStage (c .stage)
+
+flag-fits : (b : Bool) → pick b 1 0 < 256 ^ 1
+flag-fits true = lit< tt
+flag-fits false = lit< tt
+
+module _ (ready : Bool) where
+  -- what a call has no use for is 0
+  staged-fits : (n : ℕ) (call : Call) → n < 256 ^ 1 → FitCall call → Fit flatRow (flatValues (staged ready n (callFlat call)))
+  staged-fits n call k h = (flag-fits ready, (k, h))
+
+  flat-fits : (g : Stage) → FitStage g → Fit flatRow (flatValues (flatOf ready g))
+  flat-fits Idle h = (flag-fits ready, (lit< tt, (lit< tt, (lit< tt, (lit< tt, (lit< tt, (lit< tt, (lit< tt, (lit< tt, (lit< tt, (lit< tt, (lit< tt, tt))))))))))))
+  flat-fits (JacksAsked call) h = staged-fits 1 call (lit< tt) h
+  flat-fits (StreamsAsked call) h = staged-fits 2 call (lit< tt) h
+  flat-fits (MapsAsked call) h = staged-fits 3 call (lit< tt) h
+  flat-fits (Sent call) h = staged-fits 4 call (lit< tt) h
+
+  stage-fits : (g : Stage) → Fit flatRow (flatValues (flatOf ready g)) → FitStage g
+  stage-fits Idle h = tt
+  stage-fits (JacksAsked call) h = h .1 .1
+  stage-fits (StreamsAsked call) h = h .1 .1
+  stage-fits (MapsAsked call) h = h .1 .1
+  stage-fits (Sent call) h = h .1 .1
+
+pub head-fits : (c : Core) → FitCore c → Fit headRow (headValues (headOf c))
+head-fits c f =
+    let g = flat-fits (c .ready) (c .stage) (f .stage) in
+    (f .counts .0, (f .counts .1 .0, (f .counts .1 .1 .0, (f .read .0, (f .read .1 .0, (f .read .1 .1 .0, g))))))
+
+fits-head : (c : Core) → Fit headRow (headValues (headOf c)) → FitCore c
+fits-head c h =
+    let r = h .1 .1 .1 in
+    record { counts = (h .0, (h .1 .0, (h .1 .1 .0, tt))); read = (r .0, (r .1 .0, (r .1 .1 .0, tt))); stage = stage-fits (c .ready) (c .stage) (r .1 .1 .1) }
+
+-- what a whole store holds fits
+pub store-fits : (s : List ℕ) → Bytes s → whole s ≡ true → FitCore (soundOf s .core)
+unfolding headAt
+store-fits s b w =
+    subst FitCore (sym (core-at s))
+    (fits-head (coreOf (headAt s)) (subst (λ (h : Head). Fit headRow (headValues h)) (sym (core-same (headAt s) w)) (read-fits 0 headRow s b)))
+
+-- ---- a call and an answer keep it
+
+no-counts : FitCounts (record { jacks = 0; streams = 0; maps = 0 })
+no-counts = (lit< tt, (lit< tt, (lit< tt, tt)))
+
+counted-fits : (v : Verdict) (n : ℕ) → n < 256 ^ 4 → counted v n < 256 ^ 4
+counted-fits v n h = picked-by (λ (k : ℕ). k < 256 ^ 4) (isGood v) n 0 (λ _. h) (λ _. lit< tt)
+
+own-fits : {c : Core} {look : ℕ} {call : Call} {p : Plan} → FitCore c → FitCall call → Own c look call p → FitCore (p .core)
+own-fits f k (sends _ _) = record { counts = f .counts; read = f .read; stage = k }
+own-fits f k commands = record { counts = f .counts; read = f .read; stage = k }
+own-fits f k (remaps _ _ _) = record { counts = f .counts; read = f .read; stage = k }
+own-fits f k lists = record { counts = f .counts; read = f .read; stage = tt }
+own-fits f k (tells _) = record { counts = f .counts; read = f .read; stage = tt }
+own-fits f k (refuses _ _) = record { counts = f .counts; read = f .read; stage = tt }
+
+begun-fits : {c : Core} {call : Call} {look : ℕ} {p : Plan} → FitCore c → FitCall call → Begun c call look p → FitCore (p .core)
+begun-fits f k (bars _) = f
+begun-fits f k (asks _ _ _ _) = record { counts = f .counts; read = f .read; stage = k }
+begun-fits f k (goes _ _ _ _ o) = own-fits f k o
+
+waits : {c : Core} (g : Stage) → FitCore c → c .stage ≡ g → FitStage g
+waits g f e = subst FitStage e (f .stage)
+
+answered-fits : {c : Core} {v : Verdict} {look : ℕ} {long : Bool} {p : Plan} → FitCore c → Answered c v look long p → FitCore (p .core)
+answered-fits f (short _) = f
+answered-fits f (idle _) = f
+answered-fits {c} {v} f (asks-streams {call} _ g) = record { counts = f .counts; read = (counted-fits v (c .counts .jacks) (f .counts .0), (lit< tt, (lit< tt, tt))); stage = waits (JacksAsked call) f g }
+answered-fits f (asks-maps {call} _ g _) = record { counts = f .counts; read = (f .read .0, (f .counts .1 .0, (lit< tt, tt))); stage = waits (StreamsAsked call) f g }
+answered-fits f (cuts _ _ _ _ _) = record { counts = f .counts; read = no-counts; stage = tt }
+answered-fits {c} {v} f (finishes {call} _ g o) =
+    own-fits (record { counts = f .counts; read = (f .read .0, (f .read .1 .0, (counted-fits v (c .counts .maps) (f .counts .1 .1 .0), tt))); stage = f .stage }) (waits (MapsAsked call) f g) o
+answered-fits f (ends _ _ _) = record { counts = f .counts; read = f .read; stage = tt }
+answered-fits f (fails _ _ _) = record { counts = f .counts; read = f .read; stage = tt }
+
+-- ---- a store in which a state was written
+
+before-set : (l : List ℕ) (i v o n : ℕ) → o + n ≤ i → bytesAt o n (set l i v) ≡ bytesAt o n l
+unfolding bytesAt
+before-set l i v o zero h = refl
+before-set l i v o (suc n) h = λ k. getD-set-other l i o v 0 (λ e. omega arith) k ∷ before-set l i v (suc o) n (omega arith) k
+
+-- a store past a place leaves what is read there
+bytesAt-before : (vs l : List ℕ) (i o n : ℕ) → o + n ≤ i → bytesAt o n (sets l i vs) ≡ bytesAt o n l
+bytesAt-before [] l i o n h = refl
+bytesAt-before (v ∷ vs) l i o n h = bytesAt-before vs (set l i v) (suc i) o n (omega arith) ∙ before-set l i v o n h
+
+head-before : (l vs : List ℕ) → headAt (sets l 48 vs) ≡ headAt l
+unfolding headAt
+head-before l vs = ap headFrom (read-own 0 headRow (sets l 48 vs) ∙ ap (readAt 0 headRow) (bytesAt-before vs l 48 0 48 (omega arith)) ∙ sym (read-own 0 headRow l))
+
+pub left-head : (s : List ℕ) (x : Sound) → FitCore (x .core) → 48 ≤ length s → headAt (sets s 0 (soundBytes x)) ≡ headOf (x .core)
+unfolding soundBytes
+left-head s x f l =
+    let h = headBytes (x .core) in
+    let rest = rowsBytes jackBytes (x .jacks) ++ (rowsBytes pcmBytes (x .pcms) ++ (rowsBytes mapBytes (x .maps) ++ rowsBytes paramsBytes (x .params))) in
+    let e : 0 + length h ≡ 48 = zero-add (length h) ∙ head-sized (x .core) in
+    ap headAt (sym (sets-then s 0 48 h rest (sym e)))
+    ∙ head-before (sets s 0 h) rest
+    ∙ ap headAt (sets-eq h s 0 (rw e l))
+    ∙ head-back (headOf (x .core)) (drop (0 + length h) s) (head-fits (x .core) f)
+
+pub left-whole : (s : List ℕ) (x : Sound) → FitCore (x .core) → 48 ≤ length s → whole (sets s 0 (soundBytes x)) ≡ true
+left-whole s x f l = ap (λ (h : Head). wholeFlat (h .flat)) (left-head s x f l) ∙ flat-whole (x .core .ready) (x .core .stage)
+
+pub left-core : (s : List ℕ) (x : Sound) → FitCore (x .core) → 48 ≤ length s → soundOf (sets s 0 (soundBytes x)) .core ≡ x .core
+left-core s x f l = core-at (sets s 0 (soundBytes x)) ∙ ap coreOf (left-head s x f l) ∙ core-back (x .core)
+
+-- ---- THE CALLS
+
+after-core : (e : Effect) (c : Core) (x : Sound) (page : List ℕ) → soundAfter e c x page .core ≡ c
+after-core Nothing c x page = refl
+after-core FillJacks c x page = refl
+after-core FillStreams c x page = refl
+after-core FillMaps c x page = refl
+after-core (Store stream to) c x page = refl
+
+module _ (s m r : List ℕ) (b : Bytes s) (w : whole s ≡ true) where
+  told-whole : (p : Plan) (page : List ℕ) → FitCore (p .core) → lengths s r ≡ true → whole (told s p page m r .state) ≡ true
+  told-whole p page f l =
+      let k : 14304 ≤ length s = leb-true 14304 (length s) (both (leb 14304 (length s)) (leb 512 (length r)) l .0) in
+      let x = soundAfter (p .effect) (p .core) (soundOf s) page in
+      ap whole (picks (whole s) (sets s 0 (soundBytes x)) s w)
+      ∙ left-whole s x (subst FitCore (sym (after-core (p .effect) (p .core) (soundOf s) page)) f) (omega arith)
+
+  pub call-whole : (t : Track) (call : Call) → FitCall call → whole (callIn s t call m r .state) ≡ true
+  unfolding callIn
+  call-whole t call k =
+      guarded-by (λ (x : Told). whole (x .state) ≡ true) _ _ _
+      (told-whole (callOf (soundOf s) t call (length m)) [] (begun-fits (store-fits s b w) k (begun (soundOf s) t call (length m)))) (λ _. w)
+
+  fed-whole : (f : Feed) → lengths s r ≡ true → whole (told s (planOf (soundOf s) f) (pageOf f) m r .state) ≡ true
+  fed-whole f = told-whole (planOf (soundOf s) f) (pageOf f) (answered-fits (store-fits s b w) (fed (soundOf s) f))
+
+  pub feed-whole : (page : List ℕ) → whole (feedIn s page m r .state) ≡ true
+  unfolding feedIn
+  feed-whole page = guarded-by (λ (x : Told). whole (x .state) ≡ true) _ _ _ (fed-whole (paged page (length m))) (λ _. w)
+
+  pub fail-whole : whole (failIn s m r .state) ≡ true
+  unfolding failIn
+  fail-whole = guarded-by (λ (x : Told). whole (x .state) ≡ true) _ _ _ (fed-whole (failed (length m))) (λ _. w)
+
+  set-up-whole : (stream : ℕ) → stream < 256 ^ 4 → 14304 ≤ length s → whole (settingUp s stream m .state) ≡ true
+  set-up-whole stream k l =
+      let p = setUpPlan (soundOf s) stream in
+      let x = soundAfter (p .effect) (p .core) (soundOf s) [] in
+      let f = store-fits s b w in
+      let z : 0 < 256 ^ 4 = lit< tt in
+      let g : FitCall (Xfer stream) = (lit< tt, (lit< tt, (k, (z, (z, (z, (lit< tt, (lit< tt, (lit< tt, (lit< tt, tt)))))))))) in
+      ap whole (picks (whole s) (sets s 0 (soundBytes x)) s w) ∙ left-whole s x (record { counts = f .counts; read = f .read; stage = g }) (omega arith)
+
+  pub open-whole : (t : Track) (stream : ℕ) → stream < 256 ^ 4 → whole (openIn s t stream m .state) ≡ true
+  open-whole t stream k = opened-by s m t stream (λ (o : Opened). whole (o .state) ≡ true) by
+    where
+      by : (g : Gate) → g ≡ gateIn s m t stream → whole (openBy s m t stream g .state) ≡ true
+      by (Shut x) e = w
+      by SetUp e = set-up-whole stream k (set-up-long s m t stream e .0)
+      by (Open period) e = w
+
+pub new-whole : (s : List ℕ) (jacks streams maps : ℕ) → jacks < 256 ^ 4 → streams < 256 ^ 4 → maps < 256 ^ 4 → newIn s jacks streams maps .answer ≡ 0 → whole (newIn s jacks streams maps .state) ≡ true
+new-whole s jacks streams maps j k m =
+    guarded-by (λ (x : Made). x .answer ≡ 0 → whole (x .state) ≡ true) _ _ _
+    (λ l _. left-whole s (newSound jacks streams maps) (record { counts = (j, (k, (m, tt))); read = no-counts; stage = tt }) (omega (arith, leb-true 14304 (length s) l)))
+    (λ _ e. absurd (omega arith))

@@ -1,0 +1,182 @@
+// The calls on a state in a byte store: the call by value on the state that the store holds, with
+// what it leaves written over it. Only what changes is written.
+ghost use mathlib.Core.Path.{_≡_};
+ghost use Prim.Native.Nat.{_≤_};
+ghost use lib.ListN.{length};
+ghost use Rattle.exchange.specs.Exchange.{saysReply};
+ghost use Rattle.state_store.specs.Calls.{left, callIn, feedIn, failIn, opened, openIn};
+ghost use Rattle.state_store.specs.FinishLaws.{changed, finished, settingUpBy};
+use crate::effect::apply;
+use crate::flat::both;
+use crate::flat::is_whole;
+use crate::head::core_of;
+use crate::head::get_head;
+use crate::head::put_core;
+use crate::place::look;
+use crate::place::params_at;
+use crate::place::pending_look;
+use crate::result::put_result;
+use exchange::Call;
+use exchange::Core;
+use exchange::Effect;
+use exchange::Gate;
+use exchange::MESSAGE;
+use exchange::Plan;
+use exchange::Reply;
+use exchange::ask_jacks;
+use exchange::tell;
+use exchange::verdict_by;
+use exchange::xfer_gate;
+use tables::PAGE;
+use tables::Verdict;
+use turns::Track;
+
+// The bytes of a state.
+pub const SIZE: usize = 14304;
+
+// The least length of a result: a list of 127 streams with its count.
+pub const RESULT: usize = 512;
+
+// The start of a transfer, as far as the state goes: an answer by its number, or a transfer by
+// periods of so many bytes, for the ring to start.
+pub enum Opening {
+    Says(u64),
+    Open(u32),
+}
+
+pub fn size() -> u64
+    ensures { λ r. ⌜ r ≡ 14304 ⌝ }
+{
+    SIZE as u64
+}
+
+// ---- what a plan comes to
+
+// A reply by its number: a request of so many bytes to send is 256 and those.
+fn number_of(reply: Reply) -> u64
+    requires { ⌜ saysReply reply .number ≤ 280 ⌝ }
+    ensures { λ r. ⌜ r ≡ saysReply reply .number ⌝ }
+{
+    match reply {
+        Reply::Send(n) => 256 + n as u64,
+        Reply::Done(_) => 0,
+        Reply::Refused(refusal) => refusal.number() as u64,
+    }
+}
+
+// The new core and the effect, in a store that is whole; any other holds no state, and stays.
+fn change(state: &mut [u8], whole: bool, effect: Effect, core: Core, page: &[u8])
+    requires { ⌜ 14304 ≤ length (now state) ⌝ }
+    ensures { λ _. ⌜ now (state .exit) ≡ changed whole (now (state .entry)) effect core (now (page .entry)) ⌝ }
+{
+    if !whole {
+        return;
+    }
+    put_core(&mut *state, core);
+    apply(&mut *state, effect, core.counts, page);
+}
+
+// The result is put first: it lists the table that the state had.
+fn finish(
+    state: &mut [u8],
+    whole: bool,
+    plan: Plan,
+    page: &[u8],
+    message: &mut [u8],
+    result: &mut [u8],
+) -> u64
+    requires { ⌜ (14304 ≤ length (now state)) × (24 ≤ length (now message)) ⌝ }
+    ensures { λ r. ⌜ left r (now (state .exit)) (now (message .exit)) (now (result .exit)) ≡ finished whole (now (state .entry)) plan (now (page .entry)) (now (message .entry)) (now (result .entry)) ⌝ }
+{
+    let core = plan.core;
+    let say = plan.say;
+    let effect = plan.effect;
+    put_result(&state[..], say, core.read.streams, &mut *result);
+    change(&mut *state, whole, effect, core, page);
+    number_of(tell(say, &mut *message))
+}
+
+// ---- the calls
+
+// A call, with the ring's track to tell Busy.
+pub fn call(state: &mut [u8], t: Track, asked: Call, message: &mut [u8], result: &mut [u8]) -> u64
+    ensures { λ r. ⌜ left r (now (state .exit)) (now (message .exit)) (now (result .exit)) ≡ callIn (now (state .entry)) t asked (now (message .entry)) (now (result .entry)) ⌝ }
+{
+    if !both(SIZE <= state.len(), RESULT <= result.len()) {
+        return 10;
+    }
+    if message.len() < MESSAGE {
+        return 10;
+    }
+    let h = get_head(&state[..]);
+    let found = look(&state[..], asked);
+    let plan = exchange::begin(core_of(h), t, asked, found);
+    finish(state, is_whole(h.flat), plan, &[], message, result)
+}
+
+// The answer page to the request that is out.
+pub fn feed(state: &mut [u8], page: &[u8], message: &mut [u8], result: &mut [u8]) -> u64
+    ensures { λ r. ⌜ left r (now (state .exit)) (now (message .exit)) (now (result .exit)) ≡ feedIn (now (state .entry)) (now (page .entry)) (now (message .entry)) (now (result .entry)) ⌝ }
+{
+    if !both(SIZE <= state.len(), RESULT <= result.len()) {
+        return 10;
+    }
+    if !both(page.len() == PAGE, MESSAGE <= message.len()) {
+        return 10;
+    }
+    let h = get_head(&state[..]);
+    let c = core_of(h);
+    let stage = c.stage;
+    let verdict = verdict_by(stage, c.counts, page);
+    let found = pending_look(&state[..], stage);
+    let plan = exchange::answer(c, verdict, found);
+    finish(state, is_whole(h.flat), plan, page, message, result)
+}
+
+// The queue reports that the request that is out has failed: there is no page.
+pub fn feed_failure(state: &mut [u8], message: &mut [u8], result: &mut [u8]) -> u64
+    ensures { λ r. ⌜ left r (now (state .exit)) (now (message .exit)) (now (result .exit)) ≡ failIn (now (state .entry)) (now (message .entry)) (now (result .entry)) ⌝ }
+{
+    if !both(SIZE <= state.len(), RESULT <= result.len()) {
+        return 10;
+    }
+    if message.len() < MESSAGE {
+        return 10;
+    }
+    let h = get_head(&state[..]);
+    let c = core_of(h);
+    let stage = c.stage;
+    let found = pending_look(&state[..], stage);
+    let plan = exchange::answer(c, Verdict::Failed, found);
+    finish(state, is_whole(h.flat), plan, &[], message, result)
+}
+
+// The transfer waits for set-up, and its first query goes out.
+fn set_up(state: &mut [u8], whole: bool, c: Core, stream: u32, message: &mut [u8]) -> Opening
+    requires { ⌜ (14304 ≤ length (now state)) × (24 ≤ length (now message)) ⌝ }
+    ensures { λ r. ⌜ opened r (now (state .exit)) (now (message .exit)) ≡ settingUpBy whole c (now (state .entry)) stream (now (message .entry)) ⌝ }
+{
+    let plan = ask_jacks(c, Call::Xfer { stream });
+    let core = plan.core;
+    let say = plan.say;
+    change(&mut *state, whole, Effect::Nothing, core, &[]);
+    tell(say, &mut *message);
+    Opening::Says(272)
+}
+
+// The start of a transfer, as far as the state goes.
+pub fn open(state: &mut [u8], t: Track, stream: u32, message: &mut [u8]) -> Opening
+    ensures { λ r. ⌜ opened r (now (state .exit)) (now (message .exit)) ≡ openIn (now (state .entry)) t stream (now (message .entry)) ⌝ }
+{
+    let h = get_head(&state[..]);
+    let c = core_of(h);
+    let whole = is_whole(h.flat);
+    let params = params_at(&state[..], stream);
+    let lengths = both(SIZE <= state.len(), MESSAGE <= message.len());
+    let gate = xfer_gate(lengths, c, params, t, stream);
+    match gate {
+        Gate::Shut(refusal) => Opening::Says(refusal.number() as u64),
+        Gate::SetUp => set_up(state, whole, c, stream, message),
+        Gate::Open(period) => Opening::Open(period),
+    }
+}

@@ -1,0 +1,97 @@
+// A new state, and the configured counts of a state.
+ghost use mathlib.Core.Path.{_≡_};
+ghost use Prim.Native.Nat.{_≤_};
+ghost use lib.ListN.{length};
+ghost use lib.Seq.{sets};
+ghost use Rattle.state_store.specs.Calls.{made, newIn, shown, jackCount, streamCount, mapCount, countIn};
+ghost use Rattle.state_store.specs.NewLaws.{zeros, countBy};
+use crate::calls::RESULT;
+use crate::calls::SIZE;
+use crate::flat::both;
+use crate::head::core_of;
+use crate::head::get_head;
+use crate::head::put_core;
+use exchange::Core;
+use exchange::Counts;
+use exchange::Stage;
+use exchange::consistent;
+
+// The tables and parameters of a new state are 0.
+fn clear(s: &mut [u8])
+    requires { ⌜ 14304 ≤ length (now s) ⌝ }
+    ensures { λ _. ⌜ now (s .exit) ≡ sets (now (s .entry)) 48 (zeros 14256) ⌝ }
+{
+    let mut n: usize = 0;
+    while n < 14256 {
+        s[48 + n] = 0;
+        n += 1;
+    }
+}
+
+// The state before any call, from the configured counts.
+pub fn new(state: &mut [u8], jacks: u32, streams: u32, chmaps: u32) -> u64
+    ensures { λ r. ⌜ made r (now (state .exit)) ≡ newIn (now (state .entry)) jacks streams chmaps ⌝ }
+{
+    if state.len() < SIZE {
+        return 10;
+    }
+    let core = Core {
+        counts: Counts {
+            jacks,
+            streams,
+            maps: chmaps,
+        },
+        read: Counts {
+            jacks: 0,
+            streams: 0,
+            maps: 0,
+        },
+        ready: false,
+        stage: Stage::Idle,
+    };
+    put_core(&mut *state, core);
+    clear(&mut *state);
+    0
+}
+
+// A count, of a core that passes the consistency test.
+fn show(c: Core, n: u32, result: &mut [u8]) -> u64
+    ensures { λ r. ⌜ shown r (now (result .exit)) ≡ countBy c n (now (result .entry)) ⌝ }
+{
+    if !consistent(c) {
+        return 1;
+    }
+    layout::put_u64(&mut *result, 0, n as u64);
+    0
+}
+
+// The configured counts.
+pub fn jacks(state: &[u8], result: &mut [u8]) -> u64
+    ensures { λ r. ⌜ shown r (now (result .exit)) ≡ countIn (now (state .entry)) jackCount (now (result .entry)) ⌝ }
+{
+    if !both(SIZE <= state.len(), RESULT <= result.len()) {
+        return 10;
+    }
+    let c = core_of(get_head(state));
+    show(c, c.counts.jacks, result)
+}
+
+pub fn streams(state: &[u8], result: &mut [u8]) -> u64
+    ensures { λ r. ⌜ shown r (now (result .exit)) ≡ countIn (now (state .entry)) streamCount (now (result .entry)) ⌝ }
+{
+    if !both(SIZE <= state.len(), RESULT <= result.len()) {
+        return 10;
+    }
+    let c = core_of(get_head(state));
+    show(c, c.counts.streams, result)
+}
+
+pub fn chmaps(state: &[u8], result: &mut [u8]) -> u64
+    ensures { λ r. ⌜ shown r (now (result .exit)) ≡ countIn (now (state .entry)) mapCount (now (result .entry)) ⌝ }
+{
+    if !both(SIZE <= state.len(), RESULT <= result.len()) {
+        return 10;
+    }
+    let c = core_of(get_head(state));
+    show(c, c.counts.maps, result)
+}

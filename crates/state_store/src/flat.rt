@@ -1,0 +1,276 @@
+// The core as fixed fields.
+ghost use mathlib.Core.Path.{_≡_};
+ghost use mathlib.Core.Bool.{_&&_};
+ghost use Rattle.codes.specs.Says.{pick};
+ghost use Rattle.state_store.specs.Flat.{kindNumber, fieldNumber, numbered, setFlat, callFlat, staged, flatOf, kindOf, fieldOf, flatParams, flatCall, flatStage, sameFlat, wholeFlat};
+use exchange::Call;
+use exchange::Counts;
+use exchange::Field;
+use exchange::Kind;
+use exchange::Params;
+use exchange::Stage;
+
+// A stage and the call that waits, by numbers; what a call has no use for is 0.
+pub struct Flat {
+    pub ready: u8,
+    pub stage: u8,
+    pub call: u8,
+    pub part: u8,
+    pub id: u32,
+    pub first: u32,
+    pub second: u32,
+    pub third: u32,
+    pub known: u8,
+    pub channels: u8,
+    pub format: u8,
+    pub rate: u8,
+}
+
+// The first 48 bytes of a state.
+pub struct Head {
+    pub counts: Counts,
+    pub read: Counts,
+    pub flat: Flat,
+}
+
+// ---- from a stage to its fields
+
+fn kind_number(kind: Kind) -> u8
+    ensures { λ r. ⌜ r ≡ kindNumber kind ⌝ }
+{
+    match kind {
+        Kind::Prepare => 0,
+        Kind::Release => 1,
+        Kind::Start => 2,
+        Kind::Stop => 3,
+    }
+}
+
+fn field_number(field: Field) -> u8
+    ensures { λ r. ⌜ r ≡ fieldNumber field ⌝ }
+{
+    match field {
+        Field::Rates => 0,
+        Field::Formats => 1,
+        Field::Channels => 2,
+        Field::Features => 3,
+    }
+}
+
+fn numbers(call: u8, part: u8, id: u32, first: u32, second: u32) -> Flat
+    ensures { λ r. ⌜ r ≡ numbered call part id first second ⌝ }
+{
+    Flat {
+        ready: 0,
+        stage: 0,
+        call,
+        part,
+        id,
+        first,
+        second,
+        third: 0,
+        known: 0,
+        channels: 0,
+        format: 0,
+        rate: 0,
+    }
+}
+
+fn set_flat(stream: u32, to: Params) -> Flat
+    ensures { λ r. ⌜ r ≡ setFlat stream to ⌝ }
+{
+    Flat {
+        ready: 0,
+        stage: 0,
+        call: 1,
+        part: 0,
+        id: stream,
+        first: to.buffer,
+        second: to.period,
+        third: to.features,
+        known: to.known,
+        channels: to.channels,
+        format: to.format,
+        rate: to.rate,
+    }
+}
+
+fn call_flat(call: Call) -> Flat
+    ensures { λ r. ⌜ r ≡ callFlat call ⌝ }
+{
+    match call {
+        Call::SetParams { stream, to } => set_flat(stream, to),
+        Call::Command { kind, stream } => numbers(2, kind_number(kind), stream, 0, 0),
+        Call::Remap {
+            jack,
+            association,
+            sequence,
+        } => numbers(3, 0, jack, association, sequence),
+        Call::Streams { direction } => numbers(4, direction, 0, 0, 0),
+        Call::Supported { field, stream } => numbers(5, field_number(field), stream, 0, 0),
+        Call::Xfer { stream } => numbers(6, 0, stream, 0, 0),
+    }
+}
+
+fn flag(ready: bool) -> u8
+    ensures { λ r. ⌜ r ≡ pick ready 1 0 ⌝ }
+{
+    if ready { 1 } else { 0 }
+}
+
+fn at_stage(ready: bool, stage: u8, f: Flat) -> Flat
+    ensures { λ r. ⌜ r ≡ staged ready stage f ⌝ }
+{
+    Flat {
+        ready: flag(ready),
+        stage,
+        ..f
+    }
+}
+
+pub(crate) fn flat_of(ready: bool, g: Stage) -> Flat
+    ensures { λ r. ⌜ r ≡ flatOf ready g ⌝ }
+{
+    match g {
+        Stage::Idle => at_stage(ready, 0, numbers(0, 0, 0, 0, 0)),
+        Stage::JacksAsked(call) => at_stage(ready, 1, call_flat(call)),
+        Stage::StreamsAsked(call) => at_stage(ready, 2, call_flat(call)),
+        Stage::MapsAsked(call) => at_stage(ready, 3, call_flat(call)),
+        Stage::Sent(call) => at_stage(ready, 4, call_flat(call)),
+    }
+}
+
+// ---- and back: every number stands for something
+
+fn kind_of(n: u8) -> Kind
+    ensures { λ r. ⌜ r ≡ kindOf n ⌝ }
+{
+    if n == 0 {
+        return Kind::Prepare;
+    }
+    if n == 1 {
+        return Kind::Release;
+    }
+    if n == 2 {
+        return Kind::Start;
+    }
+    Kind::Stop
+}
+
+fn field_of(n: u8) -> Field
+    ensures { λ r. ⌜ r ≡ fieldOf n ⌝ }
+{
+    if n == 0 {
+        return Field::Rates;
+    }
+    if n == 1 {
+        return Field::Formats;
+    }
+    if n == 2 {
+        return Field::Channels;
+    }
+    Field::Features
+}
+
+fn params_of(f: Flat) -> Params
+    ensures { λ r. ⌜ r ≡ flatParams f ⌝ }
+{
+    Params {
+        known: f.known,
+        buffer: f.first,
+        period: f.second,
+        features: f.third,
+        channels: f.channels,
+        format: f.format,
+        rate: f.rate,
+    }
+}
+
+fn call_of(f: Flat) -> Call
+    ensures { λ r. ⌜ r ≡ flatCall f ⌝ }
+{
+    let n = f.call;
+    if n == 1 {
+        return Call::SetParams {
+            stream: f.id,
+            to: params_of(f),
+        };
+    }
+    if n == 2 {
+        return Call::Command {
+            kind: kind_of(f.part),
+            stream: f.id,
+        };
+    }
+    if n == 3 {
+        return Call::Remap {
+            jack: f.id,
+            association: f.first,
+            sequence: f.second,
+        };
+    }
+    if n == 4 {
+        return Call::Streams { direction: f.part };
+    }
+    if n == 5 {
+        return Call::Supported {
+            field: field_of(f.part),
+            stream: f.id,
+        };
+    }
+    Call::Xfer { stream: f.id }
+}
+
+pub(crate) fn stage_of(f: Flat) -> Stage
+    ensures { λ r. ⌜ r ≡ flatStage f ⌝ }
+{
+    let n = f.stage;
+    let call = call_of(f);
+    if n == 0 {
+        return Stage::Idle;
+    }
+    if n == 1 {
+        return Stage::JacksAsked(call);
+    }
+    if n == 2 {
+        return Stage::StreamsAsked(call);
+    }
+    if n == 3 {
+        return Stage::MapsAsked(call);
+    }
+    Stage::Sent(call)
+}
+
+// ---- the test of wholeness
+
+pub(crate) fn both(a: bool, b: bool) -> bool
+    ensures { λ r. ⌜ r ≡ (a && b) ⌝ }
+{
+    if a { b } else { false }
+}
+
+fn same_flat(f: Flat, g: Flat) -> bool
+    ensures { λ r. ⌜ r ≡ sameFlat f g ⌝ }
+{
+    let t = both(f.format == g.format, f.rate == g.rate);
+    let t = both(f.channels == g.channels, t);
+    let t = both(f.known == g.known, t);
+    let t = both(f.third == g.third, t);
+    let t = both(f.second == g.second, t);
+    let t = both(f.first == g.first, t);
+    let t = both(f.id == g.id, t);
+    let t = both(f.part == g.part, t);
+    let t = both(f.call == g.call, t);
+    let t = both(f.stage == g.stage, t);
+    both(f.ready == g.ready, t)
+}
+
+// Fields that are what their stage is written as: an unknown number, a flag of 2 and an unused
+// field that is not 0 are all found by this one test.
+pub(crate) fn is_whole(f: Flat) -> bool
+    ensures { λ r. ⌜ r ≡ wholeFlat f ⌝ }
+{
+    let ready = f.ready != 0;
+    let stage = stage_of(f);
+    same_flat(f, flat_of(ready, stage))
+}
