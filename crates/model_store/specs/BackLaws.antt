@@ -1,0 +1,142 @@
+-- A device that is written in a store and read again is itself, if its numbers fit their fields and its tables have their lengths.
+-- Assumes nothing.
+use mathlib.Core.Path.{_≡_, sym, ap, _∙_}
+use mathlib.Core.List.{List, [], _∷_, _++_, append-assoc, append-nil}
+use Prim.Native.Nat.{ℕ, _+_, _<_, _≤_, _^_}
+use native.Mathlib.Nat.{add-zero}
+use native.Mathlib.Omega.{arith}
+use lib.ListN.{length, getD, drop}
+use lib.Seq.{sets, sets-eq}
+use Rattle.layout.specs.Bytes.{le, un, bytesAt, numAt, Bytes}
+use Rattle.layout.specs.Layout.{write, readAt, read, Fit}
+use Rattle.layout.specs.Rows.{rowsBytes}
+use Rattle.layout.specs.BytesLaws.{length-le, un-le, numAt-below, bytesAt-all, bytesAt-append, bytesAt-own}
+use Rattle.layout.specs.LayoutLaws.{length-write, read-write, read-own, read-fits}
+use Rattle.records.specs.Records.{jackInfo, jackInfoValues, pcmInfo, pcmInfoValues, channelMap, channelMapValues, setParameters, setParametersValues}
+use Rattle.records.specs.BackLaws.{jackInfoOf, pcmInfoOf, channelMapOf, setParametersOf}
+use Rattle.records.specs.declared.info.JackInfo.{JackInfo}
+use Rattle.records.specs.declared.info.PcmInfo.{PcmInfo}
+use Rattle.records.specs.declared.info.ChannelMap.{ChannelMap}
+use Rattle.tables.specs.Tables.{jackAt, pcmAt, mapAt}
+use Rattle.model.specs.Control.{jackBytes, pcmBytes, mapBytes}
+use Rattle.model.specs.declared.device.Held.{Held}
+use Rattle.model.specs.declared.device.Device.{Device}
+use Rattle.model_store.specs.Store.{countsBytes, countsAt, heldBytes, heldAt, wordAt, deviceOf, deviceBytes}
+use Rattle.model_store.specs.PartLaws.{Every, rows-every, table-back}
+use Rattle.model_store.specs.StoreLaws.{Sized, sized-of, jack-sized, pcm-sized, map-sized, held-sized, toPcms, toMaps, toParams, toPlayed, fromPcms, fromMaps, fromParams, fromPlayed, at-jacks, at-pcms, at-maps, at-params, at-played, length-counts, length-toPcms, length-toMaps, length-toParams, length-toPlayed, length-deviceBytes}
+
+-- ---- a record of each table is read from its own bytes alone, and is what was written
+
+read-all : (ws vs : List ℕ) → Fit ws vs → read ws (write ws vs) ≡ vs
+read-all ws vs f = ap (read ws) (sym (append-nil (write ws vs))) ∙ read-write ws vs [] f
+
+jack-own : (o : ℕ) (s : List ℕ) → jackAt o s ≡ jackAt 0 (bytesAt o 24 s)
+unfolding jackAt
+jack-own o s = ap jackInfoOf (read-own o jackInfo s)
+
+jack-back : (x : JackInfo) → Fit jackInfo (jackInfoValues x) → jackAt 0 (jackBytes x) ≡ x
+unfolding jackAt
+jack-back x f = ap jackInfoOf (read-all jackInfo (jackInfoValues x) f)
+
+pcm-own : (o : ℕ) (s : List ℕ) → pcmAt o s ≡ pcmAt 0 (bytesAt o 32 s)
+unfolding pcmAt
+pcm-own o s = ap pcmInfoOf (read-own o pcmInfo s)
+
+pcm-back : (x : PcmInfo) → Fit pcmInfo (pcmInfoValues x) → pcmAt 0 (pcmBytes x) ≡ x
+unfolding pcmAt
+pcm-back x f = ap pcmInfoOf (read-all pcmInfo (pcmInfoValues x) f)
+
+map-own : (o : ℕ) (s : List ℕ) → mapAt o s ≡ mapAt 0 (bytesAt o 24 s)
+unfolding mapAt
+map-own o s = ap channelMapOf (read-own o channelMap s)
+
+map-back : (x : ChannelMap) → Fit channelMap (channelMapValues x) → mapAt 0 (mapBytes x) ≡ x
+unfolding mapAt
+map-back x f = ap channelMapOf (read-all channelMap (channelMapValues x) f)
+
+-- the 24 bytes fit, and the byte after them
+abbrev pub HeldOk : Held → Type 0
+HeldOk h = Fit setParameters (setParametersValues (h .set)) × (h .known < 256)
+
+held-own : (o : ℕ) (s : List ℕ) → heldAt o s ≡ heldAt 0 (bytesAt o 25 s)
+unfolding heldAt numAt
+held-own o s =
+    let e : read setParameters (bytesAt o 25 s) ≡ readAt o setParameters s =
+    read-own 0 setParameters (bytesAt o 25 s)
+    ∙ ap (read setParameters) (bytesAt-own 0 o 24 25 s (omega arith) ∙ ap (λ (k : ℕ). bytesAt k 24 s) (add-zero o))
+    ∙ sym (read-own o setParameters s) in
+    λ i. record { known = ap un (sym (bytesAt-own 24 o 1 25 s (omega arith))) i; set = setParametersOf (sym e i) }
+
+held-back : (x : Held) → HeldOk x → heldAt 0 (heldBytes x) ≡ x
+unfolding heldAt numAt
+held-back x f =
+    let w = write setParameters (setParametersValues (x .set)) in
+    let k = le 1 (x .known) in
+    let n : bytesAt 24 1 (w ++ k) ≡ k =
+    ap (λ (o : ℕ). bytesAt o 1 (w ++ k)) (sym (add-zero (length w) ∙ length-write setParameters (setParametersValues (x .set))))
+    ∙ bytesAt-append w k 0 1
+    ∙ bytesAt-all k 1 (length-le 1 (x .known)) in
+    λ i. record { known = (ap un n ∙ un-le 1 (x .known) (f .1)) i; set = setParametersOf (read-write setParameters (setParametersValues (x .set)) k (f .0) i) }
+
+word-own : (o : ℕ) (s : List ℕ) → wordAt o s ≡ wordAt 0 (bytesAt o 8 s)
+unfolding wordAt numAt
+word-own o s = ap un (sym (bytesAt-own 0 o 8 8 s (omega arith) ∙ ap (λ (k : ℕ). bytesAt k 8 s) (add-zero o)))
+
+word-back : (x : ℕ) → x < 256 ^ 8 → wordAt 0 (le 8 x) ≡ x
+unfolding wordAt numAt
+word-back x f = ap un (bytesAt-all (le 8 x) 8 (length-le 8 x)) ∙ un-le 8 x f
+
+-- ---- WRITTEN AND READ
+
+pub record Fits (d : Device) : Type 0 where
+  pub sized : Sized d
+  pub counts : Fit (4 ∷ 4 ∷ 4 ∷ []) (d .counts .jacks ∷ d .counts .streams ∷ d .counts .maps ∷ [])
+  pub jacks : Every (λ (x : JackInfo). Fit jackInfo (jackInfoValues x)) (d .jacks)
+  pub pcms : Every (λ (x : PcmInfo). Fit pcmInfo (pcmInfoValues x)) (d .pcms)
+  pub maps : Every (λ (x : ChannelMap). Fit channelMap (channelMapValues x)) (d .maps)
+  pub params : Every HeldOk (d .params)
+  pub played : Every (λ (x : ℕ). x < 256 ^ 8) (d .played)
+
+-- the device that a store holds fits
+pub device-fits : (s : List ℕ) → Bytes s → Fits (deviceOf s)
+unfolding deviceOf jackAt pcmAt mapAt heldAt wordAt
+device-fits s b =
+    record {
+      sized = sized-of s;
+      counts = read-fits 0 (4 ∷ 4 ∷ 4 ∷ []) s b;
+      jacks = rows-every jackAt 24 (λ (x : JackInfo). Fit jackInfo (jackInfoValues x)) (λ o t c. read-fits o jackInfo t c) 12 170 s b;
+      pcms = rows-every pcmAt 32 (λ (x : PcmInfo). Fit pcmInfo (pcmInfoValues x)) (λ o t c. read-fits o pcmInfo t c) 4092 127 s b;
+      maps = rows-every mapAt 24 (λ (x : ChannelMap). Fit channelMap (channelMapValues x)) (λ o t c. read-fits o channelMap t c) 8156 170 s b;
+      params = rows-every heldAt 25 HeldOk (λ o t c. (read-fits o setParameters t c, numAt-below (o + 24) 1 t c)) 12236 127 s b;
+      played = rows-every wordAt 8 (λ (x : ℕ). x < 256 ^ 8) (λ o t c. numAt-below o 8 t c) 15411 127 s b;
+    }
+
+-- whatever follows the store
+module _ (d : Device) (f : Fits d) (c : List ℕ) where
+  counts-back : countsAt (deviceBytes d ++ c) ≡ d .counts
+  counts-back =
+      let ws : List ℕ = 4 ∷ 4 ∷ 4 ∷ [] in
+      let vs : List ℕ = d .counts .jacks ∷ d .counts .streams ∷ d .counts .maps ∷ [] in
+      let rest = rowsBytes jackBytes (d .jacks) ++ fromPcms d in
+      let e : read ws (deviceBytes d ++ c) ≡ vs =
+      ap (λ (l : List ℕ). read ws (l ++ c)) (at-jacks d) ∙ ap (read ws) (append-assoc (countsBytes (d .counts)) rest c) ∙ read-write ws vs (rest ++ c) (f .counts) in
+      λ i. record { jacks = getD (e i) 0 0; streams = getD (e i) 1 0; maps = getD (e i) 2 0 }
+
+  device-back : deviceOf (deviceBytes d ++ c) ≡ d
+  unfolding deviceOf
+  device-back =
+      let w = deviceBytes d in
+      let z = f .sized in
+      λ i. record {
+        counts = counts-back i;
+        jacks = table-back jackAt jackBytes 24 jack-own jack-sized _ jack-back w (countsBytes (d .counts)) (fromPcms d) c (d .jacks) 12 170 (at-jacks d) (length-counts d) (z .jacks) (f .jacks) i;
+        pcms = table-back pcmAt pcmBytes 32 pcm-own pcm-sized _ pcm-back w (toPcms d) (fromMaps d) c (d .pcms) 4092 127 (at-pcms d) (length-toPcms d z) (z .pcms) (f .pcms) i;
+        maps = table-back mapAt mapBytes 24 map-own map-sized _ map-back w (toMaps d) (fromParams d) c (d .maps) 8156 170 (at-maps d) (length-toMaps d z) (z .maps) (f .maps) i;
+        params = table-back heldAt heldBytes 25 held-own held-sized _ held-back w (toParams d) (fromPlayed d) c (d .params) 12236 127 (at-params d) (length-toParams d z) (z .params) (f .params) i;
+        played = table-back wordAt (le 8) 8 word-own (length-le 8) _ word-back w (toPlayed d) [] c (d .played) 15411 127 (at-played d) (length-toPlayed d z) (z .played) (f .played) i;
+      }
+
+pub store-back : (s : List ℕ) (d : Device) → Fits d → 16427 ≤ length s → deviceOf (sets s 0 (deviceBytes d)) ≡ d
+store-back s d f h =
+    let l = length-deviceBytes d (f .sized) in
+    ap deviceOf (sets-eq (deviceBytes d) s 0 (omega arith)) ∙ device-back d f (drop (0 + length (deviceBytes d)) s)
