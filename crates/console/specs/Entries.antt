@@ -1,0 +1,83 @@
+-- What the C entries say where an entry puts stores together: a state with a ring, and an event. The others say what `state_store`, `ring_store` and
+-- `model_store` say.
+-- Assumes nothing.
+use mathlib.Core.Bool.{Bool, _&&_}
+use mathlib.Core.List.{List, [], _∷_}
+use Prim.Native.Nat.{ℕ, _+_}
+use lib.Dec.{leb, eqb}
+use lib.ListN.{length}
+use lib.Seq.{sets}
+use Rattle.layout.specs.Bytes.{le}
+use Rattle.layout.specs.Layout.{read}
+use Rattle.layout.specs.Rows.{rowsBytes}
+use Rattle.codes.specs.Says.{pick, guard}
+use Rattle.records.specs.Records.{event}
+use Rattle.records.specs.Notice.{eventSays}
+use Rattle.turns.specs.Ring.{saysSaid}
+use Rattle.exchange.specs.Xfer.{startOf, xferMessage}
+use Rattle.exchange.specs.declared.state.Call.{Call}
+use Rattle.exchange.specs.declared.state.Sound.{Sound}
+use Rattle.exchange.specs.declared.xfer.XferReply.{XferReply}
+use Rattle.exchange.specs.declared.xfer.XferReply.the-variants.{Send, Says}
+use Rattle.exchange.specs.declared.xfer.XferStep.{XferStep}
+use Rattle.ring_store.specs.Store.{trackAt, ringOf, ringBytes}
+use Rattle.ring_store.specs.Calls.{unlessRefused}
+use Rattle.state_store.specs.Store.{soundOf, stateAfter}
+use Rattle.state_store.specs.Calls.{Told, tooShort, callIn}
+
+-- ---- a call: the state's, with the ring that tells Busy
+
+abbrev pub callEntry : List ℕ → List ℕ → Call → List ℕ → List ℕ → Told
+callEntry s ring call m r = guard (leb 592 (length ring)) (callIn s (trackAt ring) call m r) (tooShort s m r)
+
+-- ---- the start of a transfer: `startOf` on the state and the ring that the stores hold
+
+pub record Begun : Type 0 where
+  pub answer : ℕ
+  pub state : List ℕ
+  pub ring : List ℕ
+  pub message : List ℕ
+
+-- what an entry answers and leaves, as one record
+abbrev pub began : ℕ → List ℕ → List ℕ → List ℕ → Begun
+began answer s ring m = record { answer = answer; state = s; ring = ring; message = m }
+
+abbrev pub replyNumber : XferReply → ℕ
+replyNumber (Send n) = 256 + n
+replyNumber (Says x) = saysSaid x .number
+
+-- the ring changes only where a transfer begins
+abbrev pub ringAfter : XferReply → List ℕ → List ℕ → List ℕ
+ringAfter (Send n) old new = old
+ringAfter (Says x) old new = unlessRefused x old new
+
+abbrev pub begun : List ℕ → List ℕ → ℕ → List ℕ → XferStep → Begun
+begun s ring stream m x =
+    record {
+      answer = replyNumber (x .reply);
+      state = stateAfter s (x .sound);
+      ring = ringAfter (x .reply) ring (sets ring 0 (ringBytes (x .ring)));
+      message = xferMessage (x .reply) (soundOf s) stream m;
+    }
+
+unfoldable pub startEntry : List ℕ → List ℕ → ℕ → ℕ → ℕ → List ℕ → Begun
+startEntry s ring stream len budget m =
+    guard (leb 14304 (length s) && leb 592 (length ring))
+    (begun s ring stream m (startOf (soundOf s) (ringOf ring) stream len budget (length m)))
+    (record { answer = 10; state = s; ring = ring; message = m })
+
+-- ---- an event: its code 4 and its data 4 in the result; 513 where it says nothing
+
+pub record Shown : Type 0 where
+  pub answer : ℕ
+  pub result : List ℕ
+
+abbrev pub shown : ℕ → List ℕ → Shown
+shown answer r = record { answer = answer; result = r }
+
+unfoldable pub noticeEntry : List ℕ → List ℕ → Shown
+noticeEntry e r =
+    let x = eventSays (read event e) in
+    guard (leb 512 (length r))
+    (guard (eqb (length e) 8) (record { answer = x .number; result = sets r 0 (rowsBytes (le 4) (x .values)) }) (record { answer = 513; result = r }))
+    (record { answer = 10; result = r })

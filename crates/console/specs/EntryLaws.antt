@@ -1,0 +1,140 @@
+-- What the proofs of the entries that put stores together cite.
+-- Assumes nothing.
+use mathlib.Core.Path.{_≡_, refl, sym, ap, _∙_}
+use mathlib.Core.Bool.{Bool, true, false, _&&_}
+use mathlib.Core.List.{List, [], _∷_, _++_, append-nil}
+use Prim.Native.Nat.{ℕ, _+_, _≤_}
+use native.Mathlib.Omega.{arith}
+use lib.Dec.{leb, eqb}
+use lib.ListN.{length}
+use lib.Seq.{sets}
+use Rattle.layout.specs.Bytes.{le, numAt, Bytes}
+use Rattle.layout.specs.Layout.{read}
+use Rattle.layout.specs.Rows.{rowsBytes}
+use Rattle.layout.specs.BytesLaws.{length-le}
+use Rattle.layout.specs.StoreLaws.{sets-then}
+use Rattle.codes.specs.Says.{Says, says, pick, guard}
+use Rattle.codes.specs.SaysLaws.{passes, stops}
+use Rattle.codes.specs.Answers.{saysRefusal}
+use Rattle.codes.specs.Codes.{among}
+use Rattle.codes.specs.Events.{eventCodes, eventCode}
+use Rattle.codes.specs.declared.answers.Refusal.{Refusal}
+use Rattle.records.specs.Records.{event}
+use Rattle.records.specs.Notice.{saysNotice, eventSays, noticeSays}
+use Rattle.records.specs.declared.event.Notice.{Notice}
+use Rattle.records.specs.declared.event.Notice.the-variants as notice
+use Rattle.turns.specs.Calls.{startCall, startedOf}
+use Rattle.turns.specs.declared.ring.Track.{Track}
+use Rattle.exchange.specs.Xfer.{xferBy, refusedStep, setUpStep, startStep, startOf}
+use Rattle.exchange.specs.declared.state.Sound.{Sound}
+use Rattle.ring_store.specs.Store.{trackAt, ringOf}
+use Rattle.ring_store.specs.Calls.{leftBy, startIn}
+use Rattle.state_store.specs.Store.{whole, soundOf, stateAfter}
+use Rattle.state_store.specs.RefusedLaws.{state-kept}
+use Rattle.state_store.specs.Calls.{Opened, opened, shut, settingUp, openIn}
+use Rattle.state_store.specs.declared.calls.Opening.{Opening}
+use Rattle.state_store.specs.declared.calls.Opening.the-variants as opening
+use Rattle.console.specs.Entries.{Begun, began, begun, startEntry, Shown, shown, noticeEntry}
+
+-- ---- an event
+
+-- what is told of a notice
+abbrev pub noticed : Notice → List ℕ → Shown
+noticed (notice.Is k d) r = shown 0 (sets r 0 (rowsBytes (le 4) (eventCode k ∷ d ∷ [])))
+noticed notice.IoError r = shown 2 r
+noticed notice.Nothing r = shown 513 r
+
+notice-by : (t : Bool) (x : Says) (r : List ℕ) (n : Notice) → saysNotice n ≡ pick t x (says 0 []) → (says 0 [] ≡ x → ⊥)
+    → noticed n r ≡ guard t (record { answer = x .number; result = sets r 0 (rowsBytes (le 4) (x .values)) }) (shown 513 r)
+unfolding guard rowsBytes
+notice-by true x r (notice.Is k d) e h = ap (λ (y : Says). shown (y .number) (sets r 0 (rowsBytes (le 4) (y .values)))) e
+notice-by true x r notice.IoError e h = ap (λ (y : Says). shown (y .number) (sets r 0 (rowsBytes (le 4) (y .values)))) e
+notice-by true x r notice.Nothing e h = absurd (h e)
+notice-by false x r (notice.Is k d) e h = let z : _≡_ {A = ℕ} 2 0 = ap (λ (y : Says). length (y .values)) e in absurd (omega arith)
+notice-by false x r notice.IoError e h = let z : _≡_ {A = ℕ} 2 0 = ap (λ (y : Says). y .number) e in absurd (omega arith)
+notice-by false x r notice.Nothing e h = refl
+
+-- an event of 8 bytes says something
+says-something : (t : Bool) (a b : ℕ) → says 0 [] ≡ pick t (says 0 (a ∷ b ∷ [])) (says 2 []) → ⊥
+says-something true a b e = let z : _≡_ {A = ℕ} 0 2 = ap (λ (y : Says). length (y .values)) e in omega arith
+says-something false a b e = let z : _≡_ {A = ℕ} 0 2 = ap (λ (y : Says). y .number) e in omega arith
+
+pub noticed-is : (e r : List ℕ) (n : Notice) → leb 512 (length r) ≡ true → saysNotice n ≡ noticeSays e → noticed n r ≡ noticeEntry e r
+unfolding noticeEntry
+noticed-is e r n long h = passes _ _ _ long (notice-by (eqb (length e) 8) (eventSays (read event e)) r n h (says-something (among (numAt 0 4 e) eventCodes) (numAt 0 4 e) (numAt 4 4 e)))
+
+-- its two numbers, put one after the other
+pub two-put : (r r₁ r₂ : List ℕ) (a b x : ℕ) → x ≡ a → r₁ ≡ sets r 0 (le 4 x) → r₂ ≡ sets r₁ 4 (le 4 b) → r₂ ≡ sets r 0 (rowsBytes (le 4) (a ∷ b ∷ []))
+unfolding rowsBytes le
+two-put r r₁ r₂ a b x e p q =
+    q
+    ∙ ap (λ (l : List ℕ). sets l 4 (le 4 b)) (p ∙ ap (λ (y : ℕ). sets r 0 (le 4 y)) e)
+    ∙ sets-then r 0 4 (le 4 a) (le 4 b) (sym (length-le 4 a))
+    ∙ ap (λ (l : List ℕ). sets r 0 (le 4 a ++ l)) (sym (append-nil (le 4 b)))
+
+-- ---- the start of a transfer
+
+no-room : (a b : Bool) → b ≡ false → (a && b) ≡ false
+no-room true b e = e
+no-room false b e = refl
+
+-- a ring that is too short
+pub short-ring : (s ring : List ℕ) (stream len budget : ℕ) (m : List ℕ) → leb 592 (length ring) ≡ false → began 10 s ring m ≡ startEntry s ring stream len budget m
+unfolding startEntry
+short-ring s ring stream len budget m e = stops _ _ _ (no-room (leb 14304 (length s)) (leb 592 (length ring)) e) refl
+
+guard-ap : {A B : Type 0} (f : A → B) (t : Bool) (a b : A) → f (guard t a b) ≡ guard t (f a) (f b)
+unfolding guard
+guard-ap f true a b = refl
+guard-ap f false a b = refl
+
+-- what is made of the outcome of the checks is made at each end of them
+xfer-ap : {A B : Type 0} (f : A → B) (lengths : Bool) (s : Sound) (t : Track) (stream : ℕ) (refuse : Refusal → A) (setUp : A) (go : ℕ → A)
+    → f (xferBy lengths s t stream refuse setUp go) ≡ xferBy lengths s t stream (λ x. f (refuse x)) (f setUp) (λ p. f (go p))
+xfer-ap f lengths s t stream refuse setUp go = simp (guard-ap f)
+
+-- a state that is written over the store that holds it
+unchanged : (s : List ℕ) → Bytes s → stateAfter s (soundOf s) ≡ s
+unchanged s b = state-kept s [] [] b (whole s) refl
+
+module _ (s ring : List ℕ) (stream len budget : ℕ) where
+  -- what an opening comes to, with the ring's own start where a transfer begins
+  abbrev pub startOpening : Opening → List ℕ → List ℕ → Begun
+  startOpening (opening.Says n) st m = began n st ring m
+  startOpening (opening.Open period) st m = let l = startIn ring stream len period budget in began (l .answer) st (l .ring) m
+
+  abbrev pub startBy : Opened → Begun
+  startBy o = startOpening (o .opening) (o .state) (o .message)
+
+  module _ (m : List ℕ) (bytes : Bytes s) (room : leb 592 (length ring) ≡ true) where
+    -- each end of the checks
+    refused-end : (x : Refusal) → startBy (shut s m x) ≡ begun s ring stream m (refusedStep (soundOf s) (ringOf ring) x)
+    refused-end x = ap (λ (l : List ℕ). began (saysRefusal x .number) l ring m) (sym (unchanged s bytes))
+
+    set-up-end : startBy (settingUp s stream m) ≡ begun s ring stream m (setUpStep (soundOf s) (ringOf ring) stream)
+    set-up-end = refl
+
+    open-end : (period : ℕ) → startBy (record { opening = opening.Open period; state = s; message = m })
+        ≡ begun s ring stream m (startStep (soundOf s) (ringOf ring) (startedOf (ringOf ring) (startCall (trackAt ring) stream len period budget)))
+    unfolding startIn
+    open-end period =
+        let u = startedOf (ringOf ring) (startCall (trackAt ring) stream len period budget) in
+        let p : startIn ring stream len period budget ≡ leftBy ring u = sym (passes _ _ _ room refl) in
+        λ i. began (p i .answer) (sym (unchanged s bytes) i) (p i .ring) m
+
+    ends : (a b : Bool) → startBy (xferBy (a && b) (soundOf s) (trackAt ring) stream (shut s m) (settingUp s stream m) (λ period. record { opening = opening.Open period; state = s; message = m }))
+        ≡ guard (a && leb 592 (length ring)) (begun s ring stream m (xferBy b (soundOf s) (trackAt ring) stream (refusedStep (soundOf s) (ringOf ring)) (setUpStep (soundOf s) (ringOf ring) stream) (λ period. startStep (soundOf s) (ringOf ring) (startedOf (ringOf ring) (startCall (trackAt ring) stream len period budget))))) (began 10 s ring m)
+    unfolding guard
+    ends true b =
+        passes _ _ _ room
+        (xfer-ap startBy b (soundOf s) (trackAt ring) stream (shut s m) (settingUp s stream m) (λ period. record { opening = opening.Open period; state = s; message = m })
+        ∙ (λ i. xferBy b (soundOf s) (trackAt ring) stream (λ x. refused-end x i) (set-up-end i) (λ p. open-end p i))
+        ∙ sym (xfer-ap (begun s ring stream m) b (soundOf s) (trackAt ring) stream (refusedStep (soundOf s) (ringOf ring)) (setUpStep (soundOf s) (ringOf ring) stream) (λ period. startStep (soundOf s) (ringOf ring) (startedOf (ringOf ring) (startCall (trackAt ring) stream len period budget)))))
+    ends false b = refl
+
+    pub start-is : startBy (openIn s (trackAt ring) stream m) ≡ startEntry s ring stream len budget m
+    unfolding openIn startEntry startOf ringOf
+    start-is = ends (leb 14304 (length s)) (leb 24 (length m))
+
+    pub started : (o q : Opening) (st after : List ℕ) (t : Track) → q ≡ o → t ≡ trackAt ring → opened q st after ≡ openIn s t stream m → startOpening o st after ≡ startEntry s ring stream len budget m
+    started o q st after t d e p = ap (λ (x : Opening). startOpening x st after) (sym d) ∙ ap startBy (p ∙ ap (λ (x : Track). openIn s x stream m) e) ∙ start-is

@@ -1,0 +1,8 @@
+// The C entries: numbers and byte slices only. docs/BOUNDARY.md has each with what it answers and writes.
+mod calls;
+mod device;
+mod event;
+mod ring;
+mod sizes;
+mod stores;
+mod transfer;

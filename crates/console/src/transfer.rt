@@ -1,0 +1,34 @@
+// The start of a transfer.
+ghost use mathlib.Core.Path.{_≡_};
+ghost use lib.ListN.{length};
+ghost use Rattle.console.specs.Entries.{began, startEntry};
+use crate::calls::BAD_LENGTH;
+use state_store::Opening;
+
+#[no_mangle]
+pub extern "C" fn snd_pcm_xfer_start(
+    state: &mut [u8],
+    ring: &mut [u8],
+    stream: u32,
+    frames: &[u8],
+    budget: u64,
+    message: &mut [u8],
+) -> u64
+    ensures { λ r. ⌜ began r (now (state .exit)) (now (ring .exit)) (now (message .exit)) ≡ startEntry (now (state .entry)) (now (ring .entry)) stream (length (now (frames .entry))) budget (now (message .entry)) ⌝ }
+{
+    if ring.len() < ring_store::SIZE {
+        return BAD_LENGTH;
+    }
+    let t = ring_store::track(ring);
+    let opening = state_store::open(state, t, stream, message);
+    match opening {
+        Opening::Says(number) => number,
+        Opening::Open(period) => ring_store::start(
+            ring,
+            stream,
+            frames.len(),
+            period as usize,
+            budget,
+        ),
+    }
+}
