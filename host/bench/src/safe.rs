@@ -1,0 +1,109 @@
+//! The port through the safe crate, as a Rust console writes it.
+use crate::ways::{BUDGET, EVENT, FULL, Way, full_pages, page};
+use snd::{Format, PAGE_SIZE, Page, Params, PcmInfo, Rate, Reading, Ring, STATUS_OK, Sound, Step, StreamList, Turn};
+use std::hint::black_box;
+
+pub struct Safe {
+    sound: Sound,
+    ring: Ring,
+    ok: Page,
+    pages: [Page; 3],
+}
+
+fn of(bytes: [u8; PAGE_SIZE]) -> Page {
+    let mut page = Page::new();
+    *page.bytes_mut() = bytes;
+    page
+}
+
+/// Feeds the prepared answers, one for each request, and gives the list that comes of them.
+fn listed(sound: &mut Sound, ring: &Ring, answers: &[Page]) -> StreamList {
+    let mut step = sound.output_streams(ring).expect("it is idle");
+    for answer in answers {
+        step = sound.feed(answer).expect("the answers are good");
+    }
+    match step {
+        Step::Done(list) => list,
+        Step::Send(_) => unreachable!("there is an answer for each request"),
+    }
+}
+
+impl Safe {
+    pub fn new() -> Self {
+        let (mut sound, ring) = (Sound::new(0, 1, 0), Ring::new());
+        let answers = [page(&[]), page(&PcmInfo::output(1, 2).to_bytes()), page(&[])].map(of);
+        assert_eq!(listed(&mut sound, &ring, &answers).ids(), [0]);
+        Self {
+            sound,
+            ring,
+            ok: of(page(&[])),
+            pages: full_pages().map(of),
+        }
+    }
+
+    fn start(&mut self, frames: &[u8]) {
+        let started = self.sound.pcm_xfer_start(&mut self.ring, 0, frames, BUDGET);
+        assert_eq!(started, Ok(Step::Done(())));
+    }
+}
+
+impl Way for Safe {
+    fn set_period(&mut self, period: u32) {
+        let (format, rate) = (Format::S16, Rate::Hz48000);
+        let to = Params {
+            buffer: period * 2,
+            period,
+            features: 0,
+            channels: 2,
+            format,
+            rate,
+        };
+        assert!(self.sound.pcm_set_params(&self.ring, 0, to).is_ok());
+        assert_eq!(self.sound.feed(&self.ok), Ok(Step::Done(())));
+    }
+
+    fn control(&mut self) {
+        assert!(matches!(self.sound.pcm_prepare(&self.ring, 0), Ok(Step::Send(_))));
+        assert_eq!(self.sound.feed(black_box(&self.ok)), Ok(Step::Done(())));
+    }
+
+    fn set_up(&mut self) {
+        let [jacks, streams, maps] = FULL;
+        let mut sound = Sound::new(jacks, streams, maps);
+        black_box(listed(&mut sound, &self.ring, &self.pages));
+    }
+
+    fn announce(&mut self, frames: &[u8]) -> u64 {
+        self.start(frames);
+        for turns in 1.. {
+            let offer = self.ring.offered(frames).expect("it runs");
+            let completed = |slot: usize| Reading::Completed {
+                slot: slot as u32,
+                status: STATUS_OK,
+            };
+            let reading = offer.map_or(Reading::Quiet, |offer| completed(offer.slot));
+            if self.ring.turn(frames, reading).expect("the device is good") == Turn::Done {
+                return turns;
+            }
+        }
+        0
+    }
+
+    fn announce_blindly(&mut self, frames: &[u8]) -> u64 {
+        self.start(frames);
+        for turns in 1.. {
+            let reading = Reading::Completed {
+                slot: (turns - 1) as u32 % 32,
+                status: STATUS_OK,
+            };
+            if self.ring.turn(frames, reading).expect("the device is good") == Turn::Done {
+                return turns;
+            }
+        }
+        0
+    }
+
+    fn event(&mut self) {
+        assert!(black_box(snd::latest_notification(black_box(&EVENT))).is_ok());
+    }
+}

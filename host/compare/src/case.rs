@@ -1,0 +1,175 @@
+//! What is tried: a device, and steps on its driver. A case can be written as one line and read again (text.rs).
+use oracle::Tokens;
+use rules::sound::Call;
+use rules::wire::SIZES;
+
+#[derive(Clone, Debug, PartialEq)]
+pub struct Case {
+    /// configured: jacks, streams, maps
+    pub counts: [u32; 3],
+    pub tokens: Tokens,
+    /// the seed of a model device's tables, each as long as configured
+    pub model: Option<u64>,
+    pub steps: Vec<Step>,
+}
+
+#[derive(Clone, Debug, PartialEq)]
+pub enum Step {
+    Control {
+        call: Call,
+        answers: Vec<Answer>,
+    },
+    Transfer {
+        stream: u32,
+        frames: Frames,
+        budget: u64,
+        readings: Vec<Reading>,
+        answers: Vec<Answer>,
+    },
+    /// drain turns
+    Drain(Vec<Reading>),
+    /// what the event queue holds
+    Event(Option<Vec<u8>>),
+    /// a request to the model device itself
+    ModelControl(Vec<u8>),
+    ModelTransfer(Vec<u8>),
+    /// the configured counts
+    Counts,
+}
+
+/// So many bytes that are told apart by a seed.
+#[derive(Copy, Clone, Debug, PartialEq, Eq)]
+pub struct Frames {
+    pub len: u32,
+    pub seed: u8,
+}
+
+impl Frames {
+    pub fn bytes(&self) -> Vec<u8> {
+        let byte = |i: u32| (i.wrapping_mul(167) ^ (i >> 8)).wrapping_add(self.seed as u32) as u8;
+        (0..self.len).map(byte).collect()
+    }
+}
+
+/// What the device makes of a control request.
+#[derive(Clone, Debug, PartialEq, Eq)]
+pub enum Answer {
+    /// it writes the first `wrote` bytes of a status and a body; the rest of the page stays as it was
+    Wrote { status: u32, body: Body, wrote: u16 },
+    /// the queue reports failure
+    Failed,
+    /// the model device answers
+    Model,
+}
+
+impl Answer {
+    pub fn page(status: u32) -> Self {
+        Answer::Wrote { status, body: Body::ZERO, wrote: 4096 }
+    }
+    pub fn ok() -> Self {
+        Self::page(0x8000)
+    }
+}
+
+/// The bytes after the status, by a seed, with single bytes damaged.
+#[derive(Clone, Debug, PartialEq, Eq)]
+pub struct Body {
+    pub kind: Kind,
+    pub seed: u64,
+    pub damage: Vec<(u16, u8)>,
+}
+
+#[derive(Copy, Clone, Debug, PartialEq, Eq)]
+pub enum Kind {
+    Zero,
+    Noise,
+    Jacks,
+    Streams,
+    Maps,
+}
+
+impl Body {
+    pub const ZERO: Body = Body { kind: Kind::Zero, seed: 0, damage: vec![] };
+
+    pub fn of(kind: Kind, seed: u64) -> Self {
+        Body { kind, seed, damage: vec![] }
+    }
+
+    /// 4,092 bytes.
+    pub fn bytes(&self) -> Vec<u8> {
+        let mut bytes = vec![0; 4092];
+        if self.kind != Kind::Zero {
+            let mut rng = Rng(self.seed);
+            bytes.chunks_mut(8).for_each(|b| b.copy_from_slice(&rng.word().to_le_bytes()[..b.len()]));
+        }
+        match self.kind {
+            Kind::Zero | Kind::Noise => {}
+            // half of the jacks can be remapped
+            Kind::Jacks => bytes.chunks_mut(SIZES[0]).for_each(|r| r[4] &= 0x83),
+            Kind::Streams => {
+                bytes.chunks_exact_mut(SIZES[1]).for_each(|r| r[24] = [0, 0, 1, 1, 2, 255][r[24] as usize % 6])
+            }
+            Kind::Maps => bytes.chunks_exact_mut(SIZES[2]).for_each(|r| (r[4], r[5]) = (r[4] % 3, r[5] % 19)),
+        }
+        for &(at, byte) in &self.damage {
+            bytes[at as usize % 4092] = byte;
+        }
+        bytes
+    }
+}
+
+/// The tables of a model device: so many records of each kind.
+pub fn model_tables(counts: [u32; 3], seed: u64) -> [Vec<Vec<u8>>; 3] {
+    let kinds = [Kind::Jacks, Kind::Streams, Kind::Maps];
+    std::array::from_fn(|t| {
+        let bytes = Body::of(kinds[t], seed ^ t as u64).bytes();
+        bytes.chunks_exact(SIZES[t]).take(counts[t] as usize).map(<[u8]>::to_vec).collect()
+    })
+}
+
+/// What a turn reads.
+#[derive(Copy, Clone, Debug, PartialEq, Eq)]
+pub enum Reading {
+    Quiet,
+    /// the oldest in flight (slot 99 where there is none)
+    Oldest {
+        status: u32,
+    },
+    /// the k-th after the oldest; past the last in flight it is no slot in flight
+    Later {
+        k: u8,
+        status: u32,
+    },
+    Slot {
+        slot: u32,
+        status: u32,
+    },
+    /// the oldest, with the status that the model device gives
+    Device,
+}
+
+impl Reading {
+    pub const DONE: Reading = Reading::Oldest { status: 0x8000 };
+}
+
+/// Numbers from a seed (splitmix64).
+pub struct Rng(pub u64);
+
+impl Rng {
+    pub fn word(&mut self) -> u64 {
+        self.0 = self.0.wrapping_add(0x9e37_79b9_7f4a_7c15);
+        let mut z = self.0;
+        z = (z ^ (z >> 30)).wrapping_mul(0xbf58_476d_1ce4_e5b9);
+        z = (z ^ (z >> 27)).wrapping_mul(0x94d0_49bb_1331_11eb);
+        z ^ (z >> 31)
+    }
+    pub fn below(&mut self, n: u64) -> u64 {
+        self.word() % n
+    }
+    pub fn pick<T: Copy>(&mut self, from: &[T]) -> T {
+        from[self.below(from.len() as u64) as usize]
+    }
+    pub fn one_in(&mut self, n: u64) -> bool {
+        self.below(n) == 0
+    }
+}

@@ -1,0 +1,72 @@
+//! One trait for the three drivers, and everything that can be seen of a step.
+use crate::case::Step;
+use oracle::{End, Inside};
+
+pub trait Driver {
+    /// Makes a step; none where this driver has no counterpart of it.
+    fn step(&mut self, step: &Step) -> Option<Seen>;
+    /// What stands behind the calls, where it can be seen.
+    fn inside(&self) -> Option<Inside>;
+}
+
+#[derive(Clone, Debug, PartialEq, Eq)]
+pub struct Seen {
+    pub end: End,
+    pub values: Vec<u64>,
+    /// the requests, each as long as it was sent
+    pub requests: Vec<Vec<u8>>,
+    /// the status in the page after each answer, none for the queue's failure
+    pub heard: Vec<Option<u32>>,
+    /// answers that nobody asked for
+    pub unread: usize,
+    pub turns: u64,
+    pub log: Vec<Turn>,
+    pub sent: Vec<Sent>,
+    /// slot, offset and length of what is in flight afterwards, oldest first
+    pub in_flight: Vec<(u64, u64, u64)>,
+    pub model: Option<ModelSeen>,
+    /// bytes written that are not the call's own, numbers that disagree: always none
+    pub stray: Vec<String>,
+}
+
+impl Seen {
+    pub fn new(end: End, values: Vec<u64>) -> Self {
+        let (requests, heard, log, sent, in_flight, stray) = Default::default();
+        Seen { end, values, requests, heard, unread: 0, turns: 0, log, sent, in_flight, model: None, stray }
+    }
+}
+
+#[derive(Copy, Clone, Debug, PartialEq, Eq)]
+pub struct Turn {
+    /// descriptors free at its beginning
+    pub free: usize,
+    pub sent: Option<u16>,
+    /// whether the reading was looked at
+    pub looked: bool,
+    pub read: Option<(u32, u32)>,
+}
+
+#[derive(Copy, Clone, Debug, PartialEq, Eq)]
+pub struct Sent {
+    pub slot: u16,
+    pub offset: u64,
+    pub length: u64,
+    /// of the bytes that the queue was handed: stream id, payload
+    pub digest: u64,
+}
+
+#[derive(Clone, Debug, PartialEq, Eq)]
+pub struct ModelSeen {
+    /// the answer's bytes; Err is what the device panicked with
+    pub answer: Result<Vec<u8>, String>,
+    /// the payload that a transfer showed
+    pub payload: Vec<u8>,
+    pub params: Vec<Option<Vec<u8>>>,
+    pub played: Vec<u64>,
+}
+
+/// FNV-1a, going on from `seed`.
+pub fn digest(seed: u64, bytes: &[u8]) -> u64 {
+    bytes.iter().fold(seed, |hash, byte| (hash ^ *byte as u64).wrapping_mul(0x100_0000_01b3))
+}
+pub const DIGEST: u64 = 0xcbf2_9ce4_8422_2325;

@@ -1,0 +1,297 @@
+//! A host over the C entries, as the console's is: it sends what it is told to, feeds what came back, submits what is offered.
+use crate::case::{Case, Reading, Step, model_tables};
+use crate::driver::{Driver, ModelSeen, Seen};
+use crate::entries::Entries;
+use crate::outside::{Device, Scripted, resolve};
+use oracle::{Control, End, Inside};
+use rules::entries::{Asked, GOING, NOTHING, RESULT_SIZE, SEND};
+use rules::sound::Call;
+use rules::wire::{u32_at, u64_at};
+use rules::{MESSAGE, PAGE};
+
+/// What lent buffers hold before a call, and bytes lent beyond what is asked for.
+const FILL: u8 = 0xc3;
+const MORE: usize = 5;
+
+pub struct Host<E> {
+    pub entries: E,
+    page: Vec<u8>,
+    model: bool,
+    stray: Vec<String>,
+}
+
+/// The message and result slices of one call.
+struct Slices {
+    message: [u8; MESSAGE + MORE],
+    result: [u8; RESULT_SIZE + MORE],
+}
+
+impl Slices {
+    fn new() -> Self {
+        Slices { message: [FILL; MESSAGE + MORE], result: [FILL; RESULT_SIZE + MORE] }
+    }
+}
+
+fn untouched(bytes: &[u8]) -> bool {
+    bytes.iter().all(|b| *b == FILL)
+}
+
+/// How many bytes of result a call's value takes, and the value.
+fn value(call: Option<Call>, result: &[u8]) -> (usize, Vec<u64>) {
+    match call {
+        Some(Call::OutputStreams | Call::InputStreams) => {
+            let count = u32_at(result, 0).min(127) as usize;
+            let ids = (0..count).map(|i| u32_at(result, 4 + 4 * i) as u64);
+            (4 + 4 * count, ids.collect())
+        }
+        Some(Call::Rates(_) | Call::Formats(_) | Call::Features(_)) => (8, vec![u64_at(result, 0)]),
+        Some(Call::ChannelRange(_)) => (2, vec![result[0] as u64, result[1] as u64]),
+        _ => (0, vec![]),
+    }
+}
+
+/// An answer's number as the way a call ended.
+fn end(number: u64) -> End {
+    if number <= 10 { End::Number(number as u8) } else { End::Panic(format!("answers {number}")) }
+}
+
+impl<E: Entries> Device for E {
+    fn control(&mut self, request: &[u8]) -> Vec<u8> {
+        let (mut page, mut result) = (vec![FILL; PAGE], [FILL; RESULT_SIZE]);
+        let number = self.model_control(request, &mut page, &mut result);
+        assert_eq!(number, 0, "the model takes every request");
+        page.truncate(u64_at(&result, 0) as usize);
+        page
+    }
+    fn transfer(&mut self, request: &[u8]) -> Vec<u8> {
+        let mut answer = [FILL; 8];
+        assert_eq!(self.model_transfer(request, &mut answer), 0, "the model takes every transfer");
+        answer.to_vec()
+    }
+}
+
+impl<E: Entries> Host<E> {
+    pub fn new(case: &Case) -> Self {
+        let mut entries = E::fresh();
+        assert_eq!((entries.make(case.counts), entries.ring_new()), (0, 0), "whole stores are taken");
+        if let Some(seed) = case.model {
+            let tables = model_tables(case.counts, seed).map(|rows| rows.concat());
+            assert_eq!(entries.model_new([&tables[0], &tables[1], &tables[2]]), 0, "good tables are taken");
+        }
+        Host { entries, page: vec![0; PAGE], model: case.model.is_some(), stray: vec![] }
+    }
+
+    fn note(&mut self, fine: bool, what: &str) {
+        if !fine {
+            self.stray.push(what.into());
+        }
+    }
+
+    /// From a first answer: sends, feeds, until something else is said. None where an answer is missing.
+    fn exchange(&mut self, mut number: u64, mut lent: Slices, script: &mut Scripted) -> Option<(u64, Slices)> {
+        while (SEND..GOING).contains(&number) {
+            let (request, rest) = lent.message.split_at((number - SEND).min(MESSAGE as u64) as usize);
+            self.note(number <= SEND + MESSAGE as u64 && untouched(rest), "message written beyond the request");
+            self.note(untouched(&lent.result), "result written with a request");
+            let device = self.model.then_some(&mut self.entries as &mut dyn Device);
+            let control = script.control(request, &mut self.page, device);
+            lent = Slices::new();
+            number = match control {
+                Control::NoAnswer => return None,
+                Control::Answered => self.entries.feed(&self.page, &mut lent.message, &mut lent.result),
+                Control::Failed => self.entries.feed_failure(&mut lent.message, &mut lent.result),
+            };
+        }
+        self.note(untouched(&lent.message), "message written with a result");
+        Some((number, lent))
+    }
+
+    fn control(&mut self, call: Call, script: &mut Scripted) -> Seen {
+        let mut lent = Slices::new();
+        let number = self.entries.call(call, &mut lent.message, &mut lent.result);
+        let Some((number, lent)) = self.exchange(number, lent, script) else {
+            return Seen::new(End::Waits, vec![]);
+        };
+        let (written, values) = if number == 0 { value(Some(call), &lent.result) } else { (0, vec![]) };
+        self.note(untouched(&lent.result[written..]), "result written beyond its value");
+        Seen::new(end(number), values)
+    }
+
+    fn read(&mut self, asked: Asked) -> [u64; 2] {
+        let mut result = [FILL; RESULT_SIZE];
+        let number = self.entries.ring_read(asked, &mut result);
+        self.note(number == 0, "a read of the ring is refused");
+        [u64_at(&result, 0), u64_at(&result, 8)]
+    }
+
+    fn in_flight(&mut self) -> Vec<u16> {
+        let count = self.read(Asked::InFlight)[0].min(32);
+        let [there, oldest] = self.read(Asked::Oldest);
+        self.note((there == 1) == (count > 0), "oldest and in flight disagree");
+        (0..count).map(|i| ((oldest + i) % 32) as u16).collect()
+    }
+
+    /// One turn: submit what is offered, look, tell. The turn's number.
+    fn turn(&mut self, stream: u32, script: &mut Scripted) -> Option<u64> {
+        let frames = script.frames.clone();
+        let mut result = [FILL; RESULT_SIZE + MORE];
+        let number = self.entries.offered(&frames, &mut result);
+        self.note(number == 0 && untouched(&result[32..]), "offered refuses, or writes beyond its result");
+        let mut flight = self.in_flight();
+        let free = self.read(Asked::FreeDescriptors)[0];
+        if !script.turn(free as usize) {
+            return None;
+        }
+        let [there, slot, offset, length] = [0, 8, 16, 24].map(|at| u64_at(&result, at));
+        if there == 1 {
+            let payload = &frames[offset as usize..][..length as usize];
+            script.submit(slot as u16, &stream.to_le_bytes(), payload);
+            flight.push(slot as u16);
+        }
+        // with nothing in flight the turn must not look: it is told nonsense
+        let read = if flight.is_empty() {
+            Some((77, 0xdead))
+        } else {
+            script.reading(&flight, self.model.then_some(&mut self.entries as &mut dyn Device))
+        };
+        let (kind, (slot, status)) = read.map_or((0, (77, 0xdead)), |read| (1, read));
+        Some(self.entries.turn(&frames, kind, slot, status))
+    }
+
+    fn transfer(&mut self, stream: u32, budget: u64, script: &mut Scripted) -> Seen {
+        let mut lent = Slices::new();
+        let number = self.entries.xfer_start(stream, &script.frames, budget, &mut lent.message);
+        let Some((mut number, _)) = self.exchange(number, lent, script) else {
+            return Seen::new(End::Waits, vec![]);
+        };
+        let began = number == GOING;
+        while number == GOING {
+            let running = self.read(Asked::Running)[0] == 1 && self.read(Asked::Stream)[0] == stream as u64;
+            self.note(running, "the ring does not say that this transfer runs");
+            let Some(next) = self.turn(stream, script) else {
+                return Seen::new(End::Spins, vec![]);
+            };
+            number = next;
+        }
+        let mut seen = Seen::new(end(number), vec![]);
+        if began {
+            let stopped = self.read(Asked::Running)[0] == 0;
+            self.note(stopped, "the ring says that an ended transfer runs");
+            seen.turns = self.read(Asked::TurnsRun)[0];
+        }
+        seen
+    }
+
+    /// The values are what each drain turn answered.
+    fn drain(&mut self, readings: &[Reading]) -> Seen {
+        let mut values = vec![];
+        for reading in readings {
+            let read = resolve(*reading, &self.in_flight());
+            let (kind, (slot, status)) = read.map_or((0, (0, 0)), |read| (1, read));
+            values.push(self.entries.drain_turn(kind, slot, status));
+        }
+        Seen::new(End::Number(0), values)
+    }
+
+    fn event(&mut self, event: &[u8]) -> Seen {
+        let mut result = [FILL; RESULT_SIZE + MORE];
+        let number = self.entries.notification(event, &mut result);
+        let written = if number == 0 { 8 } else { 0 };
+        self.note(untouched(&result[written..]), "result written beyond the event");
+        match number {
+            0 => Seen::new(End::Number(0), vec![u32_at(&result, 0) as u64, u32_at(&result, 4) as u64]),
+            NOTHING => Seen::new(End::Number(0), vec![]),
+            number => Seen::new(end(number), vec![]),
+        }
+    }
+
+    fn counts(&mut self) -> Seen {
+        let mut values = vec![];
+        for which in 0..3 {
+            let mut result = [FILL; RESULT_SIZE + MORE];
+            let number = self.entries.count(which, &mut result);
+            self.note(number == 0 && untouched(&result[8..]), "a count refuses, or writes beyond its result");
+            values.push(u64_at(&result, 0));
+        }
+        Seen::new(End::Number(0), values)
+    }
+
+    fn ask(&mut self, step: &Step) -> Option<Seen> {
+        let answer = match step {
+            Step::ModelControl(request) => self.ask_control(request),
+            Step::ModelTransfer(request) => self.ask_transfer(request),
+            _ => return None,
+        };
+        let payload = if let Step::ModelTransfer(request) = step { self.payload(request) } else { vec![] };
+        let streams = self.counts().values[1] as u32;
+        let (params, played) = (0..streams).map(|stream| self.kept(stream)).unzip();
+        let mut seen = Seen::new(End::Number(0), vec![]);
+        seen.model = Some(ModelSeen { answer: Ok(answer), payload, params, played });
+        Some(seen)
+    }
+
+    fn ask_control(&mut self, request: &[u8]) -> Vec<u8> {
+        let (mut page, mut result) = (vec![FILL; PAGE], [FILL; RESULT_SIZE + MORE]);
+        let number = self.entries.model_control(request, &mut page, &mut result);
+        let length = u64_at(&result, 0).min(PAGE as u64) as usize;
+        let fine = number == 0 && untouched(&result[8..]) && untouched(&page[length..]);
+        self.note(fine, "the model refuses, or writes beyond its answer");
+        page.truncate(length);
+        page
+    }
+
+    fn ask_transfer(&mut self, request: &[u8]) -> Vec<u8> {
+        let mut answer = [FILL; 8 + MORE];
+        let number = self.entries.model_transfer(request, &mut answer);
+        self.note(number == 0 && untouched(&answer[8..]), "the model refuses, or writes beyond its status");
+        answer[..8].to_vec()
+    }
+
+    /// What a transfer shows of its request; of a bad one nothing.
+    fn payload(&mut self, request: &[u8]) -> Vec<u8> {
+        let mut result = [FILL; RESULT_SIZE + MORE];
+        let number = self.entries.model_payload(request, &mut result);
+        if number != 0 {
+            return vec![];
+        }
+        let (offset, length) = (u64_at(&result, 0) as usize, u64_at(&result, 8) as usize);
+        request.get(offset..offset.saturating_add(length)).map_or(vec![], <[u8]>::to_vec)
+    }
+
+    /// A stream's parameters and its count, as the model keeps them.
+    fn kept(&mut self, stream: u32) -> (Option<Vec<u8>>, u64) {
+        let mut result = [FILL; RESULT_SIZE + MORE];
+        let number = self.entries.model_params(stream, &mut result);
+        self.note(number == 0 && untouched(&result[32..]), "the model hides parameters, or writes beyond them");
+        let params = (u64_at(&result, 0) == 1).then(|| result[8..32].to_vec());
+        let mut result = [FILL; RESULT_SIZE + MORE];
+        let number = self.entries.model_played(stream, &mut result);
+        self.note(number == 0 && untouched(&result[8..]), "the model hides its count, or writes beyond it");
+        (params, u64_at(&result, 0))
+    }
+}
+
+impl<E: Entries> Driver for Host<E> {
+    fn step(&mut self, step: &Step) -> Option<Seen> {
+        let mut script = Scripted::new(step);
+        let mut seen = match step {
+            Step::Control { call, .. } => self.control(*call, &mut script),
+            Step::Transfer { stream, budget, .. } => self.transfer(*stream, *budget, &mut script),
+            Step::Drain(readings) => self.drain(readings),
+            Step::Event(event) => self.event(event.as_deref().unwrap_or(&[])),
+            Step::Counts => self.counts(),
+            Step::ModelControl(_) | Step::ModelTransfer(_) if !self.model => return None,
+            Step::ModelControl(_) | Step::ModelTransfer(_) => self.ask(step)?,
+        };
+        for slot in self.in_flight() {
+            let [offset, length] = self.read(Asked::Carried(slot as usize));
+            seen.in_flight.push((slot as u64, offset, length));
+        }
+        script.tell(&mut seen);
+        seen.stray = std::mem::take(&mut self.stray);
+        Some(seen)
+    }
+    fn inside(&self) -> Option<Inside> {
+        self.entries.inside()
+    }
+}

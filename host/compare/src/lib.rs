@@ -1,0 +1,22 @@
+//! The Rust driver, the port and the rules, run side by side on the same cases.
+pub mod case;
+pub mod driver;
+pub mod entries;
+mod ffi;
+pub mod host;
+pub mod judge;
+pub mod outside;
+pub mod plain;
+pub mod port;
+pub mod random;
+pub mod raw;
+pub mod record;
+pub mod run;
+pub mod rust;
+pub mod short;
+pub mod shown;
+pub mod stages;
+pub mod text;
+
+// it links the port's archive
+use snd as _;

@@ -1,0 +1,471 @@
+//! Single entries in any order, with lent slices of any length: the port against the rules, every number and every lent byte. A refusal
+//! leaves the port's stores as they were, byte for byte. Then the same with damaged stores, where only what holds of any bytes is asked.
+use crate::case::{Body, Frames, Kind, Rng};
+use crate::entries::{Entries, Lent};
+use crate::plain::Plain;
+use crate::port::{LEAD, PAST, Port};
+use crate::random::STATUSES;
+use crate::stages;
+use rules::entries::{Asked, RESULT_SIZE};
+use rules::sound::{Call, Params};
+use rules::{FIT, MESSAGE, PAGE, wire};
+
+const FILL: u8 = 0x3c;
+
+#[derive(Clone, Debug)]
+pub struct Op {
+    pub lent: Lent,
+    pub message: usize,
+    pub result: usize,
+    pub what: What,
+}
+
+#[derive(Clone, Debug)]
+pub enum What {
+    New([u32; 3]),
+    RingNew,
+    Count(usize),
+    Call(Call),
+    Feed { status: u32, body: Body, len: usize },
+    FeedFailure,
+    Start { stream: u32, frames: u32, budget: u64 },
+    Offered { frames: u32 },
+    Turn { frames: u32, kind: u32, slot: u32, status: u32 },
+    Drain { kind: u32, slot: u32, status: u32 },
+    Read(Asked),
+    Event(Vec<u8>),
+    ModelNew([usize; 3]),
+    ModelControl { request: Vec<u8>, page: usize },
+    ModelTransfer { request: Vec<u8>, answer: usize },
+    ModelPayload(Vec<u8>),
+    ModelParams(u32),
+    ModelPlayed(u32),
+}
+
+/// What an entry answered and what it left in the slices that it may write.
+#[derive(Clone, Debug, PartialEq, Eq)]
+struct Left {
+    number: u64,
+    message: Vec<u8>,
+    result: Vec<u8>,
+    /// a page, or a transfer's answer
+    other: Vec<u8>,
+}
+
+fn frames(len: u32) -> Vec<u8> {
+    Frames { len, seed: 0 }.bytes()
+}
+
+fn page(status: u32, body: &Body, len: usize) -> Vec<u8> {
+    let mut page = [&status.to_le_bytes()[..], &body.bytes()].concat();
+    page.resize(len, 0);
+    page
+}
+
+fn enter<E: Entries>(e: &mut E, op: &Op) -> Left {
+    let mut message = vec![FILL; op.message];
+    let mut result = vec![FILL; op.result];
+    let mut other = vec![];
+    e.lend(op.lent);
+    let (m, o) = (&mut message[..], &mut result[..]);
+    let number = match &op.what {
+        What::New(counts) => e.make(*counts),
+        What::RingNew => e.ring_new(),
+        What::Count(which) => e.count(*which, o),
+        What::Call(call) => e.call(*call, m, o),
+        What::Feed { status, body, len } => e.feed(&page(*status, body, *len), m, o),
+        What::FeedFailure => e.feed_failure(m, o),
+        What::Start { stream, frames: len, budget } => e.xfer_start(*stream, &frames(*len), *budget, m),
+        What::Offered { frames: len } => e.offered(&frames(*len), o),
+        What::Turn { frames: len, kind, slot, status } => e.turn(&frames(*len), *kind, *slot, *status),
+        What::Drain { kind, slot, status } => e.drain_turn(*kind, *slot, *status),
+        What::Read(asked) => e.ring_read(*asked, o),
+        What::Event(event) => e.notification(event, o),
+        What::ModelNew(lens) => {
+            let tables = lens.map(|len| Body::of(Kind::Streams, len as u64).bytes().repeat(2)[..len].to_vec());
+            e.model_new([&tables[0], &tables[1], &tables[2]])
+        }
+        What::ModelControl { request, page } => {
+            other = vec![FILL; *page];
+            e.model_control(request, &mut other, o)
+        }
+        What::ModelTransfer { request, answer } => {
+            other = vec![FILL; *answer];
+            e.model_transfer(request, &mut other)
+        }
+        What::ModelPayload(request) => e.model_payload(request, o),
+        What::ModelParams(stream) => e.model_params(*stream, o),
+        What::ModelPlayed(stream) => e.model_played(*stream, o),
+    };
+    Left { number, message, result, other }
+}
+
+/// Left open: what stands behind "not there" in the result's own bytes.
+fn settle(what: &What, left: &mut Left) {
+    let extent = match what {
+        What::Offered { .. } | What::ModelParams(_) => 32,
+        What::Read(Asked::Oldest) => 16,
+        _ => return,
+    };
+    if left.number == 0 && left.result[..8] == [0; 8] {
+        left.result[8..extent].fill(0);
+    }
+}
+
+/// An answer by which the entry must have left its stores as they were, given whether an exchange was open.
+fn keeps(what: &What, number: u64, left: &Left, open: bool) -> bool {
+    match what {
+        What::New(_) | What::RingNew | What::ModelNew(_) => number != 0,
+        What::Call(_) => number < 256 && number != 0,
+        What::Feed { .. } | What::FeedFailure => number == 10 || (number == 1 && !open),
+        What::Start { .. } => number < 256,
+        What::Turn { .. } => number == 1 || number == 10,
+        What::Drain { kind, .. } => number != 0 || *kind == 0,
+        What::ModelControl { .. } | What::ModelTransfer { .. } => {
+            number != 0 || left.other[..4] == wire::STATUS_BAD.to_le_bytes()
+        }
+        _ => true,
+    }
+}
+
+/// Which stores an entry may write at all: state, ring, model.
+fn writes(what: &What) -> [bool; 3] {
+    match what {
+        What::New(_) | What::Call(_) | What::Feed { .. } | What::FeedFailure => [true, false, false],
+        What::RingNew | What::Turn { .. } | What::Drain { .. } => [false, true, false],
+        What::Start { .. } => [true, true, false],
+        What::ModelNew(_) | What::ModelControl { .. } | What::ModelTransfer { .. } => [false, false, true],
+        _ => [false; 3],
+    }
+}
+
+/// What is wrong with the port's stores after an entry, if anything is.
+fn stores(what: &What, left: &Left, open: bool, before: &Port, after: &Port) -> Option<String> {
+    let kept = keeps(what, left.number, left, open);
+    let pairs = [(&before.state, &after.state), (&before.ring, &after.ring), (&before.model, &after.model)];
+    for (which, (before, after)) in pairs.into_iter().enumerate() {
+        let name = ["state", "ring", "model"][which];
+        let end = before.len() - PAST;
+        if before[..LEAD] != after[..LEAD] || before[end..] != after[end..] {
+            return Some(format!("bytes around the {name} store were written"));
+        }
+        if (kept || !writes(what)[which]) && before != after {
+            return Some(format!("the {name} store changed with answer {}", left.number));
+        }
+    }
+    None
+}
+
+#[derive(Clone)]
+pub struct Pair {
+    pub port: Port,
+    pub rules: Plain,
+}
+
+impl Pair {
+    pub fn new() -> Self {
+        let mut pair = Pair { port: Port::fresh(), rules: Plain::fresh() };
+        let (message, result) = (MESSAGE, RESULT_SIZE);
+        for what in [What::New([0; 3]), What::RingNew, What::ModelNew([0; 3])] {
+            let op = Op { lent: Lent::WHOLE, message, result, what };
+            pair.step(&op).expect("fresh stores agree");
+        }
+        pair
+    }
+
+    pub fn step(&mut self, op: &Op) -> Result<(), String> {
+        let (before, open) = (self.port.clone(), self.rules.sound.open.is_some());
+        let rules_before = self.rules.clone();
+        let mut port = enter(&mut self.port, op);
+        let mut rules = enter(&mut self.rules, op);
+        if let Some(wrong) = stores(&op.what, &port, open, &before, &self.port) {
+            return Err(format!("{op:?}\n  port: {wrong}"));
+        }
+        let unchanged = self.rules.sound == rules_before.sound && self.rules.ring == rules_before.ring;
+        if keeps(&op.what, rules.number, &rules, open) && !unchanged {
+            return Err(format!("{op:?}\n  rules: the state changed with answer {}", rules.number));
+        }
+        settle(&op.what, &mut port);
+        settle(&op.what, &mut rules);
+        if port != rules {
+            return Err(format!("{op:?}\n  port  {}\n  rules {}", left_text(&port), left_text(&rules)));
+        }
+        Ok(())
+    }
+}
+
+impl Default for Pair {
+    fn default() -> Self {
+        Self::new()
+    }
+}
+
+fn left_text(left: &Left) -> String {
+    let hex = crate::text::hex;
+    let short = |bytes: &[u8]| hex(&bytes[..bytes.len().min(40)]);
+    format!(
+        "{} message {} result {} other {}",
+        left.number,
+        short(&left.message),
+        short(&left.result),
+        short(&left.other)
+    )
+}
+
+/// Mostly the right length, else around it.
+fn length(rng: &mut Rng, right: usize, more: usize) -> usize {
+    match rng.below(40) {
+        0 => right - 1,
+        1 => 0,
+        2 => rng.below(right as u64) as usize,
+        3 | 4 => right + 1 + rng.below(more as u64) as usize,
+        _ => right,
+    }
+}
+
+pub fn op(rng: &mut Rng, guide: &Plain) -> Op {
+    let state = length(rng, Lent::WHOLE.state, PAST);
+    let ring = length(rng, Lent::WHOLE.ring, PAST);
+    let model = length(rng, Lent::WHOLE.model, PAST);
+    let lent = Lent { state, ring, model };
+    let (message, result) = (length(rng, MESSAGE, 20), length(rng, RESULT_SIZE, 9));
+    Op { lent, message, result, what: what(rng, guide) }
+}
+
+fn what(rng: &mut Rng, guide: &Plain) -> What {
+    let open = guide.sound.open.is_some();
+    match rng.below(30) {
+        0 if rng.one_in(8) => What::New(counts(rng)),
+        1 if rng.one_in(12) => What::RingNew,
+        2 => What::Count(rng.below(3) as usize),
+        3..=8 if open => feed(rng, guide),
+        3 => feed(rng, guide),
+        4..=8 => What::Call(call(rng, guide)),
+        9 | 10 if !guide.ring.running => start(rng, guide),
+        11 => What::Offered { frames: frames_len(rng, guide) },
+        9..=17 => turn(rng, guide),
+        18..=20 => drain(rng, guide),
+        21 | 22 => What::Read(asked(rng)),
+        23 => What::Event(event(rng)),
+        24 if rng.one_in(3) => model_new(rng),
+        24 | 25 => model_control(rng, guide),
+        26 => What::ModelTransfer { request: transfer(rng, guide), answer: length(rng, 8, 5) },
+        27 => What::ModelPayload(transfer(rng, guide)),
+        28 => What::ModelParams(rng.below(guide.model.played.len() as u64 + 2) as u32),
+        _ => What::ModelPlayed(rng.below(guide.model.played.len() as u64 + 2) as u32),
+    }
+}
+
+fn counts(rng: &mut Rng) -> [u32; 3] {
+    std::array::from_fn(|t| match rng.below(10) {
+        0 => rng.pick(&[FIT[t], FIT[t] + 1, u32::MAX]),
+        _ => rng.below(4) as u32,
+    })
+}
+
+fn call(rng: &mut Rng, guide: &Plain) -> Call {
+    let some = |rng: &mut Rng, count: u32| rng.below(count.min(4) as u64 + 1) as u32;
+    let (stream, jack) = (some(rng, guide.sound.counts[1]), some(rng, guide.sound.counts[0]));
+    match rng.below(12) {
+        0..=3 => {
+            let period = rng.below(6) as u32;
+            let buffer = period * rng.below(4) as u32 + rng.pick(&[0, 0, 0, 1]);
+            let (format, rate) = (rng.pick(&[0, 5, 24, 24, 25, 255]), rng.pick(&[0, 7, 13, 13, 14, 255]));
+            let params = Params { buffer, period, features: rng.word() as u32, channels: 2, format, rate };
+            Call::SetParams { stream, params }
+        }
+        4 => Call::Command { code: wire::PREPARE + rng.below(4) as u32, stream },
+        5 => Call::Remap { jack, association: rng.word() as u32, sequence: rng.word() as u32 },
+        6 => Call::OutputStreams,
+        7 => Call::InputStreams,
+        8 => Call::Rates(stream),
+        9 => Call::Formats(stream),
+        10 => Call::ChannelRange(stream),
+        _ => Call::Features(stream),
+    }
+}
+
+fn feed(rng: &mut Rng, guide: &Plain) -> What {
+    if rng.one_in(10) {
+        return What::FeedFailure;
+    }
+    let kinds = [Kind::Jacks, Kind::Streams, Kind::Maps, Kind::Noise];
+    let at = match guide.sound.open {
+        Some((rules::sound::Awaits::Table(table), _)) => table,
+        _ => 3,
+    };
+    let status = if rng.one_in(8) { rng.pick(&STATUSES) } else { wire::STATUS_OK };
+    What::Feed { status, body: Body::of(kinds[at], rng.below(1 << 16)), len: length(rng, PAGE, 20) }
+}
+
+fn start(rng: &mut Rng, guide: &Plain) -> What {
+    let set: Vec<u32> = guide.sound.params.keys().copied().collect();
+    let stream = if set.is_empty() || rng.one_in(5) { rng.below(4) as u32 } else { rng.pick(&set) };
+    What::Start { stream, frames: rng.below(60) as u32, budget: rng.pick(&[0, 1, 5, 30, 30, u64::MAX]) }
+}
+
+fn frames_len(rng: &mut Rng, guide: &Plain) -> u32 {
+    let right = guide.ring.frames_len as u32;
+    if rng.one_in(12) { right.wrapping_add(rng.pick(&[1, u32::MAX])).min(100) } else { right }
+}
+
+/// A kind, a slot and a status: quiet, the oldest, or another.
+fn read(rng: &mut Rng, guide: &Plain) -> (u32, u32, u32) {
+    let oldest = if guide.ring.in_flight > 0 { guide.ring.tail } else { guide.ring.head } as u32;
+    let kind = rng.pick(&[0, 0, 1, 1, 1, 2, u32::MAX]);
+    let slot = if rng.one_in(12) { rng.pick(&[oldest + 1, 31, 32, u32::MAX]) } else { oldest };
+    let status = if rng.one_in(15) { rng.pick(&STATUSES) } else { wire::STATUS_OK };
+    (kind, slot, status)
+}
+
+fn turn(rng: &mut Rng, guide: &Plain) -> What {
+    let (kind, slot, status) = read(rng, guide);
+    What::Turn { frames: frames_len(rng, guide), kind, slot, status }
+}
+
+fn drain(rng: &mut Rng, guide: &Plain) -> What {
+    let (kind, slot, status) = read(rng, guide);
+    What::Drain { kind, slot, status }
+}
+
+fn asked(rng: &mut Rng) -> Asked {
+    let slot = rng.pick(&[0, 1, 2, 9, 10, 30, 31, 32, 33, usize::MAX]);
+    let plain =
+        [Asked::Running, Asked::InFlight, Asked::FreeDescriptors, Asked::TurnsRun, Asked::Stream, Asked::Oldest];
+    if rng.one_in(3) { Asked::Carried(slot) } else { rng.pick(&plain) }
+}
+
+fn event(rng: &mut Rng) -> Vec<u8> {
+    let mut bytes = wire::words(&[rng.pick(&[0x1000, 0x1001, 0x1100, 0x1101, 0x1002, 0]), rng.word() as u32]);
+    bytes.resize(rng.pick(&[8, 8, 8, 0, 7, 9]), 1);
+    bytes
+}
+
+fn model_new(rng: &mut Rng) -> What {
+    What::ModelNew(std::array::from_fn(|t| {
+        let rows = match rng.below(8) {
+            0 => FIT[t] as usize + rng.below(3) as usize - 1,
+            _ => rng.below(4) as usize,
+        };
+        let odd = if rng.one_in(12) { 1 + rng.below(23) as usize } else { 0 };
+        rows * wire::SIZES[t] + odd
+    }))
+}
+
+fn model_control(rng: &mut Rng, guide: &Plain) -> What {
+    let table = rng.below(3) as usize;
+    let rows = guide.model.tables[table].len() as u64;
+    let mut request = match rng.below(3) {
+        0 => wire::words(&[wire::SET_PARAMS, rng.below(4) as u32, 8, 3, rng.word() as u32, rng.word() as u32]),
+        1 => wire::words(&[rng.pick(&[2, 0x102, 0x103, 0x104, 0x105, 0x106]), rng.word() as u32]),
+        _ => {
+            let (start, count) = (rng.below(rows + 2) as u32, rng.below(rows + 2) as u32);
+            wire::words(&[wire::QUERIES[table], start, count, wire::SIZES[table] as u32])
+        }
+    };
+    if rng.one_in(6) {
+        request.resize(rng.below(30) as usize, 0);
+    }
+    What::ModelControl { request, page: length(rng, PAGE, 9) }
+}
+
+fn transfer(rng: &mut Rng, guide: &Plain) -> Vec<u8> {
+    let mut request = wire::words(&[rng.below(guide.model.played.len() as u64 + 1) as u32]);
+    request.resize(if rng.one_in(8) { rng.below(4) as usize } else { 4 + rng.below(30) as usize }, 6);
+    request
+}
+
+/// So many entries on one pair of stores; the ops up to a difference.
+pub fn sequence(seed: u64, length: usize) -> Result<(), (Vec<Op>, String)> {
+    let mut rng = Rng(seed.wrapping_mul(0xa076_1d64_78bd_642f));
+    let mut pair = Pair::new();
+    let mut ops = begun(&mut rng);
+    for at in 0..ops.len() + length {
+        if at >= ops.len() {
+            ops.push(op(&mut rng, &pair.rules));
+        }
+        pair.step(&ops[at]).map_err(|text| (ops.clone(), text))?;
+    }
+    Ok(())
+}
+
+/// The beginning of a driver's life, so that sequences are not all of an empty device.
+fn begun(rng: &mut Rng) -> Vec<Op> {
+    let life = stages::life();
+    let length = rng.below(life.len() as u64 + 1) as usize;
+    life.into_iter().take(length).map(stages::whole).collect()
+}
+
+/// The ops that are needed to show a difference, dropped one by one.
+pub fn shrink(mut ops: Vec<Op>) -> (Vec<Op>, String) {
+    let fails = |ops: &[Op]| {
+        let mut pair = Pair::new();
+        ops.iter().find_map(|op| pair.step(op).err())
+    };
+    let mut at = ops.len();
+    while at > 0 {
+        at -= 1;
+        let mut fewer = ops.clone();
+        fewer.remove(at);
+        if fails(&fewer).is_some() {
+            ops = fewer;
+            at = at.min(ops.len());
+        }
+    }
+    let text = fails(&ops).unwrap_or("(gone when run again)".into());
+    (ops, text)
+}
+
+/// What holds of any bytes: a known number, the same twice, nothing written past the slices' own bytes, a refusal that keeps all.
+fn on_any_bytes(port: &mut Port, op: &Op) -> Result<(), String> {
+    let before = port.clone();
+    let left = enter(port, op);
+    let mut again = before.clone();
+    let twice = enter(&mut again, op);
+    let known = matches!(left.number, 0..=10 | 512 | 513) || (257..=256 + MESSAGE as u64).contains(&left.number);
+    if !known {
+        return Err(format!("{op:?}\n  port answers {}", left.number));
+    }
+    if left != twice || *port != again {
+        return Err(format!("{op:?}\n  port: not the same twice"));
+    }
+    // whether an exchange is open cannot be known here: a feed's 1 is not judged
+    stores(&op.what, &left, true, &before, port).map_or(Ok(()), |wrong| Err(format!("{op:?}\n  port: {wrong}")))
+}
+
+/// Good stores, some bytes of them replaced, then entries. How many were refused with 1.
+pub fn damaged(seed: u64, length: usize) -> Result<u64, String> {
+    let mut rng = Rng(seed.wrapping_mul(0xe703_7ed1_a0b4_28db));
+    let mut pair = Pair::new();
+    for op in begun(&mut rng) {
+        pair.step(&op)?;
+    }
+    for _ in 0..rng.below(40) {
+        let op = op(&mut rng, &pair.rules);
+        pair.step(&op)?;
+    }
+    let port = &mut pair.port;
+    for _ in 0..1 + rng.below(6) {
+        let store = match rng.below(3) {
+            0 => &mut port.ring,
+            1 => &mut port.model,
+            _ => &mut port.state,
+        };
+        // the first and the last bytes are where counts and stages are likely to stand
+        let size = (store.len() - LEAD - PAST) as u64;
+        let at = rng.pick(&[0, 0, size - 100]) + rng.below(100);
+        let at = if rng.one_in(3) { rng.below(size) } else { at };
+        store[LEAD + at as usize] = rng.pick(&[0, 1, 2, 31, 32, 127, 128, 255, rng_byte(seed)]);
+    }
+    let mut refused = 0;
+    for _ in 0..length {
+        let op = op(&mut rng, &pair.rules);
+        on_any_bytes(port, &op)?;
+        refused += u64::from(matches!(enter(&mut port.clone(), &op).number, 1));
+    }
+    Ok(refused)
+}
+
+fn rng_byte(seed: u64) -> u8 {
+    Rng(seed).word() as u8
+}

@@ -1,0 +1,140 @@
+//! Every entry at every stage of a driver's life, with each lent slice in turn empty, one short, right and one long: the port against
+//! the rules.
+use crate::case::{Body, Kind};
+use crate::entries::Lent;
+use crate::raw::{Op, Pair, What};
+use rules::entries::{Asked, RESULT_SIZE};
+use rules::sound::{Call, Params};
+use rules::{MESSAGE, PAGE, wire};
+
+pub fn whole(what: What) -> Op {
+    Op { lent: Lent::WHOLE, message: MESSAGE, result: RESULT_SIZE, what }
+}
+
+fn ok(kind: Kind) -> What {
+    What::Feed { status: wire::STATUS_OK, body: Body::of(kind, 5), len: PAGE }
+}
+
+fn set(stream: u32, buffer: u32, format: u8) -> What {
+    let params = Params { buffer, period: 4, features: 1, channels: 2, format, rate: 7 };
+    What::Call(Call::SetParams { stream, params })
+}
+
+fn turn(frames: u32, kind: u32, slot: u32, status: u32) -> What {
+    What::Turn { frames, kind, slot, status }
+}
+
+/// From a new driver to slots owed and drained, one entry at a time: each is a stage.
+pub fn life() -> Vec<What> {
+    let tables = [2, 2, 1].iter().zip(wire::SIZES).map(|(rows, size)| rows * size).collect::<Vec<_>>();
+    vec![
+        What::New([2, 2, 1]),
+        What::ModelNew(tables.try_into().unwrap()),
+        What::Call(Call::OutputStreams),
+        ok(Kind::Jacks),
+        ok(Kind::Streams),
+        ok(Kind::Maps),
+        set(0, 8, 5),
+        ok(Kind::Noise),
+        What::Start { stream: 0, frames: 10, budget: 5 },
+        turn(10, 0, 0, 0),
+        turn(10, 1, 0, wire::STATUS_OK),
+        turn(10, 1, 7, wire::STATUS_OK),
+        What::Drain { kind: 1, slot: 1, status: 0 },
+        What::Drain { kind: 1, slot: 2, status: 0 },
+        What::Start { stream: 1, frames: 10, budget: 5 },
+        What::Start { stream: 0, frames: 0, budget: 1 },
+    ]
+}
+
+fn calls() -> Vec<What> {
+    let mut all = vec![Call::OutputStreams, Call::InputStreams];
+    for stream in [0, 1, 2] {
+        all.extend([Call::Rates(stream), Call::Formats(stream), Call::ChannelRange(stream), Call::Features(stream)]);
+        all.push(Call::Remap { jack: stream, association: 1, sequence: 2 });
+    }
+    all.extend((wire::PREPARE..=wire::STOP).map(|code| Call::Command { code, stream: 3 }));
+    let mut all: Vec<What> = all.into_iter().map(What::Call).collect();
+    all.extend([set(0, 8, 5), set(2, 8, 5), set(0, 9, 5), set(0, 8, 25)]);
+    all
+}
+
+fn rings() -> Vec<What> {
+    let mut all = vec![What::RingNew];
+    for frames in [9, 10, 11] {
+        all.extend([What::Offered { frames }, turn(frames, 0, 0, 0)]);
+        all.extend((0..4).map(|slot| turn(frames, 1, slot, wire::STATUS_OK)));
+    }
+    for slot in [0, 1, 2, 31, 32] {
+        all.push(turn(10, 2, slot, 0x8003));
+        all.push(What::Drain { kind: 1, slot, status: 0x8003 });
+        all.push(What::Read(Asked::Carried(slot as usize)));
+    }
+    all.push(What::Drain { kind: 0, slot: 1, status: 0 });
+    for asked in
+        [Asked::Running, Asked::InFlight, Asked::FreeDescriptors, Asked::TurnsRun, Asked::Stream, Asked::Oldest]
+    {
+        all.push(What::Read(asked));
+    }
+    for (stream, budget) in [(0, 0), (0, 1), (0, u64::MAX), (1, 5), (2, 5)] {
+        all.push(What::Start { stream, frames: 10, budget });
+    }
+    all
+}
+
+fn others() -> Vec<What> {
+    let mut all = vec![What::New([1, 1, 1]), What::FeedFailure];
+    all.extend([0, 1, 2].map(What::Count));
+    for len in [0, 4, PAGE - 1, PAGE, PAGE + 1] {
+        for status in [wire::STATUS_OK, wire::STATUS_BAD] {
+            all.push(What::Feed { status, body: Body::of(Kind::Streams, 9), len });
+        }
+        let request = wire::query(1, 2);
+        all.push(What::ModelControl { request, page: len });
+    }
+    all.extend([0, 7, 8, 9].map(|n| What::Event(wire::words(&[0x1101, 5, 6])[..n].to_vec())));
+    for answer in [0, 7, 8, 9] {
+        all.push(What::ModelTransfer { request: wire::words(&[1, 2]), answer });
+        all.push(What::ModelTransfer { request: wire::words(&[2, 2]), answer });
+    }
+    for length in 0..=9 {
+        all.push(What::ModelPayload(wire::words(&[1, 2, 3])[..length].to_vec()));
+    }
+    for stream in 0..=2 {
+        all.extend([What::ModelParams(stream), What::ModelPlayed(stream)]);
+    }
+    all.extend([What::ModelNew([24, 32, 24]), What::ModelNew([23, 32, 24]), What::ModelNew([24, 33, 24])]);
+    all.extend([What::ModelNew([171 * 24, 0, 0]), What::ModelNew([0, 128 * 32, 0]), What::ModelNew([0, 0, 171 * 24])]);
+    all
+}
+
+/// The same entry, each store and slice in turn of another length.
+fn lengths(what: &What) -> Vec<Op> {
+    let mut all = vec![whole(what.clone())];
+    for change in [|right: usize| right - 1, |right: usize| right + 1, |_: usize| 0] {
+        let right = whole(what.clone());
+        let lent = right.lent;
+        all.push(Op { lent: Lent { state: change(lent.state), ..lent }, ..right.clone() });
+        all.push(Op { lent: Lent { ring: change(lent.ring), ..lent }, ..right.clone() });
+        all.push(Op { lent: Lent { model: change(lent.model), ..lent }, ..right.clone() });
+        all.push(Op { message: change(right.message), ..right.clone() });
+        all.push(Op { result: change(right.result), ..right.clone() });
+    }
+    all
+}
+
+/// How many entries agreed, or the first that did not.
+pub fn all() -> Result<u64, String> {
+    let whats = [calls(), rings(), others()].concat();
+    let mut count = 0;
+    let mut pair = Pair::new();
+    for (at, step) in life().into_iter().enumerate() {
+        pair.step(&whole(step))?;
+        for op in whats.iter().flat_map(lengths) {
+            let tried = pair.clone().step(&op);
+            tried.map_err(|text| format!("after {} entries of src/stages.rs: {text}", at + 1))?;
+            count += 1;
+        }
+    }
+    Ok(count)
+}

@@ -1,0 +1,221 @@
+//! Cases as text, one a line: `JACKS STREAMS MAPS slots|descriptors [model SEED] | STEP ; STEP ..`
+//!
+//! STEP = CALL [< ANSWER ..]. Calls: `remap JACK ASSOCIATION SEQUENCE`, `set STREAM BUFFER PERIOD FEATURES CHANNELS FORMAT RATE`,
+//! `prepare|release|start|stop STREAM`, `outputs`, `inputs`, `rates|formats|channels|features STREAM`, `counts`,
+//! `xfer STREAM LENGTH.SEED BUDGET READING ..`, `drain READING ..`, `event BYTES|none`, `ctl BYTES`, `tx BYTES` (the last two to the
+//! model device). ANSWER: STATUS[.KINDSEED][/WROTE][~PLACE=BYTE ..] with KIND n, j, s, m for noise or good records, `F` for the queue's
+//! failure, `M` for the model. READING: `q`, `o[:STATUS]` oldest, `kN[:STATUS]` N-th later, `sN[:STATUS]` slot N, `d` device; each may
+//! end in `*TIMES`. Statuses and bytes are hexadecimal; `-` is no bytes.
+use crate::case::{Answer, Body, Case, Frames, Kind, Reading, Step};
+use oracle::Tokens;
+use rules::sound::{Call, Params};
+use rules::wire;
+use std::str::FromStr;
+
+pub fn hex(bytes: &[u8]) -> String {
+    if bytes.is_empty() {
+        return "-".into();
+    }
+    bytes.iter().map(|b| format!("{b:02x}")).collect()
+}
+
+fn unhex(text: &str) -> Vec<u8> {
+    let pairs = text.trim_matches('-').as_bytes().chunks(2);
+    pairs.map(|p| u8::from_str_radix(std::str::from_utf8(p).unwrap(), 16).expect("two hexadecimal digits")).collect()
+}
+
+const KINDS: [(Kind, char); 4] = [(Kind::Noise, 'n'), (Kind::Jacks, 'j'), (Kind::Streams, 's'), (Kind::Maps, 'm')];
+
+fn answer_text(answer: &Answer) -> String {
+    let Answer::Wrote { status, body, wrote } = answer else {
+        return if *answer == Answer::Failed { "F".into() } else { "M".into() };
+    };
+    let mut text = format!("{status:x}");
+    if let Some((_, letter)) = KINDS.iter().find(|(kind, _)| *kind == body.kind) {
+        text += &format!(".{letter}{}", body.seed);
+    }
+    if *wrote != 4096 {
+        text += &format!("/{wrote}");
+    }
+    body.damage.iter().for_each(|(at, byte)| text += &format!("~{at}={byte}"));
+    text
+}
+
+fn answer_of(text: &str) -> Answer {
+    match text {
+        "F" => return Answer::Failed,
+        "M" => return Answer::Model,
+        _ => {}
+    }
+    let mut parts = text.split('~');
+    let head = parts.next().unwrap();
+    let damage = parts.map(|part| {
+        let (at, byte) = part.split_once('=').expect("PLACE=BYTE");
+        (number(at), number(byte))
+    });
+    let (head, wrote) = head.split_once('/').map_or((head, 4096), |(head, n)| (head, number(n)));
+    let (status, kind) = head.split_once('.').map_or((head, None), |(status, kind)| (status, Some(kind)));
+    let mut body = kind.map_or(Body::ZERO, |kind| {
+        let letter = kind.chars().next().expect("a kind");
+        let known = KINDS.iter().find(|(_, l)| *l == letter).expect("a known kind");
+        Body::of(known.0, number(&kind[1..]))
+    });
+    body.damage = damage.collect();
+    Answer::Wrote { status: u32::from_str_radix(status, 16).expect("a status"), body, wrote }
+}
+
+fn number<T: FromStr>(text: &str) -> T {
+    text.parse().ok().unwrap_or_else(|| panic!("{text} is no number that fits"))
+}
+
+fn reading_text(reading: Reading) -> String {
+    let with = |name: String, status: u32| {
+        if status == 0x8000 { name } else { format!("{name}:{status:x}") }
+    };
+    match reading {
+        Reading::Quiet => "q".into(),
+        Reading::Device => "d".into(),
+        Reading::Oldest { status } => with("o".into(), status),
+        Reading::Later { k, status } => with(format!("k{k}"), status),
+        Reading::Slot { slot, status } => with(format!("s{slot}"), status),
+    }
+}
+
+fn readings_text(readings: &[Reading]) -> String {
+    let runs = readings.chunk_by(|a, b| a == b);
+    let text = runs.map(|run| match run.len() {
+        1 => format!(" {}", reading_text(run[0])),
+        n => format!(" {}*{n}", reading_text(run[0])),
+    });
+    text.collect()
+}
+
+fn readings_of(words: &[&str]) -> Vec<Reading> {
+    let mut readings = vec![];
+    for word in words {
+        let (word, times) = word.split_once('*').map_or((*word, 1), |(word, n)| (word, number(n)));
+        let (name, status) = word.split_once(':').unwrap_or((word, "8000"));
+        let status = u32::from_str_radix(status, 16).expect("a status");
+        let reading = match name.split_at(1) {
+            ("q", _) => Reading::Quiet,
+            ("d", _) => Reading::Device,
+            ("o", _) => Reading::Oldest { status },
+            ("k", k) => Reading::Later { k: number(k), status },
+            ("s", slot) => Reading::Slot { slot: number(slot), status },
+            _ => panic!("{word} is no reading"),
+        };
+        readings.extend(std::iter::repeat_n(reading, times));
+    }
+    readings
+}
+
+const COMMANDS: [(&str, u32); 4] =
+    [("prepare", wire::PREPARE), ("release", wire::RELEASE), ("start", wire::START), ("stop", wire::STOP)];
+
+fn call_text(call: &Call) -> String {
+    match call {
+        Call::Remap { jack, association, sequence } => format!("remap {jack} {association} {sequence}"),
+        Call::SetParams { stream, params: p } => {
+            let small = format!("{} {} {}", p.channels, p.format, p.rate);
+            format!("set {stream} {} {} {} {small}", p.buffer, p.period, p.features)
+        }
+        Call::Command { code, stream } => {
+            let name = COMMANDS.iter().find(|(_, c)| c == code).expect("one of four").0;
+            format!("{name} {stream}")
+        }
+        Call::OutputStreams => "outputs".into(),
+        Call::InputStreams => "inputs".into(),
+        Call::Rates(stream) => format!("rates {stream}"),
+        Call::Formats(stream) => format!("formats {stream}"),
+        Call::ChannelRange(stream) => format!("channels {stream}"),
+        Call::Features(stream) => format!("features {stream}"),
+        Call::Transfer(stream) => format!("xfer {stream}"),
+    }
+}
+
+fn call_of(words: &[&str]) -> Call {
+    let n = |i: usize| number::<u32>(words[i]);
+    let small = |i: usize| number::<u8>(words[i]);
+    match words[0] {
+        "remap" => Call::Remap { jack: n(1), association: n(2), sequence: n(3) },
+        "set" => {
+            let (buffer, period, features) = (n(2), n(3), n(4));
+            let params = Params { buffer, period, features, channels: small(5), format: small(6), rate: small(7) };
+            Call::SetParams { stream: n(1), params }
+        }
+        "outputs" => Call::OutputStreams,
+        "inputs" => Call::InputStreams,
+        "rates" => Call::Rates(n(1)),
+        "formats" => Call::Formats(n(1)),
+        "channels" => Call::ChannelRange(n(1)),
+        "features" => Call::Features(n(1)),
+        name => match COMMANDS.iter().find(|(command, _)| *command == name) {
+            Some((_, code)) => Call::Command { code: *code, stream: n(1) },
+            None => panic!("{name} is no call"),
+        },
+    }
+}
+
+fn answers_text(answers: &[Answer]) -> String {
+    let all: String = answers.iter().map(|answer| format!(" {}", answer_text(answer))).collect();
+    if all.is_empty() { all } else { format!(" <{all}") }
+}
+
+pub fn step_text(step: &Step) -> String {
+    match step {
+        Step::Control { call, answers } => call_text(call) + &answers_text(answers),
+        Step::Transfer { stream, frames, budget, readings, answers } => {
+            let start = format!("xfer {stream} {}.{} {budget}", frames.len, frames.seed);
+            start + &readings_text(readings) + &answers_text(answers)
+        }
+        Step::Drain(readings) => "drain".to_string() + &readings_text(readings),
+        Step::Event(None) => "event none".into(),
+        Step::Event(Some(bytes)) => format!("event {}", hex(bytes)),
+        Step::ModelControl(request) => format!("ctl {}", hex(request)),
+        Step::ModelTransfer(request) => format!("tx {}", hex(request)),
+        Step::Counts => "counts".into(),
+    }
+}
+
+pub fn step_of(text: &str) -> Step {
+    let (call, answers) = text.split_once('<').unwrap_or((text, ""));
+    let words: Vec<&str> = call.split_whitespace().collect();
+    let answers: Vec<Answer> = answers.split_whitespace().map(answer_of).collect();
+    match words[0] {
+        "xfer" => {
+            let (len, seed) = words[2].split_once('.').expect("LENGTH.SEED");
+            let frames = Frames { len: number(len), seed: number(seed) };
+            let readings = readings_of(&words[4..]);
+            Step::Transfer { stream: number(words[1]), frames, budget: number(words[3]), readings, answers }
+        }
+        "drain" => Step::Drain(readings_of(&words[1..])),
+        "event" => Step::Event((words[1] != "none").then(|| unhex(words[1]))),
+        "ctl" => Step::ModelControl(unhex(words[1])),
+        "tx" => Step::ModelTransfer(unhex(words[1])),
+        "counts" => Step::Counts,
+        _ => Step::Control { call: call_of(&words), answers },
+    }
+}
+
+/// The device of a case, without its steps.
+pub fn device_text(case: &Case) -> String {
+    let [j, s, m] = case.counts;
+    let tokens = if case.tokens == Tokens::Slots { "slots" } else { "descriptors" };
+    let model = case.model.map_or(String::new(), |seed| format!(" model {seed}"));
+    format!("{j} {s} {m} {tokens}{model}")
+}
+
+pub fn case_text(case: &Case) -> String {
+    let steps: Vec<String> = case.steps.iter().map(step_text).collect();
+    format!("{} | {}", device_text(case), steps.join(" ; "))
+}
+
+pub fn case_of(text: &str) -> Case {
+    let (device, steps) = text.split_once('|').expect("DEVICE | STEPS");
+    let words: Vec<&str> = device.split_whitespace().collect();
+    let counts = [number(words[0]), number(words[1]), number(words[2])];
+    let tokens = if words[3] == "slots" { Tokens::Slots } else { Tokens::Descriptors };
+    let model = words.get(5).map(|seed| number(seed));
+    let steps = steps.split(';').map(str::trim).filter(|step| !step.is_empty()).map(step_of).collect();
+    Case { counts, tokens, model, steps }
+}

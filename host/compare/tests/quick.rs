@@ -1,0 +1,57 @@
+//! The comparison in small, for `cargo test`; the gate's run is the program's own.
+use compare::run::{Counts, With, report, run};
+use compare::{judge::Intended, random, raw, record, rust, short, shown, stages, text};
+
+const WITH: With = With { rust: oracle::AT_HAND, port: true };
+
+fn agrees(case: compare::case::Case) {
+    if run(&case, WITH, &mut Counts::default()).is_err() {
+        panic!("{}", report(&case, WITH));
+    }
+}
+
+#[test]
+fn a_case_is_its_text() {
+    for seed in 0..400 {
+        let case = random::case(seed);
+        assert_eq!(text::case_of(&text::case_text(&case)), case);
+    }
+}
+
+#[test]
+fn drivers_agree() {
+    rust::quiet_panics();
+    short::events(&mut agrees);
+    short::counts(&mut agrees);
+    short::announcements(&mut agrees);
+    (0..300).for_each(|seed| agrees(random::case(seed)));
+}
+
+#[test]
+fn entries_agree() {
+    assert_eq!(stages::all().err(), None);
+    for seed in 0..40 {
+        assert!(raw::sequence(seed, 60).is_ok(), "compare --entries 1 --seed {seed}");
+        assert!(raw::damaged(seed, 60).is_ok(), "compare --entries 1 --seed {seed}");
+    }
+}
+
+#[test]
+fn the_recorded_list_agrees() {
+    let recorded = include_str!("../recorded.txt");
+    assert!(recorded.len() <= 2_000_000);
+    assert_eq!(record::replay(recorded).err(), None);
+}
+
+#[test]
+fn every_intended_difference_has_its_smallest_input() {
+    rust::quiet_panics();
+    let page = include_str!("../../../docs/DIFFERENCES.md");
+    for entry in Intended::ALL {
+        let row = shown::ROWS.iter().find(|(_, _, shows)| *shows == Some(entry));
+        let (_, input, _) = row.unwrap_or_else(|| panic!("{entry:?} is not shown"));
+        let line = format!("| {entry:?} | `{}`", input.replace('|', "\\|"));
+        assert!(page.contains(&line), "docs/DIFFERENCES.md lacks {line}");
+    }
+    assert_eq!(shown::print(), 0);
+}

@@ -1,0 +1,139 @@
+/* The driver's C entries. docs/BOUNDARY.md says what each answers and writes.
+ *
+ * Every entry answers one number: the answer's number in its low 32 bits, 0 above. 0 to 10 are
+ * document 01's answers; a request of n bytes to send is SND_SEND + n; a turn that goes on is
+ * SND_GOING; an event that says nothing is SND_NOTHING.
+ *
+ * A slice is a pointer and a length; an empty one may have any pointer but NULL. Slices that are
+ * written must not overlap any other. Any bytes at all are safe to pass: a store that is too short
+ * is refused with 10, one that is inconsistent with 1, and a refusal leaves every lent byte as it
+ * was, but for what document 01 names: 2, 6 and 9 end a transfer, and a feed ends its exchange.
+ * Numbers in results are least byte first. */
+#ifndef SND_H
+#define SND_H
+
+#include <stddef.h>
+#include <stdint.h>
+
+#ifdef __cplusplus
+extern "C" {
+#endif
+
+#define SND_OK 0u
+#define SND_INVALID_PARAM 1u
+#define SND_IO_ERROR 2u
+#define SND_UNSUPPORTED 3u
+#define SND_NO_INFO 4u
+#define SND_TOO_MANY 5u
+#define SND_WRONG_TOKEN 6u
+#define SND_QUEUE_FAILED 7u
+#define SND_BUSY 8u
+#define SND_OUT_OF_TURNS 9u
+#define SND_BAD_LENGTH 10u
+#define SND_SEND 256u
+#define SND_GOING 512u
+#define SND_NOTHING 513u
+
+/* Sizes of the stores and buffers, the same as the entries below hand out. */
+#define SND_STATE_SIZE 14304u
+#define SND_RING_SIZE 592u
+#define SND_MESSAGE_SIZE 24u
+#define SND_RESULT_SIZE 512u
+#define SND_PAGE_SIZE 4096u
+#define SND_MODEL_SIZE 16427u
+
+uint64_t snd_state_size(void);
+uint64_t snd_ring_size(void);
+uint64_t snd_message_size(void);
+uint64_t snd_result_size(void);
+uint64_t snd_page_size(void);
+uint64_t snd_model_size(void);
+
+/* A new state from the configured counts; a new ring. */
+uint64_t snd_new(uint8_t *state, size_t state_len, uint32_t jacks, uint32_t streams, uint32_t chmaps);
+uint64_t snd_ring_new(uint8_t *ring, size_t ring_len);
+
+/* The configured counts: 8 bytes of result. */
+uint64_t snd_jacks(const uint8_t *state, size_t state_len, uint8_t *result, size_t result_len);
+uint64_t snd_streams(const uint8_t *state, size_t state_len, uint8_t *result, size_t result_len);
+uint64_t snd_chmaps(const uint8_t *state, size_t state_len, uint8_t *result, size_t result_len);
+
+/* Calls. Each yields a request (SND_SEND + n, n bytes of message), or a result. */
+uint64_t snd_jack_remap(uint8_t *state, size_t state_len, const uint8_t *ring, size_t ring_len,
+                        uint32_t jack, uint32_t association, uint32_t sequence,
+                        uint8_t *message, size_t message_len, uint8_t *result, size_t result_len);
+uint64_t snd_pcm_set_params(uint8_t *state, size_t state_len, const uint8_t *ring, size_t ring_len,
+                            uint32_t stream, uint32_t buffer, uint32_t period, uint32_t features,
+                            uint8_t channels, uint8_t format, uint8_t rate,
+                            uint8_t *message, size_t message_len, uint8_t *result, size_t result_len);
+uint64_t snd_pcm_prepare(uint8_t *state, size_t state_len, const uint8_t *ring, size_t ring_len, uint32_t stream,
+                         uint8_t *message, size_t message_len, uint8_t *result, size_t result_len);
+uint64_t snd_pcm_release(uint8_t *state, size_t state_len, const uint8_t *ring, size_t ring_len, uint32_t stream,
+                         uint8_t *message, size_t message_len, uint8_t *result, size_t result_len);
+uint64_t snd_pcm_start(uint8_t *state, size_t state_len, const uint8_t *ring, size_t ring_len, uint32_t stream,
+                       uint8_t *message, size_t message_len, uint8_t *result, size_t result_len);
+uint64_t snd_pcm_stop(uint8_t *state, size_t state_len, const uint8_t *ring, size_t ring_len, uint32_t stream,
+                      uint8_t *message, size_t message_len, uint8_t *result, size_t result_len);
+/* Result: count 4, then each id 4. */
+uint64_t snd_output_streams(uint8_t *state, size_t state_len, const uint8_t *ring, size_t ring_len,
+                            uint8_t *message, size_t message_len, uint8_t *result, size_t result_len);
+uint64_t snd_input_streams(uint8_t *state, size_t state_len, const uint8_t *ring, size_t ring_len,
+                           uint8_t *message, size_t message_len, uint8_t *result, size_t result_len);
+/* Result: the stored bits, 8; of a channel range min 1, max 1. */
+uint64_t snd_rates_supported(uint8_t *state, size_t state_len, const uint8_t *ring, size_t ring_len, uint32_t stream,
+                             uint8_t *message, size_t message_len, uint8_t *result, size_t result_len);
+uint64_t snd_formats_supported(uint8_t *state, size_t state_len, const uint8_t *ring, size_t ring_len, uint32_t stream,
+                               uint8_t *message, size_t message_len, uint8_t *result, size_t result_len);
+uint64_t snd_channel_range_supported(uint8_t *state, size_t state_len, const uint8_t *ring, size_t ring_len, uint32_t stream,
+                                     uint8_t *message, size_t message_len, uint8_t *result, size_t result_len);
+uint64_t snd_features_supported(uint8_t *state, size_t state_len, const uint8_t *ring, size_t ring_len, uint32_t stream,
+                                uint8_t *message, size_t message_len, uint8_t *result, size_t result_len);
+
+/* The answer to the request that is out: its page of 4,096 bytes, or the queue's failure. */
+uint64_t snd_feed(uint8_t *state, size_t state_len, const uint8_t *page, size_t page_len,
+                  uint8_t *message, size_t message_len, uint8_t *result, size_t result_len);
+uint64_t snd_feed_failure(uint8_t *state, size_t state_len,
+                          uint8_t *message, size_t message_len, uint8_t *result, size_t result_len);
+
+/* A transfer: its start (SND_GOING, a request of set-up, or a refusal); what the next turn submits
+ * (result: there 8, slot 8, offset 8, length 8); a turn; a drain turn. Kind 0 is a quiet reading,
+ * any other a completed slot with its status. */
+uint64_t snd_pcm_xfer_start(uint8_t *state, size_t state_len, uint8_t *ring, size_t ring_len, uint32_t stream,
+                            const uint8_t *frames, size_t frames_len, uint64_t budget,
+                            uint8_t *message, size_t message_len);
+uint64_t snd_offered(const uint8_t *ring, size_t ring_len, const uint8_t *frames, size_t frames_len,
+                     uint8_t *result, size_t result_len);
+uint64_t snd_turn(uint8_t *ring, size_t ring_len, const uint8_t *frames, size_t frames_len,
+                  uint32_t kind, uint32_t slot, uint32_t status);
+uint64_t snd_drain_turn(uint8_t *ring, size_t ring_len, uint32_t kind, uint32_t slot, uint32_t status);
+
+/* Reads of the ring. Result: a number, 8; of a slot its offset 8 and length 8; of the oldest there 8, slot 8. */
+uint64_t snd_ring_running(const uint8_t *ring, size_t ring_len, uint8_t *result, size_t result_len);
+uint64_t snd_ring_in_flight(const uint8_t *ring, size_t ring_len, uint8_t *result, size_t result_len);
+uint64_t snd_ring_free_descriptors(const uint8_t *ring, size_t ring_len, uint8_t *result, size_t result_len);
+uint64_t snd_ring_turns_run(const uint8_t *ring, size_t ring_len, uint8_t *result, size_t result_len);
+uint64_t snd_ring_stream(const uint8_t *ring, size_t ring_len, uint8_t *result, size_t result_len);
+uint64_t snd_ring_carried(const uint8_t *ring, size_t ring_len, size_t slot, uint8_t *result, size_t result_len);
+uint64_t snd_ring_oldest(const uint8_t *ring, size_t ring_len, uint8_t *result, size_t result_len);
+
+/* An event. Result: code 4, data 4. */
+uint64_t snd_latest_notification(const uint8_t *event, size_t event_len, uint8_t *result, size_t result_len);
+
+/* The model device, for tests and demonstrations: made from three tables of records as they stand in
+ * an answer. control: result has the answer's length, 8. payload: result has its offset 8 and length 8
+ * in the request. params: there 8, then the 24 bytes. played: 8. */
+uint64_t snd_model_new(uint8_t *model, size_t model_len, const uint8_t *jacks, size_t jacks_len,
+                       const uint8_t *pcms, size_t pcms_len, const uint8_t *maps, size_t maps_len);
+uint64_t snd_model_control(uint8_t *model, size_t model_len, const uint8_t *request, size_t request_len,
+                           uint8_t *page, size_t page_len, uint8_t *result, size_t result_len);
+uint64_t snd_model_transfer(uint8_t *model, size_t model_len, const uint8_t *request, size_t request_len,
+                            uint8_t *answer, size_t answer_len);
+uint64_t snd_model_payload(const uint8_t *model, size_t model_len, const uint8_t *request, size_t request_len,
+                           uint8_t *result, size_t result_len);
+uint64_t snd_model_params(const uint8_t *model, size_t model_len, uint32_t stream, uint8_t *result, size_t result_len);
+uint64_t snd_model_played(const uint8_t *model, size_t model_len, uint32_t stream, uint8_t *result, size_t result_len);
+
+#ifdef __cplusplus
+}
+#endif
+#endif

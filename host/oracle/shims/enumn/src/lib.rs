@@ -1,0 +1,2 @@
+//! Stand-in for `enumn`. Assumed: `#[derive(N)]` gives `fn n(value: Repr) -> Option<Self>`, the case of that number or none.
+pub use derive::N;

@@ -1,0 +1,224 @@
+//! The C entries over the rules: the order of refusals, the lent stores and the result slice
+//! (host/include/snd.h says what each answers and writes).
+
+use crate::event::{Event, latest_notification};
+use crate::model::Model;
+use crate::ring::{Reading, Ring, Turn};
+use crate::sound::{Call, Fed, Say, Sound, Value};
+use crate::*;
+
+pub const STATE_SIZE: usize = 14304;
+pub const RING_SIZE: usize = 592;
+pub const RESULT_SIZE: usize = 512;
+pub const MODEL_SIZE: usize = 16427;
+pub const SEND: u64 = 256;
+pub const GOING: u64 = 512;
+pub const NOTHING: u64 = 513;
+
+/// A lent store: its length, and what stands in it, where anything does.
+pub struct Store<T> {
+    pub len: usize,
+    pub value: Option<T>,
+}
+
+impl<T> Store<T> {
+    /// What stands there, once every length was tested.
+    fn known(self) -> Result<T, u64> {
+        self.value.ok_or(INVALID_PARAM as u64)
+    }
+}
+
+type Answer = Result<u64, u64>;
+
+/// The number, refused or not.
+pub fn number(answer: Answer) -> u64 {
+    match answer {
+        Ok(n) | Err(n) => n,
+    }
+}
+
+fn lengths(all_good: bool) -> Result<(), u64> {
+    if all_good { Ok(()) } else { Err(BAD_LENGTH as u64) }
+}
+
+fn put(result: &mut [u8], numbers: &[u64]) {
+    for (place, n) in result.chunks_mut(8).zip(numbers) {
+        place.copy_from_slice(&n.to_le_bytes());
+    }
+}
+
+/// What was said, as a number; a value goes into the result.
+fn said(say: Say, result: &mut [u8]) -> u64 {
+    match say {
+        Say::Send(n) => return SEND + n as u64,
+        Say::Refused(number) => return number as u64,
+        Say::Going => return GOING,
+        Say::Done(Value::Nothing) => {}
+        Say::Done(Value::Bits(bits)) => put(result, &[bits]),
+        Say::Done(Value::Range(min, max)) => result[..2].copy_from_slice(&[min, max]),
+        Say::Done(Value::Streams(ids)) => {
+            result[..4].copy_from_slice(&(ids.len() as u32).to_le_bytes());
+            for (place, id) in result[4..].chunks_mut(4).zip(ids) {
+                place.copy_from_slice(&id.to_le_bytes());
+            }
+        }
+    }
+    OK as u64
+}
+
+/// One of the configured counts.
+pub fn count(state: Store<&Sound>, which: usize, result: &mut [u8]) -> Answer {
+    lengths(state.len >= STATE_SIZE && result.len() >= RESULT_SIZE)?;
+    let state = state.known()?;
+    if !state.consistent() {
+        return Err(INVALID_PARAM as u64);
+    }
+    put(result, &[state.counts[which] as u64]);
+    Ok(OK as u64)
+}
+
+pub fn call(state: Store<&mut Sound>, ring: Store<&Ring>, call: Call, message: &mut [u8], result: &mut [u8]) -> Answer {
+    let lent = message.len() >= MESSAGE && result.len() >= RESULT_SIZE;
+    lengths(state.len >= STATE_SIZE && ring.len >= RING_SIZE && lent)?;
+    let (state, ring) = (state.known()?, ring.known()?);
+    Ok(said(state.call(ring, call, message), result))
+}
+
+pub fn feed(state: Store<&mut Sound>, fed: Fed, message: &mut [u8], result: &mut [u8]) -> Answer {
+    let page = !matches!(fed, Fed::Page(page) if page.len() != PAGE);
+    let lent = message.len() >= MESSAGE && result.len() >= RESULT_SIZE;
+    lengths(state.len >= STATE_SIZE && page && lent)?;
+    Ok(said(state.known()?.feed(fed, message), result))
+}
+
+pub fn xfer_start(
+    state: Store<&mut Sound>,
+    ring: Store<&mut Ring>,
+    stream: u32,
+    frames_len: usize,
+    budget: u64,
+    message: &mut [u8],
+) -> Answer {
+    let stores = state.len >= STATE_SIZE && ring.len >= RING_SIZE;
+    lengths(stores && message.len() >= MESSAGE)?;
+    let (state, ring) = (state.known()?, ring.known()?);
+    let say = state.xfer_start(ring, stream, frames_len as u64, budget, message);
+    Ok(said(say, &mut []))
+}
+
+pub fn offered(ring: Store<&Ring>, frames_len: usize, result: &mut [u8]) -> Answer {
+    lengths(ring.len >= RING_SIZE && result.len() >= RESULT_SIZE)?;
+    match ring.known()?.offered(frames_len as u64) {
+        Err(number) => Err(number as u64),
+        Ok(None) => {
+            put(result, &[0, 0, 0, 0]);
+            Ok(OK as u64)
+        }
+        Ok(Some(offer)) => {
+            put(result, &[1, offer.slot, offer.offset, offer.length]);
+            Ok(OK as u64)
+        }
+    }
+}
+
+pub fn turn(ring: Store<&mut Ring>, frames_len: usize, reading: Reading) -> Answer {
+    lengths(ring.len >= RING_SIZE)?;
+    match ring.known()?.turn(frames_len as u64, reading) {
+        Turn::Going => Ok(GOING),
+        Turn::Ended(number) => Ok(number as u64),
+    }
+}
+
+pub fn drain_turn(ring: Store<&mut Ring>, reading: Reading) -> Answer {
+    lengths(ring.len >= RING_SIZE)?;
+    Ok(ring.known()?.drain_turn(reading) as u64)
+}
+
+/// The reads of the ring.
+#[derive(Copy, Clone, Debug, PartialEq, Eq)]
+pub enum Asked {
+    Running,
+    InFlight,
+    FreeDescriptors,
+    TurnsRun,
+    Stream,
+    Carried(usize),
+    Oldest,
+}
+
+pub fn ring_read(ring: Store<&Ring>, asked: Asked, result: &mut [u8]) -> Answer {
+    lengths(ring.len >= RING_SIZE && result.len() >= RESULT_SIZE)?;
+    let ring = ring.known()?;
+    if !ring.consistent() {
+        return Err(INVALID_PARAM as u64);
+    }
+    match asked {
+        Asked::Running => put(result, &[ring.running as u64]),
+        Asked::InFlight => put(result, &[ring.in_flight]),
+        Asked::FreeDescriptors => put(result, &[ring.free()]),
+        Asked::TurnsRun => put(result, &[ring.turns]),
+        Asked::Stream => put(result, &[ring.stream as u64]),
+        Asked::Oldest => put(result, &[ring.oldest().is_some() as u64, ring.oldest().unwrap_or(0)]),
+        Asked::Carried(slot) => match ring.slots.get(slot) {
+            None => return Err(INVALID_PARAM as u64),
+            Some((offset, length)) => put(result, &[*offset, *length]),
+        },
+    }
+    Ok(OK as u64)
+}
+
+pub fn notification(event: &[u8], result: &mut [u8]) -> Answer {
+    lengths(result.len() >= RESULT_SIZE)?;
+    match latest_notification(event) {
+        Event::Nothing => Ok(NOTHING),
+        Event::Refused(number) => Err(number as u64),
+        Event::Is { code, data } => {
+            result[..8].copy_from_slice(&wire::words(&[code, data]));
+            Ok(OK as u64)
+        }
+    }
+}
+
+pub fn model_control(model: Store<&mut Model>, request: &[u8], page: &mut [u8], result: &mut [u8]) -> Answer {
+    let lent = page.len() == PAGE && result.len() >= RESULT_SIZE;
+    lengths(model.len >= MODEL_SIZE && lent)?;
+    let length = model.known()?.control(request, page).map_err(u64::from)?;
+    put(result, &[length as u64]);
+    Ok(OK as u64)
+}
+
+pub fn model_transfer(model: Store<&mut Model>, request: &[u8], answer: &mut [u8]) -> Answer {
+    lengths(model.len >= MODEL_SIZE && answer.len() >= 8)?;
+    model.known()?.transfer(request, answer).map_err(u64::from)?;
+    Ok(OK as u64)
+}
+
+/// A request that is no good transfer shows an empty payload.
+pub fn model_payload(model: Store<&Model>, request: &[u8], result: &mut [u8]) -> Answer {
+    lengths(model.len >= MODEL_SIZE && result.len() >= RESULT_SIZE)?;
+    let (offset, length) = model.known()?.payload(request).unwrap_or((0, 0));
+    put(result, &[offset, length]);
+    Ok(OK as u64)
+}
+
+pub fn model_params(model: Store<&Model>, stream: u32, result: &mut [u8]) -> Answer {
+    lengths(model.len >= MODEL_SIZE && result.len() >= RESULT_SIZE)?;
+    match model.known()?.params.get(stream as usize) {
+        None => return Err(INVALID_PARAM as u64),
+        Some(None) => result[..32].fill(0),
+        Some(Some(all)) => {
+            put(result, &[1]);
+            result[8..32].copy_from_slice(all);
+        }
+    }
+    Ok(OK as u64)
+}
+
+pub fn model_played(model: Store<&Model>, stream: u32, result: &mut [u8]) -> Answer {
+    lengths(model.len >= MODEL_SIZE && result.len() >= RESULT_SIZE)?;
+    match model.known()?.played.get(stream as usize) {
+        None => return Err(INVALID_PARAM as u64),
+        Some(count) => put(result, &[*count]),
+    }
+    Ok(OK as u64)
+}

@@ -1,0 +1,31 @@
+//! Document 01, read a second time: plain Rust, written from the paper (and from the decisions on what
+//! it leaves open) and from nothing else. The port and the Rust driver are both held to it by `compare`.
+//!
+//! Clarity before speed: tables are vectors, refusals are numbers.
+
+pub mod entries;
+pub mod event;
+pub mod model;
+pub mod ring;
+pub mod sound;
+pub mod wire;
+
+/// The answers' numbers.
+pub const OK: u8 = 0;
+pub const INVALID_PARAM: u8 = 1;
+pub const IO_ERROR: u8 = 2;
+pub const UNSUPPORTED: u8 = 3;
+pub const NO_INFO: u8 = 4;
+pub const TOO_MANY: u8 = 5;
+pub const WRONG_TOKEN: u8 = 6;
+pub const QUEUE_FAILED: u8 = 7;
+pub const BUSY: u8 = 8;
+pub const OUT_OF_TURNS: u8 = 9;
+pub const BAD_LENGTH: u8 = 10;
+
+/// The answer page.
+pub const PAGE: usize = 4096;
+/// The least room for a control message, whatever the call sends.
+pub const MESSAGE: usize = 24;
+/// A page holds this many jacks, streams, channel maps.
+pub const FIT: [u32; 3] = [170, 127, 170];

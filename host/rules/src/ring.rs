@@ -1,0 +1,191 @@
+//! Turns of a transfer.
+
+use crate::{BAD_LENGTH, BUSY, INVALID_PARAM, IO_ERROR, OUT_OF_TURNS, WRONG_TOKEN, wire::STATUS_OK};
+
+pub const SLOTS: usize = 32;
+/// Descriptors of one submission, and the least room for one.
+pub const PER: u64 = 3;
+const LEAST: u64 = 3;
+
+#[derive(Clone, Debug, PartialEq, Eq)]
+pub struct Ring {
+    pub running: bool,
+    pub stream: u32,
+    pub frames_len: u64,
+    pub period: u64,
+    pub budget: u64,
+    pub turns: u64,
+    /// the offset of the next period
+    pub next: u64,
+    pub head: u64,
+    pub tail: u64,
+    pub in_flight: u64,
+    /// what each slot carries or carried: offset, length
+    pub slots: [(u64, u64); SLOTS],
+}
+
+/// What a turn saw.
+#[derive(Copy, Clone, Debug, PartialEq, Eq)]
+pub enum Reading {
+    Quiet,
+    Completed { slot: u32, status: u32 },
+}
+
+impl Reading {
+    /// Kind 0 is quiet, every other kind is completed.
+    pub fn from_words(kind: u32, slot: u32, status: u32) -> Self {
+        match kind {
+            0 => Reading::Quiet,
+            _ => Reading::Completed { slot, status },
+        }
+    }
+}
+
+#[derive(Copy, Clone, Debug, PartialEq, Eq)]
+pub enum Turn {
+    Going,
+    Ended(u8),
+}
+
+/// What the next turn submits.
+#[derive(Copy, Clone, Debug, PartialEq, Eq)]
+pub struct Offer {
+    pub slot: u64,
+    pub offset: u64,
+    pub length: u64,
+}
+
+impl Default for Ring {
+    fn default() -> Self {
+        Ring {
+            running: false,
+            stream: 0,
+            frames_len: 0,
+            period: 0,
+            budget: 0,
+            turns: 0,
+            next: 0,
+            head: 0,
+            tail: 0,
+            in_flight: 0,
+            slots: [(0, 0); SLOTS],
+        }
+    }
+}
+
+impl Ring {
+    pub fn consistent(&self) -> bool {
+        let slots = SLOTS as u64;
+        let small = self.head < slots && self.tail < slots && self.in_flight <= slots / PER;
+        small
+            && self.head == (self.tail + self.in_flight) % slots
+            && self.next <= self.frames_len
+            && (!self.running || (self.period > 0 && self.turns < self.budget))
+    }
+
+    /// A call must wait: a transfer runs or a slot is in flight.
+    pub fn busy(&self) -> bool {
+        self.running || self.in_flight > 0
+    }
+
+    pub fn free(&self) -> u64 {
+        SLOTS as u64 - PER * self.in_flight
+    }
+
+    pub fn oldest(&self) -> Option<u64> {
+        (self.in_flight > 0).then_some(self.tail)
+    }
+
+    /// A transfer whose stream and period passed their checks begins; slots keep what they carried.
+    pub fn start(&mut self, stream: u32, frames_len: u64, period: u64, budget: u64) -> Turn {
+        if self.busy() {
+            return Turn::Ended(BUSY);
+        }
+        if budget == 0 {
+            return Turn::Ended(OUT_OF_TURNS);
+        }
+        *self = Ring { running: true, stream, frames_len, period, budget, slots: self.slots, ..Ring::default() };
+        Turn::Going
+    }
+
+    /// Why a turn with frames of this length would be refused.
+    fn bars(&self, frames_len: u64) -> Option<u8> {
+        if self.running && frames_len != self.frames_len {
+            Some(BAD_LENGTH)
+        } else if !self.consistent() || !self.running {
+            Some(INVALID_PARAM)
+        } else {
+            None
+        }
+    }
+
+    fn next_offer(&self) -> Option<Offer> {
+        let room = self.free() >= LEAST;
+        (room && self.next < self.frames_len).then(|| Offer {
+            slot: self.head,
+            offset: self.next,
+            length: self.period.min(self.frames_len - self.next),
+        })
+    }
+
+    pub fn offered(&self, frames_len: u64) -> Result<Option<Offer>, u8> {
+        match self.bars(frames_len) {
+            Some(number) => Err(number),
+            None => Ok(self.next_offer()),
+        }
+    }
+
+    fn end(&mut self, number: u8) -> Turn {
+        self.running = false;
+        Turn::Ended(number)
+    }
+
+    fn free_oldest(&mut self) {
+        self.tail = (self.tail + 1) % SLOTS as u64;
+        self.in_flight -= 1;
+    }
+
+    pub fn turn(&mut self, frames_len: u64, reading: Reading) -> Turn {
+        if let Some(number) = self.bars(frames_len) {
+            return Turn::Ended(number);
+        }
+        self.turns += 1;
+        // 1. submit a period, or end where none remains and nothing is in flight
+        if let Some(offer) = self.next_offer() {
+            self.slots[self.head as usize] = (offer.offset, offer.length);
+            self.head = (self.head + 1) % SLOTS as u64;
+            self.in_flight += 1;
+            self.next += offer.length;
+        } else if self.free() >= LEAST && self.in_flight == 0 {
+            return self.end(crate::OK);
+        }
+        // 2. the reading
+        if let Reading::Completed { slot, status } = reading {
+            if self.oldest() != Some(slot as u64) {
+                return self.end(WRONG_TOKEN);
+            }
+            self.free_oldest();
+            if status != STATUS_OK {
+                return self.end(IO_ERROR);
+            }
+        }
+        if self.turns == self.budget {
+            return self.end(OUT_OF_TURNS);
+        }
+        Turn::Going
+    }
+
+    /// "Drain turns free owed slots, oldest first, ignoring status."
+    pub fn drain_turn(&mut self, reading: Reading) -> u8 {
+        if !self.consistent() || self.running {
+            return INVALID_PARAM;
+        }
+        if let Reading::Completed { slot, .. } = reading {
+            if self.oldest() != Some(slot as u64) {
+                return WRONG_TOKEN;
+            }
+            self.free_oldest();
+        }
+        crate::OK
+    }
+}

@@ -1,0 +1,353 @@
+//! Control exchanges: set-up, every call, feeds, the start of a transfer.
+
+use crate::ring::{Ring, Turn};
+use crate::wire::{self, u32_at, u64_at};
+use crate::*;
+use std::collections::BTreeMap;
+
+/// The seven values of a stream.
+#[derive(Copy, Clone, Debug, PartialEq, Eq)]
+pub struct Params {
+    pub buffer: u32,
+    pub period: u32,
+    pub features: u32,
+    pub channels: u8,
+    pub format: u8,
+    pub rate: u8,
+}
+
+#[derive(Copy, Clone, Debug, PartialEq, Eq)]
+pub enum Call {
+    Remap {
+        jack: u32,
+        association: u32,
+        sequence: u32,
+    },
+    SetParams {
+        stream: u32,
+        params: Params,
+    },
+    /// one of the four commands, by its code
+    Command {
+        code: u32,
+        stream: u32,
+    },
+    OutputStreams,
+    InputStreams,
+    Rates(u32),
+    Formats(u32),
+    ChannelRange(u32),
+    Features(u32),
+    /// a transfer that had to begin set-up
+    Transfer(u32),
+}
+
+#[derive(Copy, Clone, Debug, PartialEq, Eq)]
+pub enum Awaits {
+    /// the query of jacks 0, streams 1 or maps 2
+    Table(usize),
+    /// the call's own request
+    Own,
+}
+
+#[derive(Clone, Debug, PartialEq, Eq)]
+pub enum Value {
+    Nothing,
+    Streams(Vec<u32>),
+    Bits(u64),
+    Range(u8, u8),
+}
+
+/// What a call or a feed yields.
+#[derive(Clone, Debug, PartialEq, Eq)]
+pub enum Say {
+    /// so many bytes of the message are to be sent
+    Send(usize),
+    Done(Value),
+    Refused(u8),
+    /// a transfer began
+    Going,
+}
+
+/// What the caller feeds.
+#[derive(Copy, Clone, Debug)]
+pub enum Fed<'a> {
+    Page(&'a [u8]),
+    Failure,
+}
+
+#[derive(Clone, Debug, PartialEq, Eq)]
+pub struct Sound {
+    /// configured: jacks, streams, maps
+    pub counts: [u32; 3],
+    pub set_up: bool,
+    /// the records of jacks, streams, maps
+    pub tables: [Vec<Vec<u8>>; 3],
+    pub params: BTreeMap<u32, Params>,
+    pub open: Option<(Awaits, Call)>,
+}
+
+/// Period 0, period above buffer, or buffer not a multiple of period is against the rule.
+pub fn period_rule(p: &Params) -> bool {
+    p.period != 0 && p.period <= p.buffer && p.buffer.is_multiple_of(p.period)
+}
+
+pub fn numbers_in_range(p: &Params) -> bool {
+    p.format <= 24 && p.rate <= 13
+}
+
+/// What the next thing to do is, before a byte of the message is written.
+enum Plan {
+    Ask(Vec<u8>),
+    Say(Say),
+}
+
+fn refuse(number: u8) -> Plan {
+    Plan::Say(Say::Refused(number))
+}
+
+fn done(value: Value) -> Plan {
+    Plan::Say(Say::Done(value))
+}
+
+impl Sound {
+    pub fn new(counts: [u32; 3]) -> Self {
+        Sound { counts, set_up: false, tables: Default::default(), params: BTreeMap::new(), open: None }
+    }
+
+    /// The consistency test of every call.
+    pub fn consistent(&self) -> bool {
+        let behind = match self.open {
+            None if self.set_up => 3,
+            None => 0,
+            Some((Awaits::Table(n), _)) => n,
+            Some((Awaits::Own, _)) => 3,
+        };
+        let tables = (0..3).all(|t| {
+            let held = self.tables[t].len();
+            let whole = held == self.counts[t] as usize && wire::fits(t, self.counts[t]);
+            if t >= behind { held == 0 } else { whole || (t != 1 && held == 0) }
+        });
+        let call = match self.open {
+            None => true,
+            Some((Awaits::Table(_), Call::SetParams { params, .. })) => numbers_in_range(&params),
+            Some((Awaits::Table(_), _)) => true,
+            Some((Awaits::Own, call)) => self.may_be_out(&call),
+        };
+        self.set_up == (behind == 3) && tables && call
+    }
+
+    /// A call whose own request can be out.
+    fn may_be_out(&self, call: &Call) -> bool {
+        match call {
+            Call::SetParams { stream, params } => {
+                numbers_in_range(params) && period_rule(params) && *stream < self.counts[1]
+            }
+            Call::Command { .. } | Call::Remap { .. } => true,
+            _ => false,
+        }
+    }
+
+    /// Besides, of the stream that a transfer is to use.
+    fn stream_consistent(&self, stream: u32) -> bool {
+        let used = self.set_up && stream < self.counts[1];
+        match self.params.get(&stream) {
+            Some(p) if used => numbers_in_range(p) && period_rule(p),
+            _ => true,
+        }
+    }
+
+    pub fn call(&mut self, ring: &Ring, call: Call, message: &mut [u8]) -> Say {
+        if message.len() < MESSAGE {
+            return Say::Refused(BAD_LENGTH);
+        }
+        if !self.consistent() || !ring.consistent() {
+            return Say::Refused(INVALID_PARAM);
+        }
+        if self.open.is_some() || ring.busy() {
+            return Say::Refused(BUSY);
+        }
+        if let Call::SetParams { params, .. } = &call
+            && !numbers_in_range(params)
+        {
+            return Say::Refused(INVALID_PARAM);
+        }
+        let plan = self.begin(call);
+        finish(plan, message)
+    }
+
+    /// Set-up comes first where it is not done.
+    fn begin(&mut self, call: Call) -> Plan {
+        if self.set_up {
+            return self.own(call);
+        }
+        self.open = Some((Awaits::Table(0), call));
+        Plan::Ask(wire::query(0, self.counts[0]))
+    }
+
+    /// The call's own checks, in the order written, then its request or its value.
+    fn own(&mut self, call: Call) -> Plan {
+        self.open = None;
+        let plan = match call {
+            Call::Remap { jack, association, sequence } => self.own_remap(jack, association, sequence),
+            Call::SetParams { stream, params } => self.own_set(stream, params),
+            Call::Command { code, stream } => Plan::Ask(wire::words(&[code, stream])),
+            Call::OutputStreams => done(Value::Streams(self.streams_of(0))),
+            Call::InputStreams => done(Value::Streams(self.streams_of(1))),
+            Call::Features(s) => self.of_stream(s, |r| Value::Bits(u32_at(r, 4) as u64)),
+            Call::Formats(s) => self.of_stream(s, |r| Value::Bits(u64_at(r, 8))),
+            Call::Rates(s) => self.of_stream(s, |r| Value::Bits(u64_at(r, 16))),
+            Call::ChannelRange(s) => self.of_stream(s, |r| Value::Range(r[25], r[26])),
+            Call::Transfer(s) if s >= self.counts[1] => refuse(INVALID_PARAM),
+            // no stream has parameters before set-up is done
+            Call::Transfer(_) => refuse(IO_ERROR),
+        };
+        if let Plan::Ask(_) = plan {
+            self.open = Some((Awaits::Own, call));
+        }
+        plan
+    }
+
+    fn own_remap(&self, jack: u32, association: u32, sequence: u32) -> Plan {
+        if jack >= self.counts[0] {
+            return refuse(INVALID_PARAM);
+        }
+        let Some(record) = self.tables[0].get(jack as usize) else {
+            return refuse(NO_INFO);
+        };
+        if u32_at(record, 4) & 1 == 0 {
+            return refuse(UNSUPPORTED);
+        }
+        Plan::Ask(wire::words(&[wire::REMAP, jack, association, sequence]))
+    }
+
+    fn own_set(&self, stream: u32, p: Params) -> Plan {
+        if !period_rule(&p) || stream >= self.counts[1] {
+            return refuse(INVALID_PARAM);
+        }
+        let mut request = wire::words(&[wire::SET_PARAMS, stream, p.buffer, p.period, p.features]);
+        request.extend([p.channels, p.format, p.rate, 0]);
+        Plan::Ask(request)
+    }
+
+    fn streams_of(&self, direction: u8) -> Vec<u32> {
+        let numbered = (0u32..).zip(&self.tables[1]);
+        numbered.filter(|(_, r)| r[24] == direction).map(|(i, _)| i).collect()
+    }
+
+    fn of_stream(&self, stream: u32, value: impl Fn(&[u8]) -> Value) -> Plan {
+        match self.tables[1].get(stream as usize) {
+            Some(record) => done(value(record)),
+            None => refuse(INVALID_PARAM),
+        }
+    }
+
+    pub fn feed(&mut self, fed: Fed, message: &mut [u8]) -> Say {
+        let bad_page = matches!(fed, Fed::Page(page) if page.len() != PAGE);
+        if bad_page || message.len() < MESSAGE {
+            return Say::Refused(BAD_LENGTH);
+        }
+        if !self.consistent() {
+            return Say::Refused(INVALID_PARAM);
+        }
+        let plan = match self.open {
+            None => refuse(INVALID_PARAM),
+            Some((Awaits::Table(table), call)) => self.take_table(table, call, fed),
+            Some((Awaits::Own, call)) => self.take_own(call, fed),
+        };
+        finish(plan, message)
+    }
+
+    /// The answer to a query of set-up.
+    fn take_table(&mut self, table: usize, call: Call, fed: Fed) -> Plan {
+        let count = self.counts[table];
+        match fed {
+            Fed::Page(page) if u32_at(page, 0) == wire::STATUS_OK => {
+                if !wire::fits(table, count) {
+                    return self.cut_short(TOO_MANY);
+                }
+                let size = wire::SIZES[table];
+                let records = page[4..4 + count as usize * size].chunks(size);
+                self.tables[table] = records.map(<[u8]>::to_vec).collect();
+            }
+            Fed::Page(_) if table == 1 => return self.cut_short(IO_ERROR),
+            Fed::Failure if table == 1 => return self.cut_short(QUEUE_FAILED),
+            // jacks and maps: an empty table, and set-up goes on
+            _ => self.tables[table].clear(),
+        }
+        if table < 2 {
+            self.open = Some((Awaits::Table(table + 1), call));
+            return Plan::Ask(wire::query(table + 1, self.counts[table + 1]));
+        }
+        self.set_up = true;
+        self.own(call)
+    }
+
+    /// A set-up cut short leaves all three tables empty.
+    fn cut_short(&mut self, number: u8) -> Plan {
+        self.tables = Default::default();
+        self.open = None;
+        refuse(number)
+    }
+
+    /// The answer to the call's own request.
+    fn take_own(&mut self, call: Call, fed: Fed) -> Plan {
+        self.open = None;
+        let Fed::Page(page) = fed else {
+            return refuse(QUEUE_FAILED);
+        };
+        if u32_at(page, 0) != wire::STATUS_OK {
+            let remap = matches!(call, Call::Remap { .. });
+            return refuse(if remap { UNSUPPORTED } else { IO_ERROR });
+        }
+        if let Call::SetParams { stream, params } = call {
+            self.params.insert(stream, params);
+        }
+        done(Value::Nothing)
+    }
+
+    /// Busy, set-up, stream range, parameters set, then the budget.
+    pub fn xfer_start(
+        &mut self,
+        ring: &mut Ring,
+        stream: u32,
+        frames_len: u64,
+        budget: u64,
+        message: &mut [u8],
+    ) -> Say {
+        if message.len() < MESSAGE {
+            return Say::Refused(BAD_LENGTH);
+        }
+        if !self.consistent() || !ring.consistent() || !self.stream_consistent(stream) {
+            return Say::Refused(INVALID_PARAM);
+        }
+        if self.open.is_some() || ring.busy() {
+            return Say::Refused(BUSY);
+        }
+        if !self.set_up {
+            let plan = self.begin(Call::Transfer(stream));
+            return finish(plan, message);
+        }
+        if stream >= self.counts[1] {
+            return Say::Refused(INVALID_PARAM);
+        }
+        let Some(params) = self.params.get(&stream) else {
+            return Say::Refused(IO_ERROR);
+        };
+        match ring.start(stream, frames_len, params.period as u64, budget) {
+            Turn::Going => Say::Going,
+            Turn::Ended(number) => Say::Refused(number),
+        }
+    }
+}
+
+/// "Only the message's own bytes are written; a result writes none."
+fn finish(plan: Plan, message: &mut [u8]) -> Say {
+    match plan {
+        Plan::Say(say) => say,
+        Plan::Ask(request) => {
+            message[..request.len()].copy_from_slice(&request);
+            Say::Send(request.len())
+        }
+    }
+}

@@ -1,0 +1,78 @@
+//! Safe Rust over the C entries of the proved VirtIO sound driver.
+//!
+//! [`Sound`] is the driver's state, [`Ring`] the record of a transfer, [`Model`] a device to try them on. Each lives in a byte store of a
+//! fixed size that you own or lend; the entries read and write it in place. Nothing here allocates or panics, and any content of a
+//! store is safe: one that no call could have left is refused with [`Refusal::InvalidParam`].
+//!
+//! A control call says what to send. You send it, and feed the answer page:
+//!
+//! ```
+//! use snd::{Model, Page, PcmInfo, Ring, Sound, Step};
+//!
+//! let mut device = Model::new(&[], &[PcmInfo::output(1, 2).to_bytes()], &[])?;
+//! let (mut sound, ring, mut page) = (Sound::new(0, 1, 0), Ring::new(), Page::new());
+//!
+//! let mut step = sound.output_streams(&ring)?;
+//! let streams = loop {
+//!     match step {
+//!         Step::Done(streams) => break streams,
+//!         Step::Send(request) => {
+//!             device.control(request.bytes(), &mut page)?;
+//!             step = sound.feed(&page)?;
+//!         }
+//!     }
+//! };
+//! assert_eq!(streams.ids(), [0]);
+//! # Ok::<(), snd::Refusal>(())
+//! ```
+//!
+//! A transfer goes turn by turn; see [`Ring::turn`].
+#![no_std]
+#![deny(unsafe_code)]
+#![deny(
+    clippy::unwrap_used,
+    clippy::expect_used,
+    clippy::panic,
+    clippy::indexing_slicing,
+    clippy::arithmetic_side_effects,
+    clippy::todo,
+    clippy::unreachable
+)]
+
+mod answer;
+mod bytes;
+mod event;
+pub mod ffi;
+mod model;
+mod params;
+mod records;
+mod ring;
+mod sound;
+mod step;
+
+pub use answer::{Answer, Refusal};
+pub use event::{Event, EventKind, latest_notification};
+pub use model::{Model, TransferStatus};
+pub use params::{Format, Params, Rate};
+pub use records::{ChannelMap, JackInfo, PcmInfo};
+pub use ring::{Carried, Offer, Reading, Ring, Turn};
+pub use sound::Sound;
+pub use step::{Bits, ChannelRange, Message, Page, Step, StreamList, Value};
+
+/// The size of a state's store.
+pub const STATE_SIZE: usize = 14_304;
+/// The size of a ring's store.
+pub const RING_SIZE: usize = 592;
+/// The size of a message buffer.
+pub const MESSAGE_SIZE: usize = 24;
+/// The size of a result.
+pub const RESULT_SIZE: usize = 512;
+/// The size of an answer page.
+pub const PAGE_SIZE: usize = 4_096;
+/// The size of a model device's store.
+pub const MODEL_SIZE: usize = 16_427;
+
+/// The status by which a device says that all is well.
+pub const STATUS_OK: u32 = 0x8000;
+/// How many slots a ring has.
+pub const SLOTS: usize = 32;

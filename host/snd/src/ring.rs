@@ -1,0 +1,225 @@
+//! A transfer, turn by turn.
+use crate::answer::Said;
+use crate::bytes::{part_at, size_at, u64_at};
+use crate::step::{slot_if_there, told};
+use crate::{RING_SIZE, Refusal, ffi};
+use core::borrow::{Borrow, BorrowMut};
+
+/// What the host saw on the queue in a turn.
+#[derive(Clone, Copy, PartialEq, Eq, Debug)]
+pub enum Reading {
+    /// Nothing was completed.
+    Quiet,
+    /// The device has completed a slot, with this status.
+    Completed {
+        /// The slot that the device names. Any number is safe; one that is not the oldest in flight is [`Refusal::WrongToken`].
+        slot: u32,
+        /// The status in the device's answer; 0x8000 is ok.
+        status: u32,
+    },
+}
+
+impl Reading {
+    /// Kind, slot and status, as the entries take them.
+    const fn numbers(self) -> (u32, u32, u32) {
+        match self {
+            Self::Quiet => (0, 0, 0),
+            Self::Completed { slot, status } => (1, slot, status),
+        }
+    }
+}
+
+/// How a turn left the transfer, if it was not refused.
+#[derive(Clone, Copy, PartialEq, Eq, Debug)]
+pub enum Turn {
+    /// It runs: another turn.
+    Going,
+    /// It is over, with Ok: the device has accepted every period.
+    Done,
+}
+
+/// The period that the next turn submits.
+#[derive(Clone, Copy, PartialEq, Eq, Debug)]
+pub struct Offer<'f> {
+    /// The slot to submit it in.
+    pub slot: usize,
+    /// Where it begins in the frames.
+    pub offset: usize,
+    /// That part of the frames itself.
+    pub period: &'f [u8],
+}
+
+/// Where in the frames the bytes of a slot stand.
+#[derive(Clone, Copy, PartialEq, Eq, Debug)]
+pub struct Carried {
+    /// Where they begin.
+    pub offset: usize,
+    /// How many they are.
+    pub length: usize,
+}
+
+/// The record of a transfer in a byte store, owned (`Ring`) or lent (`Ring<&mut [u8; RING_SIZE]>`).
+///
+/// ```
+/// use snd::{Ring, RING_SIZE};
+/// let mut store = [0; RING_SIZE];
+/// let ring = Ring::new_in(&mut store);
+/// assert!(!ring.running()?);
+/// assert_eq!(ring.free_descriptors()?, 32);
+/// # Ok::<(), snd::Refusal>(())
+/// ```
+#[derive(Clone, PartialEq, Eq)]
+pub struct Ring<R = [u8; RING_SIZE]>(R);
+
+impl Ring {
+    /// A ring with nothing in flight.
+    #[must_use]
+    pub fn new() -> Self {
+        Self::new_in([0; RING_SIZE])
+    }
+}
+
+impl Default for Ring {
+    fn default() -> Self {
+        Self::new()
+    }
+}
+
+impl<R: Borrow<[u8; RING_SIZE]>> Ring<R> {
+    /// The ring that stands in your store. Any bytes are safe: an inconsistent ring is refused with 1.
+    #[must_use]
+    pub fn over(store: R) -> Self {
+        Self(store)
+    }
+
+    /// The store's bytes.
+    #[must_use]
+    pub fn store(&self) -> &[u8; RING_SIZE] {
+        self.0.borrow()
+    }
+}
+
+/// Turns. The host asks what is offered, submits it to the device, polls the queue once, and runs the turn with what it saw. The order
+/// matters: a turn takes the offered period as submitted, also where it ends the transfer.
+///
+/// ```
+/// use snd::{Model, Page, Reading, Refusal, Ring, Sound, Step, Turn, STATUS_OK};
+/// # use snd::{Format, Params, PcmInfo, Rate};
+/// # let mut device = Model::new(&[], &[PcmInfo::output(1, 2).to_bytes()], &[])?;
+/// # let (mut sound, mut ring, mut page) = (Sound::new(0, 1, 0), Ring::new(), Page::new());
+/// # let to = Params { buffer: 8, period: 4, features: 0, channels: 2, format: Format::S16, rate: Rate::Hz48000 };
+/// # let mut step = sound.pcm_set_params(&ring, 0, to)?;
+/// # while let Step::Send(request) = step {
+/// #     device.control(request.bytes(), &mut page)?;
+/// #     step = sound.feed(&page)?;
+/// # }
+/// // stream 0 has a period of 4 bytes; this device completes each period at once
+/// let frames = b"ten bytes.";
+/// assert_eq!(sound.pcm_xfer_start(&mut ring, 0, frames, 4)?, Step::Done(()));
+/// let mut lengths = vec![];
+/// loop {
+///     let mut reading = Reading::Quiet;
+///     if let Some(offer) = ring.offered(frames)? {
+///         lengths.push(offer.period.len());
+///         reading = Reading::Completed { slot: offer.slot as u32, status: STATUS_OK };
+///     }
+///     if ring.turn(frames, reading)? == Turn::Done {
+///         break;
+///     }
+/// }
+/// assert_eq!((lengths, ring.turns_run()?), (vec![4, 4, 2], 4));
+/// # Ok::<(), Refusal>(())
+/// ```
+impl<R: BorrowMut<[u8; RING_SIZE]>> Ring<R> {
+    /// A ring with nothing in flight in your store; what it held is gone.
+    #[must_use]
+    pub fn new_in(mut store: R) -> Self {
+        // the one refusal is 10, for a short store
+        let _ok = ffi::snd_ring_new(store.borrow_mut());
+        Self(store)
+    }
+
+    pub(crate) fn store_mut(&mut self) -> &mut [u8; RING_SIZE] {
+        self.0.borrow_mut()
+    }
+
+    /// One turn. `frames` are those of the start, unchanged. [`Refusal::IoError`], [`Refusal::WrongToken`] and [`Refusal::OutOfTurns`] end
+    /// the transfer, and what is then in flight is owed: see [`Ring::drain_turn`].
+    pub fn turn(&mut self, frames: &[u8], reading: Reading) -> Result<Turn, Refusal> {
+        let (kind, slot, status) = reading.numbers();
+        match Said::of(ffi::snd_turn(self.store_mut(), frames, kind, slot, status)) {
+            Said::Going => Ok(Turn::Going),
+            Said::Ok => Ok(Turn::Done),
+            Said::Refused(refusal) => Err(refusal),
+            Said::Send(_) | Said::Nothing => Err(Refusal::Unknown),
+        }
+    }
+
+    /// After a transfer that failed: frees the oldest slot in flight, whatever its status, once the device has completed it.
+    pub fn drain_turn(&mut self, reading: Reading) -> Result<(), Refusal> {
+        let (kind, slot, status) = reading.numbers();
+        Said::done(ffi::snd_drain_turn(self.store_mut(), kind, slot, status))
+    }
+}
+
+/// Reads. None changes the ring.
+impl<R: Borrow<[u8; RING_SIZE]>> Ring<R> {
+    fn read(&self, entry: fn(&[u8], &mut [u8]) -> u64) -> Result<u64, Refusal> {
+        told(|result| entry(self.store(), result), |result| u64_at(result, 0))
+    }
+
+    /// The period that the next turn submits, or `None` if it submits none. Refuses what the turn would refuse.
+    pub fn offered<'f>(&self, frames: &'f [u8]) -> Result<Option<Offer<'f>>, Refusal> {
+        let shown = told(
+            |result| ffi::snd_offered(self.store(), frames, result),
+            |result| slot_if_there(result).map(|slot| (slot, size_at(result, 16), part_at(frames, result, 16))),
+        );
+        match shown? {
+            None => Ok(None),
+            Some((slot, offset, Some(period))) => Ok(Some(Offer { slot, offset, period })),
+            // what is offered is always a part of the frames
+            Some((_, _, None)) => Err(Refusal::Unknown),
+        }
+    }
+
+    /// Whether a transfer runs.
+    pub fn running(&self) -> Result<bool, Refusal> {
+        self.read(ffi::snd_ring_running).map(|runs| runs != 0)
+    }
+
+    /// How many slots are in flight; after a transfer has ended, how many are owed.
+    pub fn in_flight(&self) -> Result<u64, Refusal> {
+        self.read(ffi::snd_ring_in_flight)
+    }
+
+    /// How many of the 32 descriptors are free.
+    pub fn free_descriptors(&self) -> Result<u64, Refusal> {
+        self.read(ffi::snd_ring_free_descriptors)
+    }
+
+    /// How many turns the transfer has run, or the last one ran.
+    pub fn turns_run(&self) -> Result<u64, Refusal> {
+        self.read(ffi::snd_ring_turns_run)
+    }
+
+    /// The stream of the transfer, or of the last one.
+    pub fn stream(&self) -> Result<u64, Refusal> {
+        self.read(ffi::snd_ring_stream)
+    }
+
+    /// What a slot carries, or carried last. A slot of 32 or more is [`Refusal::InvalidParam`].
+    pub fn carried(&self, slot: usize) -> Result<Carried, Refusal> {
+        told(
+            |result| ffi::snd_ring_carried(self.store(), slot, result),
+            |result| Carried {
+                offset: size_at(result, 0),
+                length: size_at(result, 8),
+            },
+        )
+    }
+
+    /// The oldest slot in flight: the one whose completion is due.
+    pub fn oldest(&self) -> Result<Option<usize>, Refusal> {
+        told(|result| ffi::snd_ring_oldest(self.store(), result), slot_if_there)
+    }
+}

@@ -1,0 +1,111 @@
+//! Everything that can be lent to an entry.
+use super::Desk;
+use snd::{MESSAGE_SIZE, PAGE_SIZE, RESULT_SIZE, ffi};
+
+/// The frames of the transfer that runs in [`Lent::good`].
+pub const FRAMES: &[u8] = b"feeder one four, breaker open";
+
+/// A slice for every parameter of every entry, and numbers for the rest.
+#[derive(Clone, PartialEq, Eq, Debug)]
+pub struct Lent {
+    pub state: Vec<u8>,
+    pub ring: Vec<u8>,
+    pub message: Vec<u8>,
+    pub result: Vec<u8>,
+    pub page: Vec<u8>,
+    pub model: Vec<u8>,
+    pub frames: Vec<u8>,
+    pub request: Vec<u8>,
+    pub answer: Vec<u8>,
+    pub event: Vec<u8>,
+    pub jacks: Vec<u8>,
+    pub pcms: Vec<u8>,
+    pub maps: Vec<u8>,
+    pub numbers: [u32; 4],
+    pub narrow: [u8; 3],
+    pub budget: u64,
+}
+
+/// Which slice of [`Lent`].
+#[derive(Clone, Copy, PartialEq, Eq, Debug)]
+pub enum Part {
+    State,
+    Ring,
+    Message,
+    Result,
+    Page,
+    Model,
+    Frames,
+    Answer,
+    Jacks,
+    Pcms,
+    Maps,
+}
+
+impl Lent {
+    /// Set up, with a stream that has parameters and a transfer that runs; the buffers hold marks.
+    pub fn good() -> Self {
+        let desk = Desk::with_transfer(FRAMES, 1000);
+        Self {
+            state: desk.sound.store().to_vec(),
+            ring: desk.ring.store().to_vec(),
+            model: desk.device.store().to_vec(),
+            ..Self::buffers()
+        }
+    }
+
+    /// Set up, with nothing open.
+    pub fn idle() -> Self {
+        let desk = Desk::with_params();
+        Self {
+            ring: desk.ring.store().to_vec(),
+            ..Self::good()
+        }
+    }
+
+    /// The first request of set-up is out.
+    pub fn asking() -> Self {
+        let mut lent = Self::idle();
+        assert_eq!(ffi::snd_new(&mut lent.state, 2, 2, 0), 0);
+        let sent = ffi::snd_pcm_prepare(&mut lent.state, &lent.ring, 0, &mut lent.message, &mut lent.result);
+        assert_eq!(sent, 256 + 16);
+        lent
+    }
+
+    fn buffers() -> Self {
+        Self {
+            state: vec![],
+            ring: vec![],
+            model: vec![],
+            message: vec![0xa1; MESSAGE_SIZE],
+            result: vec![0xa2; RESULT_SIZE],
+            page: vec![0; PAGE_SIZE],
+            frames: FRAMES.to_vec(),
+            request: vec![2, 1, 0, 0, 0, 0, 0, 0],
+            answer: vec![0xa3; 8],
+            event: vec![0, 16, 0, 0, 1, 0, 0, 0],
+            jacks: vec![0; 2 * 24],
+            pcms: vec![0; 2 * 32],
+            maps: vec![0; 24],
+            numbers: [0, 8, 4, 0],
+            narrow: [2, 5, 7],
+            budget: 1000,
+        }
+    }
+
+    pub fn part(&mut self, part: Part) -> &mut Vec<u8> {
+        match part {
+            Part::State => &mut self.state,
+            Part::Ring => &mut self.ring,
+            Part::Message => &mut self.message,
+            Part::Result => &mut self.result,
+            Part::Page => &mut self.page,
+            Part::Model => &mut self.model,
+            Part::Frames => &mut self.frames,
+            Part::Answer => &mut self.answer,
+            Part::Jacks => &mut self.jacks,
+            Part::Pcms => &mut self.pcms,
+            Part::Maps => &mut self.maps,
+        }
+    }
+}

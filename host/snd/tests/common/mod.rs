@@ -1,0 +1,113 @@
+//! What the tests share: a console's desk, everything that can be lent to an entry, and random numbers that repeat.
+#![allow(dead_code)]
+use snd::{Format, JackInfo, Model, Page, Params, PcmInfo, Rate, Refusal, Ring, Sound, Step, Value};
+
+pub mod entries;
+pub mod lent;
+
+/// A driver and a device, joined by a queue that never fails.
+pub struct Desk {
+    pub device: Model,
+    pub sound: Sound,
+    pub ring: Ring,
+    pub page: Page,
+}
+
+pub const PARAMS: Params = Params {
+    buffer: 8,
+    period: 4,
+    features: 0,
+    channels: 2,
+    format: Format::S16,
+    rate: Rate::Hz48000,
+};
+
+impl Desk {
+    /// Two jacks, of which the first can be remapped; an output and an input stream; no channel map.
+    pub fn new() -> Self {
+        let remappable = JackInfo {
+            features: JackInfo::REMAP,
+            ..JackInfo::default()
+        };
+        let jacks = [remappable.to_bytes(), JackInfo::default().to_bytes()];
+        let pcms = [PcmInfo::output(1, 2).to_bytes(), PcmInfo::input(1, 1).to_bytes()];
+        Self {
+            device: Model::new(&jacks, &pcms, &[]).unwrap(),
+            sound: Sound::new(2, 2, 0),
+            ring: Ring::new(),
+            page: Page::new(),
+        }
+    }
+
+    /// A desk whose stream 0 has parameters.
+    pub fn with_params() -> Self {
+        let mut desk = Self::new();
+        let step = desk.sound.pcm_set_params(&desk.ring, 0, PARAMS);
+        desk.finish(step).unwrap();
+        desk
+    }
+
+    /// A desk that runs a transfer.
+    pub fn with_transfer(frames: &[u8], budget: u64) -> Self {
+        let mut desk = Self::with_params();
+        let step = desk.sound.pcm_xfer_start(&mut desk.ring, 0, frames, budget);
+        assert_eq!(step, Ok(Step::Done(())));
+        desk
+    }
+
+    /// Sends what is to be sent and feeds the answers, until the call's result.
+    pub fn finish<T: Value>(&mut self, first: Result<Step<T>, Refusal>) -> Result<T, Refusal> {
+        let mut step = first?;
+        loop {
+            match step {
+                Step::Done(value) => return Ok(value),
+                Step::Send(request) => {
+                    self.device.control(request.bytes(), &mut self.page).unwrap();
+                    step = self.sound.feed(&self.page)?;
+                }
+            }
+        }
+    }
+
+    /// Feeds pages that hold nothing but this status, until the call's result.
+    pub fn finish_with_status<T: Value>(&mut self, first: Result<Step<T>, Refusal>, status: u32) -> Result<T, Refusal> {
+        let mut step = first?;
+        self.page.bytes_mut()[..4].copy_from_slice(&status.to_le_bytes());
+        loop {
+            match step {
+                Step::Done(value) => return Ok(value),
+                Step::Send(_) => step = self.sound.feed(&self.page)?,
+            }
+        }
+    }
+}
+
+/// Numbers that look random and are the same in every run (xorshift).
+pub struct Random(pub u64);
+
+impl Random {
+    pub fn number(&mut self) -> u64 {
+        self.0 ^= self.0 << 13;
+        self.0 ^= self.0 >> 7;
+        self.0 ^= self.0 << 17;
+        self.0
+    }
+
+    pub fn below(&mut self, bound: usize) -> usize {
+        (self.number() % bound as u64) as usize
+    }
+
+    pub fn fill(&mut self, bytes: &mut [u8]) {
+        for byte in bytes {
+            *byte = (self.number() >> 32) as u8;
+        }
+    }
+
+    /// Overwrites a few bytes, as a fault in the host would.
+    pub fn spoil(&mut self, bytes: &mut [u8]) {
+        for _ in 0..self.below(4) {
+            let at = self.below(bytes.len());
+            bytes[at] = (self.number() >> 32) as u8;
+        }
+    }
+}

@@ -1,0 +1,74 @@
+//! Sizes, and answer 10: which lengths every entry tests, and that it then leaves every byte as it was.
+mod common;
+use common::entries::{ENTRIES, entry};
+use common::lent::Lent;
+use snd::ffi;
+
+#[test]
+fn the_types_have_the_sizes_that_the_entries_hand_out() {
+    assert_eq!(ffi::snd_state_size(), snd::STATE_SIZE as u64);
+    assert_eq!(ffi::snd_ring_size(), snd::RING_SIZE as u64);
+    assert_eq!(ffi::snd_message_size(), snd::MESSAGE_SIZE as u64);
+    assert_eq!(ffi::snd_result_size(), snd::RESULT_SIZE as u64);
+    assert_eq!(ffi::snd_page_size(), snd::PAGE_SIZE as u64);
+    assert_eq!(ffi::snd_model_size(), snd::MODEL_SIZE as u64);
+}
+
+#[test]
+fn a_short_slice_is_10_and_leaves_every_byte() {
+    for entry in ENTRIES {
+        for &part in entry.tested {
+            for cut in [1, usize::MAX] {
+                let mut lent = Lent::good();
+                let length = lent.part(part).len();
+                lent.part(part).truncate(length.saturating_sub(cut));
+                // no table at all is a table of no records
+                if cut == usize::MAX && entry.name == "snd_model_new" && part != common::lent::Part::Model {
+                    continue;
+                }
+                let before = lent.clone();
+                assert_eq!((entry.call)(&mut lent), 10, "{} with a short {part:?}", entry.name);
+                assert!(lent == before, "{} with a short {part:?} changed a byte", entry.name);
+            }
+        }
+    }
+}
+
+#[test]
+fn a_page_of_4097_bytes_is_10() {
+    for name in ["snd_feed", "snd_model_control"] {
+        let mut lent = Lent::asking();
+        lent.page.push(0);
+        let before = lent.clone();
+        assert_eq!((entry(name).call)(&mut lent), 10, "{name}");
+        assert!(lent == before, "{name} changed a byte");
+    }
+}
+
+#[test]
+fn frames_longer_than_at_the_start_are_10() {
+    for name in ["snd_offered", "snd_turn"] {
+        let mut lent = Lent::good();
+        lent.frames.push(0);
+        let before = lent.clone();
+        assert_eq!((entry(name).call)(&mut lent), 10, "{name}");
+        assert!(lent == before, "{name} changed a byte");
+    }
+}
+
+#[test]
+fn a_bad_length_shows_before_an_inconsistent_store() {
+    for entry in ENTRIES.iter().filter(|entry| entry.tested.len() > 1) {
+        let mut lent = Lent::good();
+        lent.state.fill(0xff);
+        lent.ring.fill(0xff);
+        lent.model.fill(0xff);
+        let part = entry.tested[entry.tested.len() - 1];
+        if part == common::lent::Part::Frames {
+            // a ring that runs nothing has no start to compare lengths with
+            continue;
+        }
+        lent.part(part).pop();
+        assert_eq!((entry.call)(&mut lent), 10, "{} with a short {part:?}", entry.name);
+    }
+}

@@ -1,0 +1,259 @@
+//! Every refusal of document 01 but 10, each way to it.
+mod common;
+use common::{Desk, PARAMS};
+use snd::{Model, Page, Params, PcmInfo, Reading, Refusal, Ring, STATUS_OK, Sound, Step};
+
+const OK: Reading = Reading::Completed {
+    slot: 0,
+    status: STATUS_OK,
+};
+
+#[test]
+fn invalid_param_1_for_bad_numbers() {
+    let mut desk = Desk::with_params();
+    for (buffer, period) in [(8, 3), (8, 0), (4, 8), (0, 0)] {
+        let to = Params {
+            buffer,
+            period,
+            ..PARAMS
+        };
+        assert_eq!(desk.sound.pcm_set_params(&desk.ring, 0, to), Err(Refusal::InvalidParam));
+    }
+    assert_eq!(
+        desk.sound.pcm_set_params(&desk.ring, 2, PARAMS),
+        Err(Refusal::InvalidParam)
+    );
+    assert_eq!(desk.sound.jack_remap(&desk.ring, 2, 0, 0), Err(Refusal::InvalidParam));
+    assert_eq!(desk.sound.rates_supported(&desk.ring, 2), Err(Refusal::InvalidParam));
+    assert_eq!(desk.sound.formats_supported(&desk.ring, 2), Err(Refusal::InvalidParam));
+    assert_eq!(
+        desk.sound.channel_range_supported(&desk.ring, 2),
+        Err(Refusal::InvalidParam)
+    );
+    assert_eq!(
+        desk.sound.features_supported(&desk.ring, u32::MAX),
+        Err(Refusal::InvalidParam)
+    );
+    assert_eq!(
+        desk.sound.pcm_xfer_start(&mut desk.ring, 2, b"", 1),
+        Err(Refusal::InvalidParam)
+    );
+    assert_eq!(desk.ring.carried(32), Err(Refusal::InvalidParam));
+    assert_eq!(desk.device.played(2), Err(Refusal::InvalidParam));
+    assert_eq!(desk.device.params(2), Err(Refusal::InvalidParam));
+}
+
+#[test]
+fn invalid_param_1_for_format_and_rate_before_anything_is_sent() {
+    let mut lent = common::lent::Lent::idle();
+    assert_eq!(snd::ffi::snd_new(&mut lent.state, 2, 2, 0), 0);
+    let before = lent.clone();
+    for narrow in [[2, 25, 7], [2, 5, 14], [2, 255, 255]] {
+        lent.narrow = narrow;
+        assert_eq!((common::entries::entry("snd_pcm_set_params").call)(&mut lent), 1);
+        assert!(lent.state == before.state && lent.message == before.message);
+    }
+}
+
+#[test]
+fn invalid_param_1_where_nothing_is_open() {
+    let mut desk = Desk::with_params();
+    assert_eq!(desk.sound.feed::<()>(&desk.page), Err(Refusal::InvalidParam));
+    assert_eq!(desk.sound.feed_failure::<()>(), Err(Refusal::InvalidParam));
+    assert_eq!(desk.ring.turn(b"", Reading::Quiet), Err(Refusal::InvalidParam));
+    assert_eq!(desk.ring.offered(b""), Err(Refusal::InvalidParam));
+    let mut desk = Desk::with_transfer(b"frames", 9);
+    assert_eq!(desk.ring.drain_turn(Reading::Quiet), Err(Refusal::InvalidParam));
+}
+
+#[test]
+fn invalid_param_1_for_garbage() {
+    let (mut sound, mut ring) = (Sound::over([0xff; snd::STATE_SIZE]), Ring::over([0xff; snd::RING_SIZE]));
+    let good = Ring::new();
+    assert_eq!(sound.pcm_prepare(&good, 0), Err(Refusal::InvalidParam));
+    assert_eq!(sound.feed::<()>(&Page::new()), Err(Refusal::InvalidParam));
+    assert_eq!(sound.store(), &[0xff; snd::STATE_SIZE]);
+    assert_eq!(Sound::new(0, 0, 0).pcm_prepare(&ring, 0), Err(Refusal::InvalidParam));
+    // lengths come first: these bytes say that a transfer of other frames runs
+    assert_eq!(ring.turn(b"", OK), Err(Refusal::BadLength));
+    assert_eq!(ring.drain_turn(OK), Err(Refusal::InvalidParam));
+    assert_eq!(ring.in_flight(), Err(Refusal::InvalidParam));
+    assert_eq!(ring.store(), &[0xff; snd::RING_SIZE]);
+    let mut device = Model::over([0xff; snd::MODEL_SIZE]);
+    assert_eq!(device.control(b"", &mut Page::new()), Err(Refusal::InvalidParam));
+    assert_eq!(device.transfer(b""), Err(Refusal::InvalidParam));
+}
+
+#[test]
+fn io_error_2() {
+    let mut desk = Desk::with_params();
+    assert_eq!(
+        desk.sound.pcm_xfer_start(&mut desk.ring, 1, b"", 1),
+        Err(Refusal::IoError)
+    );
+    let step = desk.sound.pcm_prepare(&desk.ring, 0);
+    assert_eq!(desk.finish_with_status(step, 0x8003), Err(Refusal::IoError));
+    let step = desk.sound.pcm_set_params(&desk.ring, 0, PARAMS);
+    assert_eq!(desk.finish_with_status(step, 0x8002), Err(Refusal::IoError));
+    assert_eq!(
+        snd::latest_notification(&[2, 16, 0, 0, 0, 0, 0, 0]),
+        Err(Refusal::IoError)
+    );
+    // the query of streams fails: set-up is cut short, and begins again
+    let mut desk = Desk::new();
+    let step = desk.sound.pcm_prepare(&desk.ring, 0);
+    assert_eq!(desk.finish_with_status(step, 0x8001), Err(Refusal::IoError));
+    let step = desk.sound.pcm_prepare(&desk.ring, 0);
+    assert_eq!(desk.finish(step), Ok(()));
+}
+
+#[test]
+fn io_error_2_ends_a_transfer_and_frees_the_slot() {
+    let mut desk = Desk::with_transfer(b"frames", 9);
+    let slot = desk.ring.offered(b"frames").unwrap().unwrap().slot as u32;
+    let failed = Reading::Completed { slot, status: 0x8003 };
+    assert_eq!(desk.ring.turn(b"frames", failed), Err(Refusal::IoError));
+    assert_eq!((desk.ring.running(), desk.ring.in_flight()), (Ok(false), Ok(0)));
+}
+
+#[test]
+fn unsupported_3() {
+    let mut desk = Desk::with_params();
+    assert_eq!(desk.sound.jack_remap(&desk.ring, 1, 0, 0), Err(Refusal::Unsupported));
+    let step = desk.sound.jack_remap(&desk.ring, 0, 0, 0);
+    assert_eq!(desk.finish_with_status(step, 0x8001), Err(Refusal::Unsupported));
+}
+
+#[test]
+fn no_info_4() {
+    let mut desk = Desk::new();
+    let Ok(Step::Send(_jacks)) = desk.sound.jack_remap(&desk.ring, 0, 0, 0) else {
+        panic!("set-up begins")
+    };
+    let step = desk.sound.feed_failure::<()>();
+    assert_eq!(desk.finish(step), Err(Refusal::NoInfo));
+}
+
+#[test]
+fn too_many_5() {
+    let mut sound = Sound::new(0, 128, 0);
+    let (ring, mut page) = (Ring::new(), Page::new());
+    page.bytes_mut()[1] = 0x80;
+    sound.pcm_prepare(&ring, 0).unwrap();
+    let Ok(Step::Send(_streams)) = sound.feed::<()>(&page) else {
+        panic!("no jacks are fine")
+    };
+    assert_eq!(sound.feed::<()>(&page), Err(Refusal::TooMany));
+    // a refused query of as many jacks is an empty table
+    let mut sound = Sound::new(171, 0, 0);
+    sound.pcm_prepare(&ring, 0).unwrap();
+    assert!(matches!(sound.feed::<()>(&Page::new()), Ok(Step::Send(_))));
+}
+
+#[test]
+fn wrong_token_6() {
+    let mut desk = Desk::with_transfer(b"frames", 9);
+    let slot = desk.ring.offered(b"frames").unwrap().unwrap().slot as u32;
+    let wrong = Reading::Completed {
+        slot: slot + 1,
+        status: STATUS_OK,
+    };
+    assert_eq!(desk.ring.turn(b"frames", wrong), Err(Refusal::WrongToken));
+    assert_eq!(desk.ring.in_flight(), Ok(1));
+    assert_eq!(desk.ring.drain_turn(wrong), Err(Refusal::WrongToken));
+    assert_eq!(desk.ring.drain_turn(Reading::Quiet), Ok(()));
+    assert_eq!(desk.ring.drain_turn(Reading::Completed { slot, status: 0 }), Ok(()));
+    assert_eq!(
+        desk.ring.drain_turn(Reading::Completed { slot, status: 0 }),
+        Err(Refusal::WrongToken)
+    );
+    assert_eq!(desk.ring.in_flight(), Ok(0));
+}
+
+#[test]
+fn queue_failed_7() {
+    let mut desk = Desk::with_params();
+    assert!(matches!(desk.sound.pcm_prepare(&desk.ring, 0), Ok(Step::Send(_))));
+    assert_eq!(desk.sound.feed_failure::<()>(), Err(Refusal::QueueFailed));
+}
+
+#[test]
+fn busy_8_while_an_exchange_is_open() {
+    let mut desk = Desk::new();
+    assert!(matches!(desk.sound.pcm_prepare(&desk.ring, 0), Ok(Step::Send(_))));
+    assert_eq!(desk.sound.pcm_stop(&desk.ring, 0), Err(Refusal::Busy));
+    assert_eq!(desk.sound.output_streams(&desk.ring), Err(Refusal::Busy));
+    assert_eq!(desk.sound.pcm_xfer_start(&mut desk.ring, 0, b"", 1), Err(Refusal::Busy));
+    assert_eq!(desk.sound.jacks(), Ok(2));
+}
+
+#[test]
+fn busy_8_while_a_transfer_runs_or_a_slot_is_owed() {
+    let mut desk = Desk::with_transfer(b"frames", 1);
+    assert_eq!(desk.sound.pcm_stop(&desk.ring, 0), Err(Refusal::Busy));
+    let slot = desk.ring.offered(b"frames").unwrap().unwrap().slot as u32;
+    assert_eq!(desk.ring.turn(b"frames", Reading::Quiet), Err(Refusal::OutOfTurns));
+    assert_eq!(desk.sound.pcm_stop(&desk.ring, 0), Err(Refusal::Busy));
+    assert_eq!(desk.sound.pcm_xfer_start(&mut desk.ring, 0, b"", 1), Err(Refusal::Busy));
+    assert_eq!(
+        desk.ring.drain_turn(Reading::Completed {
+            slot,
+            status: STATUS_OK
+        }),
+        Ok(())
+    );
+    assert!(matches!(desk.sound.pcm_stop(&desk.ring, 0), Ok(Step::Send(_))));
+}
+
+#[test]
+fn out_of_turns_9() {
+    let mut desk = Desk::with_params();
+    assert_eq!(
+        desk.sound.pcm_xfer_start(&mut desk.ring, 0, b"frames", 0),
+        Err(Refusal::OutOfTurns)
+    );
+    assert_eq!((desk.ring.running(), desk.ring.in_flight()), (Ok(false), Ok(0)));
+    // eleven periods, all quiet, twelve turns: ten are in flight
+    let frames = [7; 44];
+    let mut desk = Desk::with_transfer(&frames, 12);
+    for _ in 0..11 {
+        assert_eq!(desk.ring.turn(&frames, Reading::Quiet), Ok(snd::Turn::Going));
+    }
+    assert_eq!(desk.ring.turn(&frames, Reading::Quiet), Err(Refusal::OutOfTurns));
+    assert_eq!((desk.ring.in_flight(), desk.ring.turns_run()), (Ok(10), Ok(12)));
+}
+
+#[test]
+fn a_model_with_too_many_records_is_refused() {
+    assert!(Model::new(&[[0; 24]; 171], &[], &[]).is_err());
+    assert!(Model::new(&[], &[PcmInfo::output(1, 1).to_bytes(); 128], &[]).is_err());
+    assert!(Model::new(&[], &[], &[[0; 24]; 171]).is_err());
+    assert!(Model::new(&[[0; 24]; 170], &[[0; 32]; 127], &[[0; 24]; 170]).is_ok());
+}
+
+#[test]
+fn answers_have_document_01s_numbers() {
+    let names = [
+        "InvalidParam",
+        "IoError",
+        "Unsupported",
+        "NoInfo",
+        "TooMany",
+        "WrongToken",
+        "QueueFailed",
+        "Busy",
+        "OutOfTurns",
+        "BadLength",
+    ];
+    for (number, name) in (1..).zip(names) {
+        let refusal = Refusal::from_number(number);
+        assert_eq!((refusal.number(), refusal.name()), (number, name));
+        let answer = snd::Answer::from(refusal);
+        assert_eq!(
+            (answer.number(), answer.name(), answer.to_string()),
+            (number, name, format!("{number} {name}"))
+        );
+    }
+    assert_eq!((snd::Answer::Ok.number(), snd::Answer::Ok.name()), (0, "Ok"));
+    assert_eq!(Refusal::from_number(11), Refusal::Unknown);
+}

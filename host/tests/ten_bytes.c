@@ -1,0 +1,114 @@
+/*
+ * A host in C: sets the driver up against the model device and plays an announcement of ten bytes in periods of four. Prints what
+ * the device was sent and what it accepted; the test beside host/snd compares that with the text it expects.
+ */
+#include <stdio.h>
+#include <stdlib.h>
+#include <string.h>
+
+#include "snd.h"
+
+static uint8_t state[SND_STATE_SIZE];
+static uint8_t ring[SND_RING_SIZE];
+static uint8_t model[SND_MODEL_SIZE];
+static uint8_t page[SND_PAGE_SIZE];
+static uint8_t message[SND_MESSAGE_SIZE];
+static uint8_t result[SND_RESULT_SIZE];
+
+static const uint8_t frames[10] = "ten bytes.";
+enum { STREAM = 0, BUDGET = 4 };
+
+/* The number of 8 bytes at a place of the result. */
+static uint64_t number_at(size_t at)
+{
+	uint64_t number = 0;
+	size_t i;
+
+	for (i = 8; i > 0; i--)
+		number = number << 8 | result[at + i - 1];
+	return number;
+}
+
+static void want(const char *what, uint64_t answer, uint64_t wanted)
+{
+	if (answer == wanted)
+		return;
+	printf("%s: answered %llu, not %llu\n", what, (unsigned long long)answer, (unsigned long long)wanted);
+	exit(1);
+}
+
+/* Sends what a call yielded, and feeds the answers until its result. */
+static void finish(const char *call, uint64_t answer)
+{
+	printf("%s:", call);
+	while (answer >= SND_SEND && answer < SND_GOING) {
+		size_t length = (size_t)(answer - SND_SEND);
+
+		printf(" %02x%02x/%zu", message[1], message[0], length);
+		want("model", snd_model_control(model, sizeof model, message, length, page, sizeof page, result, sizeof result), SND_OK);
+		answer = snd_feed(state, sizeof state, page, sizeof page, message, sizeof message, result, sizeof result);
+	}
+	printf(" -> %llu\n", (unsigned long long)answer);
+}
+
+/* Hands the device the offered period; it completes it at once. Returns its status. */
+static uint32_t submit(const uint8_t *period, size_t length)
+{
+	uint8_t request[4 + sizeof frames] = { STREAM };
+	uint8_t answer[8];
+
+	memcpy(request + 4, period, length);
+	want("transfer", snd_model_transfer(model, sizeof model, request, 4 + length, answer, sizeof answer), SND_OK);
+	want("payload", snd_model_payload(model, sizeof model, request, 4 + length, result, sizeof result), SND_OK);
+	printf("accepted: %.*s\n", (int)number_at(8), (const char *)request + number_at(0));
+	return answer[0] | (uint32_t)answer[1] << 8 | (uint32_t)answer[2] << 16 | (uint32_t)answer[3] << 24;
+}
+
+/* One turn: submit what is offered, then tell what was completed. */
+static uint64_t turn(void)
+{
+	uint32_t kind = 0, slot = 0, status = 0;
+
+	want("offered", snd_offered(ring, sizeof ring, frames, sizeof frames, result, sizeof result), SND_OK);
+	if (number_at(0)) {
+		kind = 1;
+		slot = (uint32_t)number_at(8);
+		status = submit(frames + number_at(16), (size_t)number_at(24));
+	}
+	return snd_turn(ring, sizeof ring, frames, sizeof frames, kind, slot, status);
+}
+
+static void set_up(void)
+{
+	/* one output stream of one or two channels */
+	static const uint8_t pcm[32] = { [25] = 1, [26] = 2 };
+
+	want("model", snd_model_new(model, sizeof model, pcm, 0, pcm, sizeof pcm, pcm, 0), SND_OK);
+	want("new", snd_new(state, sizeof state, 0, 1, 0), SND_OK);
+	want("ring", snd_ring_new(ring, sizeof ring), SND_OK);
+	finish("set parameters", snd_pcm_set_params(state, sizeof state, ring, sizeof ring, STREAM, 8, 4, 0, 2, 5, 7, message,
+						    sizeof message, result, sizeof result));
+	finish("start", snd_pcm_start(state, sizeof state, ring, sizeof ring, STREAM, message, sizeof message, result, sizeof result));
+}
+
+int main(void)
+{
+	uint64_t answer;
+
+	want("size", snd_state_size(), SND_STATE_SIZE);
+	want("size", snd_ring_size(), SND_RING_SIZE);
+	want("size", snd_message_size(), SND_MESSAGE_SIZE);
+	want("size", snd_result_size(), SND_RESULT_SIZE);
+	want("size", snd_page_size(), SND_PAGE_SIZE);
+	want("size", snd_model_size(), SND_MODEL_SIZE);
+	set_up();
+	answer = snd_pcm_xfer_start(state, sizeof state, ring, sizeof ring, STREAM, frames, sizeof frames, BUDGET, message, sizeof message);
+	want("transfer", answer, SND_GOING);
+	while ((answer = turn()) == SND_GOING)
+		;
+	want("turn", answer, SND_OK);
+	want("turns", snd_ring_turns_run(ring, sizeof ring, result, sizeof result), SND_OK);
+	printf("turns: %llu of %d\n", (unsigned long long)number_at(0), BUDGET);
+	finish("stop", snd_pcm_stop(state, sizeof state, ring, sizeof ring, STREAM, message, sizeof message, result, sizeof result));
+	return 0;
+}
