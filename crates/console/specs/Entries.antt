@@ -47,16 +47,16 @@ replyNumber (Send n) = 256 + n
 replyNumber (Says x) = saysSaid x .number
 
 -- the ring changes only where a transfer begins
-abbrev pub ringAfter : XferReply → List ℕ → List ℕ → List ℕ
-ringAfter (Send n) old new = old
-ringAfter (Says x) old new = unlessRefused x old new
+abbrev pub ringThen : XferReply → List ℕ → List ℕ → List ℕ
+ringThen (Send n) old new = old
+ringThen (Says x) old new = unlessRefused x old new
 
 abbrev pub begun : List ℕ → List ℕ → ℕ → List ℕ → XferStep → Begun
 begun s ring stream m x =
     record {
       answer = replyNumber (x .reply);
       state = stateAfter s (x .sound);
-      ring = ringAfter (x .reply) ring (sets ring 0 (ringBytes (x .ring)));
+      ring = ringThen (x .reply) ring (sets ring 0 (ringBytes (x .ring)));
       message = xferMessage (x .reply) (soundOf s) stream m;
     }
 

@@ -17,7 +17,7 @@ use exchange::Params;
 pub(crate) const BAD_LENGTH: u64 = 10;
 
 fn call(state: &mut [u8], ring: &[u8], asked: Call, message: &mut [u8], result: &mut [u8]) -> u64
-    ensures { λ r. ⌜ left r (now (state .exit)) (now (message .exit)) (now (result .exit)) ≡ callEntry (now (state .entry)) (now (ring .entry)) (asked) (now (message .entry)) (now (result .entry)) ⌝ }
+    ensures { λ r. ⌜ left r (now (state .exit)) (now (message .exit)) (now (result .exit)) ≡ callEntry (now (state .entry)) (now (ring .entry)) asked (now (message .entry)) (now (result .entry)) ⌝ }
 {
     if ring.len() < ring_store::SIZE {
         return BAD_LENGTH;

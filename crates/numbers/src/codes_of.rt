@@ -48,12 +48,12 @@ fn record_codes() {
     show::number(b"R_CHMAP_INFO", ChannelMap::CODE as u64);
 }
 
-pub fn requests() {
+pub(crate) fn requests() {
     request_codes();
     record_codes();
 }
 
-pub fn answers() {
+pub(crate) fn answers() {
     show::number(
         b"EVT_JACK_CONNECTED",
         NotificationType::JackConnected.code() as u64,
@@ -120,7 +120,7 @@ fn formats_to_24() {
     format(b"PCM_FMT_IEC958_SUBFRAME", PcmFormat::Iec958Subframe);
 }
 
-pub fn formats() {
+pub(crate) fn formats() {
     formats_to_8();
     formats_to_17();
     formats_to_24();
@@ -134,7 +134,7 @@ fn rate(name: &[u8], r: PcmRate) {
     show::plain(b"Hz", r.hz() as u64);
 }
 
-pub fn rates() {
+pub(crate) fn rates() {
     rate(b"PCM_RATE_5512", PcmRate::Rate5512);
     rate(b"PCM_RATE_8000", PcmRate::Rate8000);
     rate(b"PCM_RATE_11025", PcmRate::Rate11025);
@@ -156,7 +156,7 @@ fn feature(name: &[u8], f: PcmFeature) {
     show::mask(name, mask.bits as u64);
 }
 
-pub fn flags() {
+pub(crate) fn flags() {
     show::mask(b"JACK_F_REMAP", JackFeatures::REMAP as u64);
     feature(b"PCM_F_SHMEM_HOST", PcmFeature::ShmemHost);
     feature(b"PCM_F_SHMEM_GUEST", PcmFeature::ShmemGuest);
@@ -215,7 +215,7 @@ fn positions_to_36() {
     show::number(b"CHMAP_BRC", position::BRC as u64);
 }
 
-pub fn positions() {
+pub(crate) fn positions() {
     positions_to_9();
     positions_to_18();
     positions_to_27();

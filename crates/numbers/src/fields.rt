@@ -129,7 +129,7 @@ fn parameters_fields() {
     parameters(b"pcm_set_params.padding", SetParameters { zero: 0xFF, ..z });
 }
 
-pub fn control() {
+pub(crate) fn control() {
     query_fields();
     remap_fields();
     command_fields();
@@ -260,7 +260,7 @@ fn map_fields() {
     );
 }
 
-pub fn info() {
+pub(crate) fn info() {
     jack_fields();
     pcm_fields();
     map_fields();
@@ -310,7 +310,7 @@ fn event_fields() {
     event(b"event.data", Event { data: ALL, ..z });
 }
 
-pub fn transfer() {
+pub(crate) fn transfer() {
     header_fields();
     status_fields();
     event_fields();

@@ -4,7 +4,7 @@ ghost use lib.ListN.{length};
 use libc::STDOUT_FILENO;
 
 // `NAME VALUE`
-pub fn plain(name: &[u8], value: u64) {
+pub(crate) fn plain(name: &[u8], value: u64) {
     io::write_all(STDOUT_FILENO, name);
     io::write_all(STDOUT_FILENO, b" ");
     io::print_decimal(STDOUT_FILENO, value);
@@ -12,25 +12,25 @@ pub fn plain(name: &[u8], value: u64) {
 }
 
 // A constant of the header. Its prefix is written here, so that the many names stay short.
-pub fn number(name: &[u8], value: u64) {
+pub(crate) fn number(name: &[u8], value: u64) {
     io::write_all(STDOUT_FILENO, b"VIRTIO_SND_");
     plain(name, value);
 }
 
 // A bit of a mask.
-pub fn mask(name: &[u8], value: u64) {
+pub(crate) fn mask(name: &[u8], value: u64) {
     io::write_all(STDOUT_FILENO, b"1 << ");
     number(name, value);
 }
 
 // The size of a record.
-pub fn size(name: &[u8], value: u64) {
+pub(crate) fn size(name: &[u8], value: u64) {
     io::write_all(STDOUT_FILENO, b"virtio_snd_");
     plain(name, value);
 }
 
 // `NAME OFFSET WIDTH`, of a record that was written with this one field all ones.
-pub fn field(name: &[u8], record: &[u8]) {
+pub(crate) fn field(name: &[u8], record: &[u8]) {
     io::write_all(STDOUT_FILENO, b"virtio_snd_");
     io::write_all(STDOUT_FILENO, name);
     io::write_all(STDOUT_FILENO, b" ");

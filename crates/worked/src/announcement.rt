@@ -31,7 +31,7 @@ fn played(h: Host) {
     }
 }
 
-pub fn prompt() {
+pub(crate) fn prompt() {
     show::text(b"\nAN ANNOUNCEMENT: 50 bytes\n");
     let h = opened(numbers::ready());
     show::text(b"transfer, budget 100\n");
@@ -41,7 +41,7 @@ pub fn prompt() {
 }
 
 // Here the ring is advanced in its own storage.
-pub fn slow() {
+pub(crate) fn slow() {
     show::text(
         b"\nA SLOW DEVICE: completes every third turn, 4 periods, Ok no later than turn 4 * 3 + 1\n",
     );

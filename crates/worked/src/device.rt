@@ -39,7 +39,7 @@ fn stream(direction: u8, max: u8) -> PcmInfo {
 }
 
 // Two jacks, of which the second has REMAP; an output and an input stream; one channel map.
-pub fn small() -> Device {
+pub(crate) fn small() -> Device {
     let mut jacks = no_jacks();
     jacks[0] = jack(0);
     jacks[1] = jack(JackFeatures::REMAP);
@@ -55,7 +55,7 @@ pub fn small() -> Device {
 }
 
 // So many streams, and nothing else.
-pub fn streams(count: u32) -> Device {
+pub(crate) fn streams(count: u32) -> Device {
     let counts = Counts {
         jacks: 0,
         streams: count,

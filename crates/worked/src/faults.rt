@@ -11,7 +11,7 @@ fn drained(h: Host) -> Host {
     transfer::drains(h, b"32.d3")
 }
 
-pub fn failing() {
+pub(crate) fn failing() {
     show::text(b"\nA FAILING DEVICE: the status of the second period is 0x8003\n");
     let h = transfer::run(numbers::ready_with(64, 16), &[7; 50], 100, b"..0b");
     transfer::account(h);
@@ -19,7 +19,7 @@ pub fn failing() {
     host::finish(b"stop, when none is owed\n", calls::stop(drained(h), 0));
 }
 
-pub fn wrong_slot() {
+pub(crate) fn wrong_slot() {
     show::text(b"\nA DEVICE THAT NAMES A WRONG SLOT\n");
     let h = transfer::run(numbers::ready_with(64, 16), &[7; 50], 100, b".1");
     transfer::account(h);
@@ -27,7 +27,7 @@ pub fn wrong_slot() {
     transfer::drains(h, b"01");
 }
 
-pub fn small_budget() {
+pub(crate) fn small_budget() {
     show::text(b"\nA BUDGET TOO SMALL\n");
     let h = numbers::ready_with(64, 16);
     show::text(b"budget 0\n");
@@ -36,7 +36,7 @@ pub fn small_budget() {
     transfer::account(transfer::run(h, &[7; 50], 4, b"0123"));
 }
 
-pub fn remap() {
+pub(crate) fn remap() {
     show::text(b"\nREMAP: jack 0 without REMAP, jack 1 with it\n");
     let h = numbers::ready();
     host::said(

@@ -32,7 +32,7 @@ pub struct Host {
     pub lent: bool,
 }
 
-pub fn new(sound: Sound, device: Device) -> Host {
+pub(crate) fn new(sound: Sound, device: Device) -> Host {
     Host {
         sound,
         device,
@@ -54,7 +54,7 @@ pub fn new(sound: Sound, device: Device) -> Host {
 }
 
 // What a call or a feed led to.
-pub fn told(h: Host, step: Step, message: [u8; 24]) -> Host {
+pub(crate) fn told(h: Host, step: Step, message: [u8; 24]) -> Host {
     let sound = step.sound;
     let reply = step.reply;
     let streams = step.streams;
@@ -68,7 +68,7 @@ pub fn told(h: Host, step: Step, message: [u8; 24]) -> Host {
 }
 
 // The first bytes of a slice.
-pub fn part<'a>(s: &'a [u8], n: usize) -> &'a [u8] {
+pub(crate) fn part<'a>(s: &'a [u8], n: usize) -> &'a [u8] {
     if s.len() < n {
         return s;
     }
@@ -87,7 +87,7 @@ fn length_of(said: Control) -> usize {
 }
 
 // The request goes to the device, and its answer to the driver.
-pub fn carry(h: Host) -> Host {
+pub(crate) fn carry(h: Host) -> Host {
     let reply = h.reply;
     let Reply::Send(n) = reply else {
         return h;
@@ -111,7 +111,7 @@ pub fn carry(h: Host) -> Host {
 }
 
 // Every request of a call, with no word said: at most three of set-up and its own.
-pub fn settle(h: Host) -> Host {
+pub(crate) fn settle(h: Host) -> Host {
     carry(carry(carry(carry(h))))
 }
 
@@ -137,7 +137,7 @@ fn reply(h: Host) {
 }
 
 // What the device answered last, and what the driver said to that.
-pub fn answered(h: Host) {
+pub(crate) fn answered(h: Host) {
     show::text(b"  device answers ");
     show::decimal(h.answer as u64);
     show::text(b" bytes, ");
@@ -147,7 +147,7 @@ pub fn answered(h: Host) {
 }
 
 // What a call or a feed says, under its title.
-pub fn said(title: &[u8], h: Host) {
+pub(crate) fn said(title: &[u8], h: Host) {
     show::text(title);
     reply(h);
 }
@@ -164,7 +164,7 @@ fn exchanged(h: Host) -> Host {
 }
 
 // A call under its title: what it says first, and then each answer and what the driver says to it.
-pub fn finish(title: &[u8], h: Host) -> Host {
+pub(crate) fn finish(title: &[u8], h: Host) -> Host {
     said(title, h);
     exchanged(exchanged(exchanged(exchanged(h))))
 }

@@ -12,13 +12,13 @@ use records::Notice;
 use records::TransferStatus;
 
 // A driver that is set up against the small device.
-pub fn ready() -> Host {
+pub(crate) fn ready() -> Host {
     let h = host::new(Sound::new(2, 2, 1), device::small());
     host::settle(calls::output_streams(h))
 }
 
 // The same, with parameters set for stream 0.
-pub fn ready_with(buffer: u32, period: u32) -> Host {
+pub(crate) fn ready_with(buffer: u32, period: u32) -> Host {
     host::settle(calls::set_params(ready(), 0, buffer, period))
 }
 
@@ -105,7 +105,7 @@ fn events() {
     notice(records::latest_notification(&[0; 7]));
 }
 
-pub fn all() {
+pub(crate) fn all() {
     show::text(b"WORKED NUMBERS OF DOCUMENT 01\n");
     requests();
     pages();

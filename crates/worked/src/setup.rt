@@ -16,7 +16,7 @@ fn told_of_0(h: Host) {
     host::said(b"features of stream 0\n", calls::features(h, 0));
 }
 
-pub fn done() {
+pub(crate) fn done() {
     show::text(b"\nSET-UP: 2 jacks, 2 streams (0 output, 1 input), 1 channel map\n");
     let new = host::new(Sound::new(2, 2, 1), device::small());
     let h = host::finish(b"output streams\n", calls::output_streams(new));
@@ -53,7 +53,7 @@ fn jacks_failed(h: Host) {
     );
 }
 
-pub fn wrong() {
+pub(crate) fn wrong() {
     show::text(b"\nSET-UP THAT GOES WRONG\n");
     let new = host::new(Sound::new(2, 2, 1), device::small());
     let asked = calls::output_streams(new);

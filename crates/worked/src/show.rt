@@ -5,23 +5,23 @@ use exchange::StreamList;
 use exchange::Value;
 use libc::STDOUT_FILENO;
 
-pub fn text(s: &[u8]) {
+pub(crate) fn text(s: &[u8]) {
     io::write_all(STDOUT_FILENO, s);
 }
 
-pub fn decimal(n: u64) {
+pub(crate) fn decimal(n: u64) {
     io::print_decimal(STDOUT_FILENO, n);
 }
 
 // In two columns.
-pub fn wide(n: u64) {
+pub(crate) fn wide(n: u64) {
     if n < 10 {
         text(b" ");
     }
     decimal(n);
 }
 
-pub fn hex(n: u64) {
+pub(crate) fn hex(n: u64) {
     text(b"0x");
     io::print_hex(STDOUT_FILENO, n, 1);
 }
@@ -32,7 +32,7 @@ fn byte(b: u8) {
     io::print_hex(STDOUT_FILENO, b as u64, 2);
 }
 
-pub fn bytes(s: &[u8]) {
+pub(crate) fn bytes(s: &[u8]) {
     let mut i: usize = 0;
     while i < s.len() {
         byte(s[i]);
@@ -57,13 +57,13 @@ fn name(a: Answer) {
 }
 
 // An answer's number, and document 01's name for it.
-pub fn answer(a: Answer) {
+pub(crate) fn answer(a: Answer) {
     decimal(a.number() as u64);
     text(b" ");
     name(a);
 }
 
-pub fn refusal(r: Refusal) {
+pub(crate) fn refusal(r: Refusal) {
     answer(r.answer());
 }
 
@@ -86,7 +86,7 @@ fn ids(list: StreamList) {
 }
 
 // What a call results in.
-pub fn value(v: Value, list: StreamList) {
+pub(crate) fn value(v: Value, list: StreamList) {
     answer(Answer::Ok);
     match v {
         Value::Nothing => text(b""),

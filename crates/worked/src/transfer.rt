@@ -53,7 +53,7 @@ fn start(h: Host, frames: &[u8], budget: u64) -> Host {
 }
 
 // A whole transfer to stream 0 in one call, every reading quiet.
-pub fn run_quiet(h: Host, frames: &[u8], budget: u64) -> Host {
+pub(crate) fn run_quiet(h: Host, frames: &[u8], budget: u64) -> Host {
     let mut message = [0u8; 24];
     let x = exchange::pcm_xfer(h.sound, h.ring, 0, frames, budget, &[], &mut message);
     started(h, x)
@@ -263,7 +263,7 @@ fn play(h: Host, frames: &[u8], marks: &[u8]) -> Host {
 }
 
 // A transfer to stream 0, turn by turn: what the queue shows in each is a mark.
-pub fn run(h: Host, frames: &[u8], budget: u64, marks: &[u8]) -> Host {
+pub(crate) fn run(h: Host, frames: &[u8], budget: u64, marks: &[u8]) -> Host {
     play(start(h, frames, budget), frames, marks)
 }
 
@@ -277,7 +277,7 @@ fn number(n: RingNumber) {
 }
 
 // What the transfer said last, and after how many turns.
-pub fn ended(h: Host) {
+pub(crate) fn ended(h: Host) {
     let said = h.said;
     let ring = h.ring;
     show::text(b"  says ");
@@ -301,7 +301,7 @@ fn oldest(o: Oldest) {
 }
 
 // What was completed with 0x8000, and what is in flight.
-pub fn account(h: Host) {
+pub(crate) fn account(h: Host) {
     let ring = h.ring;
     show::text(b"  accepted ");
     show::decimal(h.accepted);
@@ -329,7 +329,7 @@ fn drain(h: Host, mark: u8) -> Host {
 }
 
 // A drain turn for each mark.
-pub fn drains(h: Host, marks: &[u8]) -> Host {
+pub(crate) fn drains(h: Host, marks: &[u8]) -> Host {
     let mut now = h;
     let mut i: usize = 0;
     while i < marks.len() {

@@ -1,5 +1,7 @@
 -- `console::calls::call` meets its contract: the ring's length, then the state's call with the ring's track. Assumes nothing.
 use mathlib.Core.Path.{refl, ap, _∙_}
+use native.Mathlib.Omega.{arith}
+use lib.ListN.{length}
 use borrow.Author.Needs.{needs}
 use borrow.Author.Tests.{le-leb, lt-leb}
 use Rattle.codes.specs.SaysLaws.{passes, stops}
@@ -9,7 +11,7 @@ use Rattle.console.proofs.calls.call.Statement.{statement}
 use Rattle.console.proofs.calls.call.Tie as tie
 
 returns : tie.Need-returns
-returns c = stops _ _ _ (lt-leb _ _ (c .if1 .taken)) refl
+returns c = stops _ _ _ (lt-leb 592 (length (c .before .before .before .before .before .args .ring .now)) (omega (arith, c .if1 .taken))) refl
 
 returns-2 : tie.Need-returns-2
 returns-2 c =
