@@ -1,2 +1,2 @@
 # Every must-fail edit was refused at a fact.
-bash "$(dirname "$0")/../tools/must-fail-reasons" -q
+"$(dirname "$0")/../tools/must-fail-reasons" -q
