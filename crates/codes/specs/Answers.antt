@@ -1,7 +1,6 @@
 -- "What a call says": document 01's names and numbers. Later requests add answers and values; no promise depends on the list being closed.
 -- Assumes nothing.
 use mathlib.Core.List.{[]}
-use Prim.Native.Nat.{ℕ}
 use Rattle.codes.specs.Says.{Says, says}
 use Rattle.codes.specs.declared.answers.Answer.{Answer}
 use Rattle.codes.specs.declared.answers.Answer.the-variants as answer

@@ -1,8 +1,8 @@
 -- Masks: powers of 2, and the mask bit of a number.
 -- Assumes nothing.
-use mathlib.Core.Path.{_≡_, refl, sym, ap, _∙_}
+use mathlib.Core.Path.{_≡_, sym, ap, _∙_}
 use mathlib.Core.List.{List, [], _∷_}
-use Prim.Native.Nat.{ℕ, suc, _<_, _^_}
+use Prim.Native.Nat.{ℕ, _<_, _^_}
 use native.Mathlib.Nat.{one-le-pow}
 use lib.Dec.{lit<, ltb}
 use lib.ListN.{getD}

@@ -1,3 +1,4 @@
+-- definitions
 pub mod Says
 pub mod Codes
 pub mod Formats
@@ -7,8 +8,10 @@ pub mod Events
 pub mod Requests
 pub mod Statuses
 pub mod Answers
+-- laws
 pub mod SaysLaws
 pub mod CodesLaws
 pub mod FlagsLaws
 pub mod TableLaws
 pub mod RatesLaws
+pub mod AnswersLaws

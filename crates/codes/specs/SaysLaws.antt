@@ -43,6 +43,12 @@ pub stops : {A : Type 0} {x : A} (t : Bool) (a b : A) → t ≡ false → x ≡ 
 unfolding guard
 stops t a b e p = p ∙ sym (skips t a b e)
 
+-- what is made of a guard's outcome is made at each of its ends
+pub guard-ap : {A B : Type 0} (f : A → B) (t : Bool) (a b : A) → f (guard t a b) ≡ guard t (f a) (f b)
+unfolding guard
+guard-ap f true a b = refl
+guard-ap f false a b = refl
+
 -- what holds of both ends of a guard holds of it
 pub guarded-by : {A : Type 0} (P : A → Type 0) (t : Bool) (a b : A) → (t ≡ true → P a) → (t ≡ false → P b) → P (guard t a b)
 unfolding guard

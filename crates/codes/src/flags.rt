@@ -265,8 +265,8 @@ impl PcmFormats {
     pub fn contains(self, format: PcmFormat) -> bool
         ensures { λ r. ⌜ r ≡ hasBit (formatNumber format) (self .bits) ⌝ }
     {
-        let mask = PcmFormats::from_format(format);
-        bit_of(self.bits, mask.bits)
+        let format_mask = PcmFormats::from_format(format);
+        bit_of(self.bits, format_mask.bits)
     }
 }
 
@@ -373,7 +373,7 @@ impl PcmRates {
     pub fn contains(self, rate: PcmRate) -> bool
         ensures { λ r. ⌜ r ≡ hasBit (rateNumber rate) (self .bits) ⌝ }
     {
-        let mask = PcmRates::from_rate(rate);
-        bit_of(self.bits, mask.bits)
+        let rate_mask = PcmRates::from_rate(rate);
+        bit_of(self.bits, rate_mask.bits)
     }
 }

@@ -1,4 +1,5 @@
 // Channel positions: VIRTIO_SND_CHMAP_*.
+
 // undefined
 pub const NONE: u8 = 0;
 

@@ -17,6 +17,14 @@ pub enum FoundStatus {
 }
 
 impl StatusCode {
+    pub const OK: u32 = 0x8000;
+
+    pub const BAD_MSG: u32 = 0x8001;
+
+    pub const NOT_SUPP: u32 = 0x8002;
+
+    pub const IO_ERR: u32 = 0x8003;
+
     pub fn code(self) -> u32
         ensures { λ r. ⌜ r ≡ statusCode self ⌝ }
     {

@@ -2,7 +2,7 @@
 -- Assumes nothing.
 use Prim.Native.Nat.{ℕ, zero, suc, _+_, _*_, _/_, _%_, _<_}
 use mathlib.Core.List.{List, [], _∷_}
-use lib.ListN.{getD}
+use lib.ListN.{getD, replicate}
 
 -- the w bytes of v, the least first; what does not fit in them is cut off
 unfoldable pub le : ℕ → ℕ → List ℕ
@@ -26,3 +26,7 @@ numAt o w s = un (bytesAt o w s)
 -- each element is a byte: what a slice of u8 is
 abbrev pub Bytes : List ℕ → Type 0
 Bytes s = (k : ℕ) → getD s k 0 < 256
+
+-- n bytes of 0
+unfoldable pub zeros : ℕ → List ℕ
+zeros n = replicate n 0

@@ -3,7 +3,7 @@
 use mathlib.Core.Path.{_≡_, refl, sym, ap, ap₂, _∙_}
 use mathlib.Core.List.{List, [], _∷_, _++_, append-nil}
 use Prim.Native.Nat.{ℕ, zero, suc, _+_, _*_, _/_, _%_, _<_, _≤_, _^_}
-use native.Mathlib.Nat.{mod-lt, div-add-mod', div-lt-iff-lt-mul, pow-suc, pow-zero, add-zero, zero-add, add-suc, suc-add, mul-one, add-mul, mul-assoc, mul-comm, add-assoc, one-le-pow, div-one, div-div-eq-div-mul, zero-mul}
+use native.Mathlib.Nat.{mod-lt, div-add-mod', div-lt-iff-lt-mul, pow-suc, pow-zero, add-zero, zero-add, add-suc, suc-add, mul-one, add-mul, mul-assoc, mul-comm, add-assoc, one-le-pow, div-one, div-div-eq-div-mul}
 use native.Mathlib.Omega.{arith}
 use lib.Dec.{lit<}
 use lib.Arith.{digits-div, digits-mod, mod-mul, lt-one}

@@ -3,12 +3,12 @@
 -- Assumes nothing.
 use mathlib.Core.Path.{_≡_, refl, sym, ap, ap₂, _∙_}
 use mathlib.Core.List.{List, [], _∷_, _++_}
-use Prim.Native.Nat.{ℕ, zero, suc, _+_, _≤_}
+use Prim.Native.Nat.{ℕ, _+_, _≤_}
 use native.Mathlib.Nat.{zero-add}
 use lib.ListN.{length, drop}
 use lib.Seq.{sets, sets-eq}
 use Rattle.layout.specs.Bytes.{le, numAt}
-use Rattle.layout.specs.Layout.{size, write, readAt, read}
+use Rattle.layout.specs.Layout.{size, write, readAt}
 use Rattle.layout.specs.BytesLaws.{length-le}
 use Rattle.layout.specs.LayoutLaws.{length-write}
 use Rattle.layout.specs.StoreLaws.{sets-then}

@@ -1,14 +1,14 @@
 -- The laws of layouts: both round trips, over any list of widths.
 -- Assumes nothing.
-use mathlib.Core.Path.{_≡_, refl, sym, ap, ap₂, _∙_, subst}
+use mathlib.Core.Path.{_≡_, refl, sym, ap, ap₂, _∙_}
 use mathlib.Core.List.{List, [], _∷_, _++_, append-assoc}
-use Prim.Native.Nat.{ℕ, zero, suc, _+_, _*_, _<_, _≤_, _^_}
-use native.Mathlib.Nat.{add-zero, zero-add, add-assoc}
+use Prim.Native.Nat.{ℕ, _+_, _*_, _<_, _≤_, _^_}
+use native.Mathlib.Nat.{add-zero, add-assoc}
 use native.Mathlib.Omega.{arith}
 use lib.ListN.{length, take, drop, length-append}
 use Rattle.layout.specs.Bytes.{le, un, bytesAt, numAt, Bytes}
 use Rattle.layout.specs.Layout.{size, write, readAt, read, Fit}
-use Rattle.layout.specs.BytesLaws.{length-le, un-le, le-numAt, le-join, numAt-split, numAt-below, bytesAt-add, bytesAt-append, bytesAt-front, bytesAt-own, bytesAt-in}
+use Rattle.layout.specs.BytesLaws.{length-le, un-le, le-numAt, le-join, numAt-below, bytesAt-add, bytesAt-append, bytesAt-front, bytesAt-own, bytesAt-in}
 
 pub length-write : (ws vs : List ℕ) → length (write ws vs) ≡ size ws
 length-write [] vs = refl
@@ -81,6 +81,3 @@ pub write-join : (a b x y : ℕ) (ws vs : List ℕ) → x < 256 ^ a → write (a
 write-join a b x y ws vs h =
     sym (append-assoc (le a x) (le b y) (write ws vs))
     ∙ ap (λ (l : List ℕ). l ++ write ws vs) (le-join a b x y h)
-
-pub read-join : (o a b : ℕ) (ws s : List ℕ) → readAt o ((a + b) ∷ ws) s ≡ (numAt (o + a) b s * 256 ^ a + numAt o a s) ∷ readAt (o + (a + b)) ws s
-read-join o a b ws s = ap (λ (n : ℕ). n ∷ readAt (o + (a + b)) ws s) (numAt-split a b o s)

@@ -1,8 +1,12 @@
+-- definitions
 pub mod Bytes
 pub mod Layout
 pub mod Rows
+-- laws
 pub mod BytesLaws
 pub mod StoreLaws
 pub mod LayoutLaws
 pub mod ChainLaws
+pub mod AllLaws
 pub mod RowsLaws
+pub mod WrittenLaws

@@ -2,16 +2,17 @@
 -- Assumes nothing.
 use mathlib.Core.Path.{_≡_, refl, sym, ap, _∙_}
 use mathlib.Core.List.{List, [], _∷_, _++_, append-assoc, append-nil}
-use Prim.Native.Nat.{ℕ, zero, suc, _+_, _*_, _<_}
-use native.Mathlib.Nat.{add-zero, add-assoc, add-comm, suc-mul, zero-mul, zero-add, le-of-lt}
+use Prim.Native.Nat.{ℕ, zero, suc, _+_, _-_, _*_, _<_, _≤_}
+use native.Mathlib.Nat.{add-zero, add-assoc, add-comm, suc-mul, zero-mul, zero-add, suc-add, le-of-lt}
 use native.Mathlib.Numerals.{add-one}
 use native.Mathlib.Omega.{arith}
 use lib.ListN.{length, getD, set, take, drop, length-append}
-use lib.Seq.{sets, take-suc, take-suc-set, length-take-le, set-split, split-at}
+use lib.Seq.{sets, take-at, drop-at, take-suc, take-suc-set, length-take-le, set-split, split-at}
 use Rattle.layout.specs.Bytes.{bytesAt, Bytes}
 use Rattle.layout.specs.Rows.{rowsAt, rowsBytes}
 use Rattle.layout.specs.BytesLaws.{bytesAt-append, bytesAt-front, bytesAt-add}
 use Rattle.layout.specs.StoreLaws.{sets-then}
+use Rattle.layout.specs.AllLaws.{AllOk}
 
 further : (o n size : ℕ) → o + size + n * size ≡ o + suc n * size
 further o n size = add-assoc o size (n * size) ∙ ap (λ (k : ℕ). o + k) (add-comm size (n * size) ∙ sym (suc-mul n size))
@@ -49,6 +50,28 @@ module _ {A : Type 0} (f : ℕ → List ℕ → A) (size : ℕ) where
       ∙ (λ i. e i ++ (p i ∷ []))
       ∙ sym (rows-snoc o n s)
       ∙ ap (λ (k : ℕ). rowsAt f size o k s) (sym (add-one n))
+
+  -- cut in two
+  rows-add : (o n m : ℕ) (s : List ℕ) → rowsAt f size o (n + m) s ≡ rowsAt f size o n s ++ rowsAt f size (o + n * size) m s
+  unfolding rowsAt
+  rows-add o zero m s = λ i. rowsAt f size (here o size i) (zero-add m i) s
+  rows-add o (suc n) m s =
+      ap (λ (k : ℕ). rowsAt f size o k s) (suc-add n m)
+      ∙ ap (λ (l : List A). f o s ∷ l)
+      (rows-add (o + size) n m s ∙ ap (λ (k : ℕ). rowsAt f size (o + size) n s ++ rowsAt f size k m s) (further o n size))
+
+  rows-cut : (o n k : ℕ) (s : List ℕ) → k ≤ n → rowsAt f size o n s ≡ rowsAt f size o k s ++ rowsAt f size (o + k * size) (n - k) s
+  rows-cut o n k s h = let e : n ≡ k + (n - k) = omega arith in ap (λ (z : ℕ). rowsAt f size o z s) e ∙ rows-add o k (n - k) s
+
+  pub rows-take : (o n k : ℕ) (s : List ℕ) → k ≤ n → take k (rowsAt f size o n s) ≡ rowsAt f size o k s
+  rows-take o n k s h = ap (take k) (rows-cut o n k s h) ∙ take-at (rowsAt f size o k s) _ k (length-rows o k s)
+
+  pub rows-drop : (o n k : ℕ) (s : List ℕ) → k ≤ n → drop k (rowsAt f size o n s) ≡ rowsAt f size (o + k * size) (n - k) s
+  rows-drop o n k s h = ap (drop k) (rows-cut o n k s h) ∙ drop-at (rowsAt f size o k s) _ k (length-rows o k s)
+
+  -- the c records from record a on
+  pub rows-part : (o n a c : ℕ) (s : List ℕ) → a + c ≤ n → take c (drop a (rowsAt f size o n s)) ≡ rowsAt f size (o + a * size) c s
+  rows-part o n a c s h = ap (take c) (rows-drop o n a s (omega arith)) ∙ rows-take (o + a * size) (n - a) c s (omega arith)
 
 -- ---- writing
 
@@ -112,11 +135,7 @@ module _ {A : Type 0} (f : ℕ → List ℕ → A) (g : A → List ℕ) (size : 
       λ i. (own (length a + k) (a ++ t) ∙ ap (f 0) (bytesAt-append a t k size) ∙ sym (own k t)) i
       ∷ (ap (λ (z : ℕ). rowsAt f size z n (a ++ t)) (add-assoc (length a) k size) ∙ rows-skip a t (k + size) n) i
 
-  abbrev pub AllOk : List A → Type 0
-  AllOk [] = Unit {0}
-  AllOk (x ∷ xs) = Ok x × AllOk xs
-
-  pub rows-back : (xs : List A) (c : List ℕ) → AllOk xs → rowsAt f size 0 (length xs) (rowsBytes g xs ++ c) ≡ xs
+  pub rows-back : (xs : List A) (c : List ℕ) → AllOk Ok xs → rowsAt f size 0 (length xs) (rowsBytes g xs ++ c) ≡ xs
   unfolding rowsAt rowsBytes
   rows-back [] c h = refl
   rows-back (x ∷ xs) c h =
@@ -125,6 +144,14 @@ module _ {A : Type 0} (f : ℕ → List ℕ → A) (g : A → List ℕ) (size : 
       let q : rowsAt f size (0 + size) (length xs) (g x ++ r) ≡ xs =
       ap (λ (k : ℕ). rowsAt f size k (length xs) (g x ++ r)) (add-comm 0 size ∙ ap (λ (k : ℕ). k + 0) (sym (sized x))) ∙ rows-skip (g x) r 0 (length xs) ∙ rows-back xs c (h .1) in
       ap (λ (l : List ℕ). f 0 l ∷ rowsAt f size (0 + size) (length xs) l) (append-assoc (g x) (rowsBytes g xs) c) ∙ (λ i. p i ∷ q i)
+
+  -- a table that was written, whatever stands before and after it
+  pub table-back : (a c : List ℕ) (xs : List A) (o n : ℕ) → length a ≡ o → length xs ≡ n → AllOk Ok xs → rowsAt f size o n (a ++ (rowsBytes g xs ++ c)) ≡ xs
+  table-back a c xs o n p q h =
+      let t = rowsBytes g xs ++ c in
+      (λ i. rowsAt f size (sym (add-zero (length a) ∙ p) i) (sym q i) (a ++ t))
+      ∙ rows-skip a t 0 (length xs)
+      ∙ rows-back xs c h
 
 -- what was read, written again, is the bytes that stand there
 module _ {A : Type 0} (f : ℕ → List ℕ → A) (g : A → List ℕ) (size : ℕ) (same : (o : ℕ) (s : List ℕ) → Bytes s → g (f o s) ≡ bytesAt o size s) where

@@ -8,7 +8,7 @@ use native.Mathlib.Omega.{arith}
 use lib.ListN.{length, getD, set}
 use lib.Seq.{sets, set-out, set-set, set-comm, set-getD, getD-set-other}
 use Rattle.layout.specs.Bytes.{le, bytesAt}
-use Rattle.layout.specs.BytesLaws.{length-le, le-mod, le-split, length-bytesAt}
+use Rattle.layout.specs.BytesLaws.{length-le, le-mod, le-split, length-bytesAt, bytesAt-add}
 
 -- two runs, the second where the first ends, are one
 pub sets-append : (l : List ℕ) (i : ℕ) (a b : List ℕ) → sets (sets l i a) (i + length a) b ≡ sets l i (a ++ b)
@@ -85,6 +85,25 @@ bytesAt-set l i v o (suc n) h = λ k. getD-set-other l i o v 0 (λ e. omega arit
 pub bytesAt-after : (vs l : List ℕ) (i o n : ℕ) → i + length vs ≤ o → bytesAt o n (sets l i vs) ≡ bytesAt o n l
 bytesAt-after [] l i o n h = refl
 bytesAt-after (v ∷ vs) l i o n h = bytesAt-after vs (set l i v) (suc i) o n (omega arith) ∙ bytesAt-set l i v o n (omega arith)
+
+before-set : (l : List ℕ) (i v o n : ℕ) → o + n ≤ i → bytesAt o n (set l i v) ≡ bytesAt o n l
+unfolding bytesAt
+before-set l i v o zero h = refl
+before-set l i v o (suc n) h = λ k. getD-set-other l i o v 0 (λ e. omega arith) k ∷ before-set l i v (suc o) n (omega arith) k
+
+-- a store past a place leaves what is read there
+pub bytesAt-before : (vs l : List ℕ) (i o n : ℕ) → o + n ≤ i → bytesAt o n (sets l i vs) ≡ bytesAt o n l
+bytesAt-before [] l i o n h = refl
+bytesAt-before (v ∷ vs) l i o n h = bytesAt-before vs (set l i v) (suc i) o n (omega arith) ∙ before-set l i v o n h
+
+-- a turn of the loop that copies bytes
+pub copy-more : (s t : List ℕ) (o k n : ℕ) (s₁ : List ℕ) → s₁ ≡ sets s o (bytesAt k n t) → set s₁ (o + n) (getD t (k + n) 0) ≡ sets s o (bytesAt k (n + 1) t)
+unfolding bytesAt
+copy-more s t o k n s₁ e =
+    let v = getD t (k + n) 0 ∷ [] in
+    ap (λ (l : List ℕ). sets l (o + n) v) e
+    ∙ sets-then s o (o + n) (bytesAt k n t) v (ap (λ (m : ℕ). o + m) (sym (length-bytesAt k n t)))
+    ∙ ap (sets s o) (sym (bytesAt-add k n 1 t))
 
 -- all stored again but for one part in the middle: only that part is stored
 pub sets-but : (l : List ℕ) (a b : ℕ) (v : List ℕ) → sets l 0 (bytesAt 0 a l ++ (v ++ bytesAt (a + length v) b l)) ≡ sets l a v

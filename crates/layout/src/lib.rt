@@ -1,8 +1,8 @@
 // Little-endian numbers at any place of a lent slice of bytes. Each width is two of the half
 // width, so the proofs cite one law over the widths. A byte past the end reads as 0 and is not
-// stored: so no access needs a `requires`, and a record's reader tests its length once.
+// stored: so no public access needs a `requires`, and a record's reader tests its length once.
 //
-// A number that lies within the slice is read and written by its bytes with one test, which
+// A number that lies within the slice is read and written by its bytes after its place is tested, which
 // compiles to one access to memory; only one that reaches past the end goes byte by byte.
 ghost use mathlib.Core.Path.{_≡_};
 ghost use Prim.Native.Nat.{_+_, _≤_};
@@ -140,8 +140,8 @@ pub fn get_u16(s: &[u8], at: usize) -> u16
     if 2 <= n - at {
         return within_u16(s, at);
     }
-    let bytes = eight(s, at);
-    within_u16(&bytes, 0)
+    let rest = eight(s, at);
+    within_u16(&rest, 0)
 }
 
 pub fn get_u32(s: &[u8], at: usize) -> u32
@@ -154,8 +154,8 @@ pub fn get_u32(s: &[u8], at: usize) -> u32
     if 4 <= n - at {
         return within_u32(s, at);
     }
-    let bytes = eight(s, at);
-    within_u32(&bytes, 0)
+    let rest = eight(s, at);
+    within_u32(&rest, 0)
 }
 
 pub fn get_u64(s: &[u8], at: usize) -> u64
@@ -168,8 +168,8 @@ pub fn get_u64(s: &[u8], at: usize) -> u64
     if 8 <= n - at {
         return within_u64(s, at);
     }
-    let bytes = eight(s, at);
-    within_u64(&bytes, 0)
+    let rest = eight(s, at);
+    within_u64(&rest, 0)
 }
 
 // The first n bytes, stored from a place on; those that reach past the end are not.
@@ -203,9 +203,9 @@ pub fn put_u16(out: &mut [u8], at: usize, v: u16)
         within_put_u16(out, at, v);
         return;
     }
-    let mut bytes = [0u8; 8];
-    within_put_u16(&mut bytes, 0, v);
-    put_some(out, at, &bytes, 2);
+    let mut rest = [0u8; 8];
+    within_put_u16(&mut rest, 0, v);
+    put_some(out, at, &rest, 2);
 }
 
 pub fn put_u32(out: &mut [u8], at: usize, v: u32)
@@ -219,9 +219,9 @@ pub fn put_u32(out: &mut [u8], at: usize, v: u32)
         within_put_u32(out, at, v);
         return;
     }
-    let mut bytes = [0u8; 8];
-    within_put_u32(&mut bytes, 0, v);
-    put_some(out, at, &bytes, 4);
+    let mut rest = [0u8; 8];
+    within_put_u32(&mut rest, 0, v);
+    put_some(out, at, &rest, 4);
 }
 
 pub fn put_u64(out: &mut [u8], at: usize, v: u64)
@@ -235,7 +235,7 @@ pub fn put_u64(out: &mut [u8], at: usize, v: u64)
         within_put_u64(out, at, v);
         return;
     }
-    let mut bytes = [0u8; 8];
-    within_put_u64(&mut bytes, 0, v);
-    put_some(out, at, &bytes, 8);
+    let mut rest = [0u8; 8];
+    within_put_u64(&mut rest, 0, v);
+    put_some(out, at, &rest, 8);
 }

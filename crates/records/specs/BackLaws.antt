@@ -1,49 +1,35 @@
--- The way back: from a record's values to the record, and from what a reader says to what it returned. Uniqueness and the round trips rest on it.
+-- The way back, from what a reader says to what it returned. Uniqueness rests on it.
 -- Assumes nothing.
 use mathlib.Core.Path.{_≡_, refl}
 use mathlib.Core.List.{List}
 use Prim.Native.Nat.{ℕ}
 use lib.Dec.{eqb}
-use lib.ListN.{getD}
 use Rattle.codes.specs.Says.{Says, pick}
-use Rattle.records.specs.Records.{saysQuery, saysRemap, saysPcmCommand, saysSetParameters, saysJackInfo, saysPcmInfo, saysChannelMap, saysTransfer, saysTransferStatus, saysEvent}
-use Rattle.records.specs.declared.control.Query.{Query}
+use Rattle.records.specs.Records.{saysQuery, saysRemap, saysPcmCommand, saysSetParameters, saysJackInfo, saysPcmInfo, saysChannelMap, saysTransfer, saysTransferStatus, saysEvent, queryOf, remapOf, pcmCommandOf, setParametersOf, jackInfoOf, pcmInfoOf, channelMapOf, transferOf, transferStatusOf, eventOf}
 use Rattle.records.specs.declared.control.ReadQuery.{ReadQuery}
 use Rattle.records.specs.declared.control.ReadQuery.the-variants as readQuery
-use Rattle.records.specs.declared.control.Remap.{Remap}
 use Rattle.records.specs.declared.control.ReadRemap.{ReadRemap}
 use Rattle.records.specs.declared.control.ReadRemap.the-variants as readRemap
-use Rattle.records.specs.declared.control.PcmCommand.{PcmCommand}
 use Rattle.records.specs.declared.control.ReadPcmCommand.{ReadPcmCommand}
 use Rattle.records.specs.declared.control.ReadPcmCommand.the-variants as readPcmCommand
-use Rattle.records.specs.declared.control.SetParameters.{SetParameters}
 use Rattle.records.specs.declared.control.ReadSetParameters.{ReadSetParameters}
 use Rattle.records.specs.declared.control.ReadSetParameters.the-variants as readSetParameters
-use Rattle.records.specs.declared.info.JackInfo.{JackInfo}
 use Rattle.records.specs.declared.info.ReadJackInfo.{ReadJackInfo}
 use Rattle.records.specs.declared.info.ReadJackInfo.the-variants as readJackInfo
-use Rattle.records.specs.declared.info.PcmInfo.{PcmInfo}
 use Rattle.records.specs.declared.info.ReadPcmInfo.{ReadPcmInfo}
 use Rattle.records.specs.declared.info.ReadPcmInfo.the-variants as readPcmInfo
-use Rattle.records.specs.declared.info.ChannelMap.{ChannelMap}
 use Rattle.records.specs.declared.info.ReadChannelMap.{ReadChannelMap}
 use Rattle.records.specs.declared.info.ReadChannelMap.the-variants as readChannelMap
-use Rattle.records.specs.declared.transfer.Transfer.{Transfer}
 use Rattle.records.specs.declared.transfer.ReadTransfer.{ReadTransfer}
 use Rattle.records.specs.declared.transfer.ReadTransfer.the-variants as readTransfer
-use Rattle.records.specs.declared.transfer.TransferStatus.{TransferStatus}
 use Rattle.records.specs.declared.transfer.ReadTransferStatus.{ReadTransferStatus}
 use Rattle.records.specs.declared.transfer.ReadTransferStatus.the-variants as readTransferStatus
-use Rattle.records.specs.declared.event.Event.{Event}
 use Rattle.records.specs.declared.event.ReadEvent.{ReadEvent}
 use Rattle.records.specs.declared.event.ReadEvent.the-variants as readEvent
 
 -- number 0 is a record, made of the values; any other is the refusal
 abbrev pub answer : {R A : Type 0} → (R → A) → A → (List ℕ → R) → Says → A
 answer is refusal of s = pick (eqb (s .number) 0) (is (of (s .values))) refusal
-
-abbrev pub queryOf : List ℕ → Query
-queryOf vs = record { code = getD vs 0 0; start = getD vs 1 0; count = getD vs 2 0; size = getD vs 3 0 }
 
 abbrev pub queryAnswer : Says → ReadQuery
 queryAnswer = answer readQuery.Is readQuery.BadLength queryOf
@@ -52,18 +38,12 @@ pub query-answer : (a : ReadQuery) → queryAnswer (saysQuery a) ≡ a
 query-answer (readQuery.Is r) = refl
 query-answer readQuery.BadLength = refl
 
-abbrev pub remapOf : List ℕ → Remap
-remapOf vs = record { code = getD vs 0 0; jack = getD vs 1 0; association = getD vs 2 0; sequence = getD vs 3 0 }
-
 abbrev pub remapAnswer : Says → ReadRemap
 remapAnswer = answer readRemap.Is readRemap.BadLength remapOf
 
 pub remap-answer : (a : ReadRemap) → remapAnswer (saysRemap a) ≡ a
 remap-answer (readRemap.Is r) = refl
 remap-answer readRemap.BadLength = refl
-
-abbrev pub pcmCommandOf : List ℕ → PcmCommand
-pcmCommandOf vs = record { code = getD vs 0 0; stream = getD vs 1 0 }
 
 abbrev pub pcmCommandAnswer : Says → ReadPcmCommand
 pcmCommandAnswer = answer readPcmCommand.Is readPcmCommand.BadLength pcmCommandOf
@@ -72,18 +52,12 @@ pub pcm-command-answer : (a : ReadPcmCommand) → pcmCommandAnswer (saysPcmComma
 pcm-command-answer (readPcmCommand.Is r) = refl
 pcm-command-answer readPcmCommand.BadLength = refl
 
-abbrev pub setParametersOf : List ℕ → SetParameters
-setParametersOf vs = record { code = getD vs 0 0; stream = getD vs 1 0; buffer = getD vs 2 0; period = getD vs 3 0; features = getD vs 4 0; channels = getD vs 5 0; format = getD vs 6 0; rate = getD vs 7 0; zero = getD vs 8 0 }
-
 abbrev pub setParametersAnswer : Says → ReadSetParameters
 setParametersAnswer = answer readSetParameters.Is readSetParameters.BadLength setParametersOf
 
 pub set-parameters-answer : (a : ReadSetParameters) → setParametersAnswer (saysSetParameters a) ≡ a
 set-parameters-answer (readSetParameters.Is r) = refl
 set-parameters-answer readSetParameters.BadLength = refl
-
-abbrev pub jackInfoOf : List ℕ → JackInfo
-jackInfoOf vs = record { node = getD vs 0 0; features = getD vs 1 0; defconf = getD vs 2 0; caps = getD vs 3 0; connected = getD vs 4 0; padding = getD vs 5 0; padding4 = getD vs 6 0; padding6 = getD vs 7 0 }
 
 abbrev pub jackInfoAnswer : Says → ReadJackInfo
 jackInfoAnswer = answer readJackInfo.Is readJackInfo.BadLength jackInfoOf
@@ -92,18 +66,12 @@ pub jack-info-answer : (a : ReadJackInfo) → jackInfoAnswer (saysJackInfo a) �
 jack-info-answer (readJackInfo.Is r) = refl
 jack-info-answer readJackInfo.BadLength = refl
 
-abbrev pub pcmInfoOf : List ℕ → PcmInfo
-pcmInfoOf vs = record { node = getD vs 0 0; features = getD vs 1 0; formats = getD vs 2 0; rates = getD vs 3 0; direction = getD vs 4 0; min = getD vs 5 0; max = getD vs 6 0; padding = getD vs 7 0; padding4 = getD vs 8 0 }
-
 abbrev pub pcmInfoAnswer : Says → ReadPcmInfo
 pcmInfoAnswer = answer readPcmInfo.Is readPcmInfo.BadLength pcmInfoOf
 
 pub pcm-info-answer : (a : ReadPcmInfo) → pcmInfoAnswer (saysPcmInfo a) ≡ a
 pcm-info-answer (readPcmInfo.Is r) = refl
 pcm-info-answer readPcmInfo.BadLength = refl
-
-abbrev pub channelMapOf : List ℕ → ChannelMap
-channelMapOf vs = record { node = getD vs 0 0; direction = getD vs 1 0; channels = getD vs 2 0; positions = getD vs 3 0; positions8 = getD vs 4 0; positions16 = getD vs 5 0 }
 
 abbrev pub channelMapAnswer : Says → ReadChannelMap
 channelMapAnswer = answer readChannelMap.Is readChannelMap.BadLength channelMapOf
@@ -112,9 +80,6 @@ pub channel-map-answer : (a : ReadChannelMap) → channelMapAnswer (saysChannelM
 channel-map-answer (readChannelMap.Is r) = refl
 channel-map-answer readChannelMap.BadLength = refl
 
-abbrev pub transferOf : List ℕ → Transfer
-transferOf vs = record { stream = getD vs 0 0 }
-
 abbrev pub transferAnswer : Says → ReadTransfer
 transferAnswer = answer readTransfer.Is readTransfer.BadLength transferOf
 
@@ -122,18 +87,12 @@ pub transfer-answer : (a : ReadTransfer) → transferAnswer (saysTransfer a) ≡
 transfer-answer (readTransfer.Is r) = refl
 transfer-answer readTransfer.BadLength = refl
 
-abbrev pub transferStatusOf : List ℕ → TransferStatus
-transferStatusOf vs = record { status = getD vs 0 0; latency = getD vs 1 0 }
-
 abbrev pub transferStatusAnswer : Says → ReadTransferStatus
 transferStatusAnswer = answer readTransferStatus.Is readTransferStatus.BadLength transferStatusOf
 
 pub transfer-status-answer : (a : ReadTransferStatus) → transferStatusAnswer (saysTransferStatus a) ≡ a
 transfer-status-answer (readTransferStatus.Is r) = refl
 transfer-status-answer readTransferStatus.BadLength = refl
-
-abbrev pub eventOf : List ℕ → Event
-eventOf vs = record { code = getD vs 0 0; «data» = getD vs 1 0 }
 
 abbrev pub eventAnswer : Says → ReadEvent
 eventAnswer = answer readEvent.Is readEvent.BadLength eventOf

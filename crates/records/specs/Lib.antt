@@ -1,7 +1,9 @@
+-- definitions
 pub mod Slice
 pub mod Records
 pub mod Positions
 pub mod Notice
+-- laws
 pub mod SliceLaws
 pub mod BackLaws
 pub mod RoundLaws

@@ -16,9 +16,8 @@ use Rattle.layout.specs.LayoutLaws.{write-read}
 use Rattle.codes.specs.Says.{says}
 use Rattle.codes.specs.SaysLaws.{picks}
 use Rattle.codes.specs.TableLaws.{rule}
-use Rattle.records.specs.Records.{channelMap}
+use Rattle.records.specs.Records.{channelMap, channelMapOf}
 use Rattle.records.specs.Positions.{positionBytes, positionSays}
-use Rattle.records.specs.BackLaws.{channelMapOf}
 use Rattle.records.specs.declared.info.ChannelMap.{ChannelMap}
 
 -- ---- the code's table

@@ -33,6 +33,8 @@ use Rattle.records.specs.declared.transfer.ReadTransferStatus.the-varian
 use Rattle.records.specs.declared.event.Event.{Event}
 use Rattle.records.specs.declared.event.ReadEvent.{ReadEvent}
 use Rattle.records.specs.declared.event.ReadEvent.the-variants as readEvent
+use lib.ListN.{getD}
+use Rattle.layout.specs.Layout.{write}
 
 -- "query | 16 | code 4, start 4, count 4, record size 4"
 abbrev pub query : List ℕ
@@ -143,3 +145,46 @@ eventValues r = r .code ∷ r .data ∷ []
 abbrev pub saysEvent : ReadEvent → Says
 saysEvent (readEvent.Is r) = says 0 (eventValues r)
 saysEvent readEvent.BadLength = says 10 []
+
+-- ---- the way back: from the numbers of a row to the record
+
+abbrev pub queryOf : List ℕ → Query
+queryOf vs = record { code = getD vs 0 0; start = getD vs 1 0; count = getD vs 2 0; size = getD vs 3 0 }
+
+abbrev pub remapOf : List ℕ → Remap
+remapOf vs = record { code = getD vs 0 0; jack = getD vs 1 0; association = getD vs 2 0; sequence = getD vs 3 0 }
+
+abbrev pub pcmCommandOf : List ℕ → PcmCommand
+pcmCommandOf vs = record { code = getD vs 0 0; stream = getD vs 1 0 }
+
+abbrev pub setParametersOf : List ℕ → SetParameters
+setParametersOf vs = record { code = getD vs 0 0; stream = getD vs 1 0; buffer = getD vs 2 0; period = getD vs 3 0; features = getD vs 4 0; channels = getD vs 5 0; format = getD vs 6 0; rate = getD vs 7 0; zero = getD vs 8 0 }
+
+abbrev pub jackInfoOf : List ℕ → JackInfo
+jackInfoOf vs = record { node = getD vs 0 0; features = getD vs 1 0; defconf = getD vs 2 0; caps = getD vs 3 0; connected = getD vs 4 0; padding = getD vs 5 0; padding4 = getD vs 6 0; padding6 = getD vs 7 0 }
+
+abbrev pub pcmInfoOf : List ℕ → PcmInfo
+pcmInfoOf vs = record { node = getD vs 0 0; features = getD vs 1 0; formats = getD vs 2 0; rates = getD vs 3 0; direction = getD vs 4 0; min = getD vs 5 0; max = getD vs 6 0; padding = getD vs 7 0; padding4 = getD vs 8 0 }
+
+abbrev pub channelMapOf : List ℕ → ChannelMap
+channelMapOf vs = record { node = getD vs 0 0; direction = getD vs 1 0; channels = getD vs 2 0; positions = getD vs 3 0; positions8 = getD vs 4 0; positions16 = getD vs 5 0 }
+
+abbrev pub transferOf : List ℕ → Transfer
+transferOf vs = record { stream = getD vs 0 0 }
+
+abbrev pub transferStatusOf : List ℕ → TransferStatus
+transferStatusOf vs = record { status = getD vs 0 0; latency = getD vs 1 0 }
+
+abbrev pub eventOf : List ℕ → Event
+eventOf vs = record { code = getD vs 0 0; «data» = getD vs 1 0 }
+
+-- ---- the bytes of an information record
+
+abbrev pub jackBytes : JackInfo → List ℕ
+jackBytes r = write jackInfo (jackInfoValues r)
+
+abbrev pub pcmBytes : PcmInfo → List ℕ
+pcmBytes r = write pcmInfo (pcmInfoValues r)
+
+abbrev pub mapBytes : ChannelMap → List ℕ
+mapBytes r = write channelMap (channelMapValues r)

@@ -5,7 +5,7 @@ use mathlib.Core.List.{List, [], _++_}
 use Prim.Native.Nat.{ℕ, _+_}
 use lib.Dec.{leb}
 use lib.ListN.{length, drop}
-use Rattle.layout.specs.Layout.{size, write, readAt, read}
+use Rattle.layout.specs.Layout.{size, write, read}
 use Rattle.codes.specs.Says.{Says, says, pick}
 use Rattle.records.specs.declared.written.Written.{Written}
 use Rattle.records.specs.declared.written.Written.the-variants as wrote
@@ -13,10 +13,6 @@ use Rattle.records.specs.declared.written.Written.the-variants as wrote
 -- reading at the front of s: the values
 abbrev pub readSays : List ℕ → List ℕ → Says
 readSays ws s = pick (leb (size ws) (length s)) (says 0 (read ws s)) (says 10 [])
-
--- the same from byte a on
-abbrev pub readSaysAt : ℕ → List ℕ → List ℕ → Says
-readSaysAt a ws s = pick (leb (a + size ws) (length s)) (says 0 (readAt a ws s)) (says 10 [])
 
 -- writing at the front of l: what is said
 abbrev pub writeSays : List ℕ → List ℕ → Says

@@ -1,10 +1,8 @@
 -- The laws of a record in a slice, over any layout: for the code that reads and writes, for its callers, and the round trips.
 -- Assumes nothing.
-use mathlib.Core.Path.{_≡_, refl, sym, ap, _∙_}
-use mathlib.Core.Bool.{Bool, true, false}
+use mathlib.Core.Path.{_≡_, sym, ap, _∙_}
 use mathlib.Core.List.{List, [], _++_}
 use Prim.Native.Nat.{ℕ, _+_, _-_, _<_, _≤_}
-use native.Mathlib.Nat.{le-refl}
 use native.Mathlib.Omega.{arith}
 use lib.Dec.{leb}
 use lib.ListN.{length, take, drop, length-append, length-drop, take-append-drop}
@@ -17,7 +15,7 @@ use Rattle.layout.specs.LayoutLaws.{length-write, read-write, write-read, read-
 use Rattle.layout.specs.ChainLaws.{Got, Stored, got, stored-front}
 use Rattle.codes.specs.Says.{says}
 use Rattle.codes.specs.SaysLaws.{picks, skips, took, refused}
-use Rattle.records.specs.Slice.{readSays, readSaysAt, writeSays, written}
+use Rattle.records.specs.Slice.{readSays, writeSays, written}
 
 -- ---- a slice that is too short for the record, and one that is not
 
@@ -39,16 +37,6 @@ written-short ws vs l h = skips _ _ _ (lt-leb (size ws) (length l) h)
 pub written-long : (ws vs l : List ℕ) → size ws ≤ length l → written ws vs l ≡ write ws vs ++ drop (size ws) l
 written-long ws vs l h = picks _ _ _ (le-leb (size ws) (length l) h)
 
--- writing keeps the slice's length
-pub length-written : (ws vs l : List ℕ) → length (written ws vs l) ≡ length l
-length-written ws vs l = by (leb (size ws) (length l)) refl
-  where
-    by : (t : Bool) → leb (size ws) (length l) ≡ t → length (written ws vs l) ≡ length l
-    by true e =
-        let h : size ws ≤ length l = leb-true (size ws) (length l) e in
-        ap length (picks _ _ _ e) ∙ length-append (write ws vs) (drop (size ws) l) ∙ (λ i. length-write ws vs i + length-drop (size ws) l i) ∙ omega arith
-    by false e = ap length (skips _ _ _ e)
-
 -- ---- for a reader and a writer: each return, from its test and its calls
 
 pub reads : (ws vs s : List ℕ) → size ws ≤ length s → Got s 0 ws vs → says 0 vs ≡ readSays ws s
@@ -68,12 +56,6 @@ read-is ws s vs e = let r = took (leb (size ws) (length s)) 9 (read ws s) vs e i
 pub read-bad : (ws s : List ℕ) → says 10 [] ≡ readSays ws s → length s < size ws
 read-bad ws s e = leb-false (size ws) (length s) (refused (leb (size ws) (length s)) 9 (read ws s) e)
 
-pub write-is : (ws l : List ℕ) → says 0 [] ≡ writeSays ws l → size ws ≤ length l
-write-is ws l e = leb-true (size ws) (length l) (took (leb (size ws) (length l)) 9 [] [] e .0)
-
-pub write-bad : (ws l : List ℕ) → says 10 [] ≡ writeSays ws l → length l < size ws
-write-bad ws l e = leb-false (size ws) (length l) (refused (leb (size ws) (length l)) 9 [] e)
-
 -- ---- a record in a part of a slice
 
 -- in `&s[a..a + m]`
@@ -81,22 +63,6 @@ pub read-inside : (ws s : List ℕ) (a m : ℕ) → a + m ≤ length s → size 
 read-inside ws s a m h k =
     let n : length (take m (drop a s)) ≡ m = length-take-le m (drop a s) (simp length-drop (omega arith)) in
     read-long ws (take m (drop a s)) (rw n k) ∙ ap (says 0) (read-part m a ws s k)
-
--- in `&s[a..]`
-pub read-from : (ws s : List ℕ) (a : ℕ) → a ≤ length s → readSays ws (take (length s - a) (drop a s)) ≡ readSaysAt a ws s
-read-from ws s a h = by (leb (a + size ws) (length s)) refl
-  where
-    by : (t : Bool) → leb (a + size ws) (length s) ≡ t → readSays ws (take (length s - a) (drop a s)) ≡ readSaysAt a ws s
-    by true e =
-        let k : a + size ws ≤ length s = leb-true (a + size ws) (length s) e in
-        read-inside ws s a (length s - a) (omega arith) (omega arith) ∙ sym (picks _ _ _ e)
-    by false e =
-        let k : length s < a + size ws = leb-false (a + size ws) (length s) e in
-        let n : length (take (length s - a) (drop a s)) ≡ length s - a = length-take-le (length s - a) (drop a s) (simp length-drop (le-refl (length s - a))) in
-        read-short ws (take (length s - a) (drop a s)) (rw n (omega arith)) ∙ sym (skips _ _ _ e)
-
-pub read-past : (ws s : List ℕ) (a : ℕ) → length s < a → readSaysAt a ws s ≡ says 10 []
-read-past ws s a h = skips _ _ _ (lt-leb (a + size ws) (length s) (omega arith))
 
 -- ---- the round trips
 

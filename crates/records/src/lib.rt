@@ -1,5 +1,5 @@
 // Records: written in a lent slice and read from it. A slice shorter than the record is BadLength,
-// and nothing else is refused.
+// and reading and writing refuse nothing else. What an event says, and a position of a channel map.
 mod control;
 mod event;
 mod info;

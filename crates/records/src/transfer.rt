@@ -53,14 +53,6 @@ pub enum ReadTransferStatus {
 impl TransferStatus {
     pub const SIZE: usize = 8;
 
-    pub const OK: u32 = 0x8000;
-
-    pub const BAD_MSG: u32 = 0x8001;
-
-    pub const NOT_SUPP: u32 = 0x8002;
-
-    pub const IO_ERR: u32 = 0x8003;
-
     pub fn write(self, out: &mut [u8]) -> Written
         ensures { λ r. ⌜ (saysWritten r ≡ writeSays transferStatus (now (out .entry))) × (now (out .exit) ≡ written transferStatus (transferStatusValues self) (now (out .entry))) ⌝ }
     {

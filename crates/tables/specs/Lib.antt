@@ -1,3 +1,5 @@
+-- definitions
 pub mod Tables
+-- laws
 pub mod TablesLaws
 pub mod TableLengthLaws

@@ -1,14 +1,11 @@
 -- A table that is read keeps its length, and record i of a good page stands at 4 + i × size.
 -- Assumes nothing.
 use mathlib.Core.Path.{_≡_, refl, ap, _∙_}
-use mathlib.Core.Bool.{Bool, true, false, false≢true}
+use mathlib.Core.Bool.{Bool, true, false}
 use mathlib.Core.List.{List}
 use Prim.Native.Nat.{ℕ, _+_, _*_, _≤_, _<_}
 use native.Mathlib.Omega.{arith}
-use lib.Dec.{leb, eqb}
-use lib.ListN.{length, drop, getD, length-append, length-drop, List·getD-append}
-use borrow.Author.Tests.{eqb-true, leb-true}
-use Rattle.layout.specs.Bytes.{numAt}
+use lib.ListN.{length, drop, getD, List·getD-append}
 use Rattle.layout.specs.Rows.{rowsAt}
 use Rattle.layout.specs.RowsLaws.{length-rows, rows-at}
 use Rattle.codes.specs.Says.{pick}
@@ -17,7 +14,6 @@ use Rattle.records.specs.declared.info.PcmInfo.{PcmInfo}
 use Rattle.records.specs.declared.info.ChannelMap.{ChannelMap}
 use Rattle.tables.specs.TablesLaws.{good-whole, length-filled}
 use Rattle.tables.specs.Tables.{judged, isGood, filled, jackAt, pcmAt, mapAt, jacksRead, streamsRead, mapsRead}
-use Rattle.tables.specs.declared.verdict.Verdict.the-variants.{Good, Status, TooMany, BadLength}
 
 module _ {A : Type 0} (f : ℕ → List ℕ → A) (size : ℕ) (page : List ℕ) (n : ℕ) (old : List A) where
   read-length : (t : Bool) → (t ≡ true → n ≤ length old) → length (pick t (filled f size page n old) old) ≡ length old
@@ -41,7 +37,7 @@ pub maps-length : (page : List ℕ) (n : ℕ) (old : List ChannelMap) → length
 unfolding mapsRead
 maps-length page n old e = read-length mapAt 24 page n old (isGood (judged page n 24)) (λ g. omega (arith, good-whole page n 24 g .fits)) ∙ e
 
--- "the records at 4 + i × size": of a good page, record i is the one that stands there
+-- of a good page, record i is the one that stands at 4 + i × size
 pub streams-at : (page : List ℕ) (n : ℕ) (old : List PcmInfo) (i : ℕ) (d : PcmInfo) → isGood (judged page n 32) ≡ true → i < n
     → getD (streamsRead page n old .at) i d ≡ pcmAt (4 + i * 32) page
 unfolding streamsRead

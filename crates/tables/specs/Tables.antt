@@ -1,7 +1,7 @@
 -- An answer page: how it is judged, and the table that it holds. One definition over the record's size serves all three tables.
 -- Assumes nothing.
 use mathlib.Core.Bool.{Bool, true, false}
-use mathlib.Core.List.{List, [], _∷_, _++_}
+use mathlib.Core.List.{List, [], _++_}
 use Prim.Native.Nat.{ℕ, _+_, _*_}
 use lib.Dec.{leb, eqb}
 use lib.ListN.{length, drop, replicate}
@@ -9,8 +9,7 @@ use Rattle.layout.specs.Bytes.{numAt}
 use Rattle.layout.specs.Layout.{readAt}
 use Rattle.layout.specs.Rows.{rowsAt}
 use Rattle.codes.specs.Says.{Says, says, pick}
-use Rattle.records.specs.Records.{jackInfo, pcmInfo, channelMap}
-use Rattle.records.specs.BackLaws.{jackInfoOf, pcmInfoOf, channelMapOf}
+use Rattle.records.specs.Records.{jackInfo, pcmInfo, channelMap, jackInfoOf, pcmInfoOf, channelMapOf}
 use Rattle.records.specs.declared.info.JackInfo.{JackInfo}
 use Rattle.records.specs.declared.info.PcmInfo.{PcmInfo}
 use Rattle.records.specs.declared.info.ChannelMap.{ChannelMap}
@@ -46,7 +45,7 @@ saysVerdict TooMany = says 5 []
 saysVerdict BadLength = says 10 []
 saysVerdict Failed = says 7 []
 
--- ---- the records: "the records at 4 + i × size", over what the table held; past its count a table is as it was, and is not looked at
+-- ---- the records, at 4 + i × size, over what the table held; past its count a table is as it was, and is not looked at
 
 -- the record at a place of a page, by the layout of `records`
 unfoldable pub jackAt : ℕ → List ℕ → JackInfo

@@ -1,6 +1,7 @@
 // What is known of an answer, before any record of it is read.
 ghost use mathlib.Core.Path.{_≡_};
 ghost use Rattle.tables.specs.Tables.{judged, isGood};
+use codes::StatusCode;
 
 // A status that is not ok is kept.
 pub enum Verdict {
@@ -25,7 +26,7 @@ pub fn judge(page: &[u8], count: u32, size: u32) -> Verdict
     if page.len() != PAGE {
         return Verdict::BadLength;
     }
-    if status != 0x8000 {
+    if status != StatusCode::OK {
         return Verdict::Status(status);
     }
     if 4096 < bytes {

@@ -1,5 +1,5 @@
 -- `layout::put_u32` meets its contract: past the end, within the slice, or across its end. Assumes nothing.
-use mathlib.Core.Path.{refl, sym, ap, _∙_}
+use mathlib.Core.Path.{sym, ap, _∙_}
 use lib.ListN.{take}
 use lib.Seq.{sets}
 use Rattle.layout.specs.Bytes.{le}

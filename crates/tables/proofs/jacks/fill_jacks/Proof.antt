@@ -1,11 +1,10 @@
 -- `tables::jacks::fill_jacks` meets its contract by the law of the loops that fill a table. Assumes nothing.
 use mathlib.Core.Path.{_≡_, sym, ap, _∙_}
-use Prim.Native.Nat.{_≤_, _<_, _+_, _*_, _-_}
+use Prim.Native.Nat.{_≤_, _+_, _*_, _-_}
 use native.Mathlib.Omega.{arith}
 use lib.ListN.{length}
 use borrow.Author.Needs.{needs}
-use Rattle.records.specs.BackLaws.{jackInfoOf}
-use Rattle.records.specs.Records.{jackInfo, saysJackInfo}
+use Rattle.records.specs.Records.{jackInfo, saysJackInfo, jackInfoOf}
 use Rattle.tables.specs.Tables.{jackAt, filled}
 use Rattle.tables.specs.TablesLaws.{row-is, row-never, fill-none, fill-more}
 use Rattle.tables.proofs.jacks.fill_jacks.Statement.{statement}

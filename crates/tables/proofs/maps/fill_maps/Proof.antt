@@ -1,11 +1,10 @@
 -- `tables::maps::fill_maps` meets its contract by the law of the loops that fill a table. Assumes nothing.
 use mathlib.Core.Path.{_≡_, sym, ap, _∙_}
-use Prim.Native.Nat.{_≤_, _<_, _+_, _*_, _-_}
+use Prim.Native.Nat.{_≤_, _+_, _*_, _-_}
 use native.Mathlib.Omega.{arith}
 use lib.ListN.{length}
 use borrow.Author.Needs.{needs}
-use Rattle.records.specs.BackLaws.{channelMapOf}
-use Rattle.records.specs.Records.{channelMap, saysChannelMap}
+use Rattle.records.specs.Records.{channelMap, saysChannelMap, channelMapOf}
 use Rattle.tables.specs.Tables.{mapAt, filled}
 use Rattle.tables.specs.TablesLaws.{row-is, row-never, fill-none, fill-more}
 use Rattle.tables.proofs.maps.fill_maps.Statement.{statement}
