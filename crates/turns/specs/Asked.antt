@@ -109,3 +109,7 @@ pub record Accounted (period : ℕ) (frames : List ℕ) (said : Said) (track : T
 abbrev pub Carried : ℕ → List ℕ → Ran Ring → Type 0
 Carried period frames h = (i : ℕ) → length (frees (h .log)) ≤ i → i < length (sends (h .log))
     → getD (h .at .slots) (i % 32) blankSlot ≡ record { offset = i * period; len = spanOf period (length frames) (i * period) }
+
+-- no more than ten in flight when a turn looks at its reading
+abbrev pub Ten : Line → Type 0
+Ten line = line .waiting ≤ 10

@@ -1,17 +1,16 @@
 -- The calls on a ring, with their refusals: a turn, a drain turn, the start of a transfer, and what the next turn submits.
 -- Assumes nothing.
-use mathlib.Core.Bool.{Bool, true, false, _&&_, _||_, not}
+use mathlib.Core.Bool.{Bool, true, _&&_, _||_, not}
 use mathlib.Core.List.{List, [], _∷_}
 use Prim.Native.Nat.{ℕ}
 use lib.Dec.{ltb, eqb}
-use lib.ListN.{length, getD, set}
-use Rattle.codes.specs.Says.{Says, says, pick, guard}
+use lib.ListN.{set}
+use Rattle.codes.specs.Says.{guard, Says, says}
 use Rattle.codes.specs.declared.answers.Answer.{Answer}
 use Rattle.codes.specs.declared.answers.Answer.the-variants.{Ok, WrongToken}
 use Rattle.codes.specs.declared.answers.Refusal.{Refusal}
 use Rattle.codes.specs.declared.answers.Refusal.the-variants.{InvalidParam, Busy, OutOfTurns, BadLength}
 use Rattle.turns.specs.Cut.{payload}
-use Rattle.turns.specs.Ring.{blankSlot, free}
 use Rattle.turns.specs.Rules.{chooseOf, sentOf, judgeOf, release, turnOf, countedOf}
 use Rattle.turns.specs.Consistent.{consistentOf}
 use Rattle.turns.specs.declared.ring.Slot.{Slot}
@@ -31,6 +30,7 @@ use Rattle.turns.specs.declared.rules.Verdict.{Verdict}
 use Rattle.turns.specs.declared.rules.Verdict.the-variants.{Stranger, Good, Bad}
 use Rattle.turns.specs.declared.calls.Offer.{Offer}
 use Rattle.turns.specs.declared.calls.Offer.the-variants as offer
+use Rattle.codes.specs.Answers.{saysRefusal}
 
 -- a refusal changes nothing; an answer that frees nothing changes nothing either
 abbrev pub refusedOf : Refusal → Track → Step
@@ -137,3 +137,12 @@ offerCall least t len =
 abbrev pub shownBy : {A : Type 0} → Offer → List A → List A
 shownBy (offer.Is sent) frames = payload frames sent
 shownBy (offer.Refused r) frames = []
+
+-- what the next turn submits: 1, slot, offset and length; or four zeros
+abbrev pub saysSent : Sent → Says
+saysSent Nothing = says 0 (0 ∷ 0 ∷ 0 ∷ 0 ∷ [])
+saysSent (Period slot offset len) = says 0 (1 ∷ slot ∷ offset ∷ len ∷ [])
+
+abbrev pub saysOffer : Offer → Says
+saysOffer (offer.Is sent) = saysSent sent
+saysOffer (offer.Refused r) = saysRefusal r

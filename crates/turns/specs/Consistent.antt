@@ -1,7 +1,7 @@
 -- The consistency test of a ring: what calls leave never fails it.
 -- Assumes nothing.
 use mathlib.Core.Bool.{Bool, _&&_, _||_, not}
-use Prim.Native.Nat.{ℕ, _+_, _*_, _%_}
+use Prim.Native.Nat.{_+_, _*_, _%_}
 use lib.Dec.{ltb, leb, eqb}
 use Rattle.turns.specs.declared.ring.Track.{Track}
 

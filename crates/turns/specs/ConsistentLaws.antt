@@ -1,20 +1,14 @@
 -- What the consistency test says of a track, as facts, and back.
 -- Assumes nothing.
-use Prim.Native.Nat.{ℕ, _+_, _*_, _%_, _≤_, _<_}
+use Prim.Native.Nat.{_+_, _*_, _%_, _≤_, _<_}
 use native.Mathlib.Omega.{arith}
-use mathlib.Core.Path.{_≡_, refl, sym, ap, _∙_}
+use mathlib.Core.Path.{_≡_, refl, sym}
 use mathlib.Core.Bool.{Bool, true, false, _&&_, _||_, not, false≢true}
-use lib.Dec.{ltb, leb, eqb}
+use lib.Dec.{ltb, eqb}
 use borrow.Author.Tests.{lt-ltb, ltb-true, le-leb, leb-true, eq-eqb, eqb-true}
 use Rattle.turns.specs.Consistent.{placedOf, pacedOf, consistentOf}
 use Rattle.turns.specs.declared.ring.Track.{Track}
-
-pub record Placed (t : Track) : Type 0 where
-  pub direct : t .per ≡ 3
-  pub head-in : t .head < 32
-  pub tail-in : t .tail < 32
-  pub room : t .held * t .per ≤ 32
-  pub line : (t .tail + t .held) % 32 ≡ t .head
+use Rattle.turns.specs.Steps.{Placed}
 
 pub record Paced (t : Track) : Type 0 where
   pub within : t .next ≤ t .total

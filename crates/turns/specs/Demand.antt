@@ -12,10 +12,10 @@ use Rattle.turns.specs.Cut.{cut}
 use Rattle.turns.specs.Calls.{refusedOf, turnCall, drainCall, startCall, turnedOf, startedOf, offerCall}
 use Rattle.turns.specs.Log.{hosted, sends, frees}
 use Rattle.turns.specs.Script.{scriptOf, transferOf}
-use Rattle.turns.specs.Asked.{starts, plays, All, Right, Every, Idle, Whole, Accounted, Carried}
+use Rattle.turns.specs.Asked.{starts, plays, All, Right, Every, Idle, Whole, Accounted, Carried, Ten}
 use Rattle.turns.specs.HostLaws.{goes}
 use Rattle.turns.specs.RefusalLaws.{turn-refused, drain-refused, start-refused, ring-untouched, offered}
-use Rattle.turns.specs.DemandLaws.{Ten, loop-length, plays-in-time, plays-only-if, plays-accounted, plays-ends, plays-ten, plays-carried, script-plays, script-ok, script-within}
+use Rattle.turns.specs.DemandLaws.{loop-length, plays-in-time, plays-only-if, plays-accounted, plays-ends, plays-ten, plays-carried, script-plays, script-ok, script-within, script-answers}
 use Rattle.turns.specs.declared.ring.Track.{Track}
 use Rattle.turns.specs.declared.ring.Ring.{Ring}
 use Rattle.turns.specs.declared.ring.Sent.{Sent}
@@ -64,6 +64,10 @@ ok-only-if-script r stream period budget frames bytes ok =
 pub turns-within-budget : (r : Ring) (stream period budget : ℕ) (frames bytes : List ℕ) (script : List Reading)
     → (length (plays 3 r stream period budget frames script .log) ≤ budget) × (transferOf 3 r stream (length frames) period budget bytes .turns ≤ budget)
 turns-within-budget r stream period budget frames bytes script = (loop-length _ budget _ script, script-within 3 r stream period budget frames bytes)
+
+-- a transfer over a script comes to an answer
+pub always-answers-script : (r : Ring) (stream period budget : ℕ) (frames bytes : List ℕ) → transferOf 3 r stream (length frames) period budget bytes .said ≡ Going → ⊥
+always-answers-script r stream period budget frames bytes = script-answers 3 r stream period budget frames bytes (omega arith)
 
 -- ---- of a start that goes on, and the turns after it. A line of the log submits one period at most by its type: `sent` is Nothing or a Period
 module _ (r : Ring) (stream period budget : ℕ) (frames : List ℕ) (script : List Reading) (began : starts r stream period budget frames .said ≡ Going) where

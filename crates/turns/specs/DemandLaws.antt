@@ -10,18 +10,20 @@ use borrow.Author.Tests.{eq-eqb}
 use Rattle.codes.specs.SaysLaws.{passes, guarded-by}
 use Rattle.codes.specs.declared.answers.Answer.the-variants.{Ok}
 use Rattle.codes.specs.declared.answers.Refusal.{Refusal}
+use Rattle.codes.specs.declared.answers.Refusal.the-variants.{BadLength}
 use Rattle.turns.specs.Cut.{cut, spanOf}
 use Rattle.turns.specs.Ring.{blankSlot}
 use Rattle.turns.specs.Rules.{chooseOf}
 use Rattle.turns.specs.RuleLaws.{Chosen, chosen}
-use Rattle.turns.specs.ConsistentLaws.{Placed, Consistent}
+use Rattle.turns.specs.ConsistentLaws.{Consistent}
+use Rattle.turns.specs.Steps.{Placed}
 use Rattle.turns.specs.Calls.{begun, startCall, carry, ringAfter}
 use Rattle.turns.specs.Script.{scriptOf, doneOf, transferBy, transferOf}
 use Rattle.turns.specs.Log.{Line, Ran, onward, waitingBy, firstOf, restOf, loop, Told, ruled, run, called, hosted, sends}
-use Rattle.turns.specs.Asked.{starts, plays, All, Accounted, Carried}
+use Rattle.turns.specs.Asked.{starts, plays, All, Accounted, Carried, Ten}
 use Rattle.turns.specs.KeepLaws.{Fit, fit-of, fit-submit}
 use Rattle.turns.specs.PassLaws.{start-keeps}
-use Rattle.turns.specs.HostLaws.{seen, Runs, runs-on, link, Ends, run-ends, Begins, begins}
+use Rattle.turns.specs.HostLaws.{seen, Runs, runs-on, link, Ends, run-ends, Begins, begins, never}
 use Rattle.turns.specs.OwedLaws.{host-carries, carries-at}
 use Rattle.turns.specs.RunLaws.{InTime, OnlyIf, run-in-time, run-only-if, run-accounted}
 use Rattle.turns.specs.declared.ring.Track.{Track}
@@ -56,9 +58,6 @@ waits-ten : (least : ℕ) (t : Track) (c : Choice) → Chosen least t c → 3 �
 waits-ten least t Submit ch le f = ten _ (fit-submit least t le (ch .0) (ch .1) f .placed)
 waits-ten least t Finish ch le f = omega arith
 waits-ten least t Wait ch le f = ten t (f .placed)
-
-abbrev pub Ten : Line → Type 0
-Ten line = line .waiting ≤ 10
 
 onward-ten : (said : Said) (line : Line) (t : Track) (rest : Ran Track) → Ten line → (said ≡ Going → All Ten (rest .log)) → All Ten (onward said line t rest .log)
 onward-ten Going line t rest h k = (h, k refl)
@@ -158,6 +157,16 @@ module _ (least : ℕ) (r : Ring) (stream period budget : ℕ) (frames bytes : L
   pub script-within : transferOf least r stream (length frames) period budget bytes .turns ≤ budget
   unfolding transferOf
   script-within = guarded-by (λ (d : Done). d .turns ≤ budget) _ _ _ (λ _. script-turns (starts r stream period budget frames .said) (starts r stream period budget frames .ring)) (λ _. omega arith)
+
+  answers-by : 3 ≤ least → (said : Said) → starts r stream period budget frames .said ≡ said
+      → transferBy said least (length frames) budget (starts r stream period budget frames .ring) (scriptOf bytes) .said ≡ Going → ⊥
+  answers-by le Going e p = plays-ends least r stream period budget frames (scriptOf bytes) le e budget .answered (omega arith) p
+  answers-by le (Ended a) e p = let z : _≡_ {A = ℕ} 0 1 = cc in omega arith
+  answers-by le (Refused x) e p = never x p
+
+  pub script-answers : 3 ≤ least → transferOf least r stream (length frames) period budget bytes .said ≡ Going → ⊥
+  unfolding transferOf
+  script-answers le = guarded-by (λ (d : Done). d .said ≡ Going → ⊥) _ _ _ (λ _. answers-by le (starts r stream period budget frames .said) refl) (λ _. never BadLength)
 
   keeps-by : 3 ≤ least → Consistent (r .track) → (said : Said) → starts r stream period budget frames .said ≡ said
       → Consistent (transferBy said least (length frames) budget (starts r stream period budget frames .ring) (scriptOf bytes) .ring .track)

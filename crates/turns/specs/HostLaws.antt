@@ -118,10 +118,6 @@ run-ends least len (suc fuel) t script le r =
     (turn-keeps least t (firstOf script) le (r .consistent) (r .running))
     (λ e. run-ends least len fuel (s .left) (restOf script) le (runs-on least len t (firstOf script) le r e))
 
--- THE HOST'S LOOP likewise
-pub host-ends : (least len fuel : ℕ) (r : Ring) (script : List Reading) → 3 ≤ least → Runs len (r .track) → Ends fuel (r .track) (seen (λ (x : Ring). x .track) (hosted least len fuel r script))
-host-ends least len fuel r script le i = subst (Ends fuel (r .track)) (sym (link least len fuel r script le i)) (run-ends least len fuel (r .track) script le i)
-
 -- ---- THE START of a transfer
 
 -- a start that goes on has begun a transfer
@@ -130,7 +126,7 @@ pub record Begins (t : Track) (stream total period budget : ℕ) (s : Step) : Ty
   pub sent : s .sent ≡ Nothing
   pub runs : Runs total (begun t stream total period budget)
 
-never : (x : Refusal) → Refused x ≡ Going → ⊥
+pub never : (x : Refusal) → Refused x ≡ Going → ⊥
 never x e = let z : _≡_ {A = ℕ} 0 1 = cc in omega arith
 
 pub begins : (t : Track) (stream total period budget : ℕ) → startCall t stream total period budget .said ≡ Going → Begins t stream total period budget (startCall t stream total period budget)

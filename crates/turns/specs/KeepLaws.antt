@@ -7,7 +7,8 @@ use mathlib.Core.Bool.{Bool, true, false, false≢true}
 use Rattle.turns.specs.Ring.{free}
 use Rattle.turns.specs.Rules.{chooseOf, submit, sentOf, release, hear, act, turnOf, ticked, countedOf}
 use Rattle.turns.specs.RuleLaws.{Chosen, chosen}
-use Rattle.turns.specs.ConsistentLaws.{Placed, Consistent}
+use Rattle.turns.specs.ConsistentLaws.{Consistent}
+use Rattle.turns.specs.Steps.{Placed}
 use Rattle.turns.specs.CaseLaws.{Plain, hear-cases, counted-cases}
 use Rattle.turns.specs.declared.ring.Track.{Track}
 use Rattle.turns.specs.declared.ring.Step.{Step}

@@ -8,9 +8,11 @@ pub mod Log
 pub mod Script
 pub mod Reads
 pub mod InPlace
+pub mod Steps
 pub mod Asked
 -- theorems
 pub mod Demand
+pub mod Drained
 pub mod Worked
 -- laws
 pub mod CutLaws

@@ -2,13 +2,11 @@
 -- Assumes nothing.
 use mathlib.Core.List.{List, [], _∷_}
 use Prim.Native.Nat.{ℕ, zero, suc, _+_}
-use lib.ListN.{length}
 use Rattle.turns.specs.Rules.{chooseOf, turnOf, countedOf}
-use Rattle.turns.specs.Calls.{turnCall, turnedOf, startCall, startedOf}
+use Rattle.turns.specs.Calls.{turnCall, turnedOf}
 use Rattle.turns.specs.declared.ring.Track.{Track}
 use Rattle.turns.specs.declared.ring.Ring.{Ring}
 use Rattle.turns.specs.declared.ring.Step.{Step}
-use Rattle.turns.specs.declared.ring.Turned.{Turned}
 use Rattle.turns.specs.declared.ring.Sent.{Sent}
 use Rattle.turns.specs.declared.ring.Sent.the-variants.{Nothing, Period}
 use Rattle.turns.specs.declared.ring.Heard.{Heard}
@@ -16,7 +14,7 @@ use Rattle.turns.specs.declared.ring.Heard.the-variants.{Silent, Freed}
 use Rattle.turns.specs.declared.ring.Said.{Said}
 use Rattle.turns.specs.declared.ring.Said.the-variants.{Going, Ended, Refused}
 use Rattle.turns.specs.declared.reading.Reading.{Reading}
-use Rattle.turns.specs.declared.reading.Reading.the-variants.{Quiet, Completed}
+use Rattle.turns.specs.declared.reading.Reading.the-variants.{Quiet}
 use Rattle.turns.specs.declared.rules.Choice.{Choice}
 use Rattle.turns.specs.declared.rules.Choice.the-variants.{Submit, Finish, Wait}
 

@@ -1,11 +1,10 @@
--- The ring: a new one, and what its reads say.
+-- The ring: a new one, the next slot, free descriptors, and what a turn says.
 -- Assumes nothing.
-use mathlib.Core.Bool.{Bool, true, false}
-use mathlib.Core.List.{List, [], _∷_}
+use mathlib.Core.Bool.{false}
+use mathlib.Core.List.{[]}
 use Prim.Native.Nat.{ℕ, _+_, _-_, _*_, _%_}
-use lib.Dec.{ltb, eqb}
-use lib.ListN.{getD, replicate}
-use Rattle.codes.specs.Says.{Says, says, pick}
+use lib.ListN.{replicate}
+use Rattle.codes.specs.Says.{Says, says}
 use Rattle.codes.specs.Answers.{saysAnswer, saysRefusal}
 use Rattle.turns.specs.declared.ring.Slot.{Slot}
 use Rattle.turns.specs.declared.ring.Track.{Track}

@@ -3,8 +3,6 @@
 use mathlib.Core.Bool.{Bool, true, false}
 use Prim.Native.Nat.{ℕ, _+_, _-_}
 use lib.Dec.{ltb, leb, eqb}
-use Rattle.codes.specs.Says.{pick}
-use Rattle.codes.specs.declared.answers.Answer.{Answer}
 use Rattle.codes.specs.declared.answers.Answer.the-variants.{Ok, IoError, WrongToken, OutOfTurns}
 use Rattle.turns.specs.Cut.{spanOf}
 use Rattle.turns.specs.Ring.{after, free}
@@ -12,7 +10,6 @@ use Rattle.turns.specs.declared.ring.Track.{Track}
 use Rattle.turns.specs.declared.ring.Step.{Step}
 use Rattle.turns.specs.declared.ring.Sent.{Sent}
 use Rattle.turns.specs.declared.ring.Sent.the-variants.{Nothing, Period}
-use Rattle.turns.specs.declared.ring.Heard.{Heard}
 use Rattle.turns.specs.declared.ring.Heard.the-variants.{Silent, Freed}
 use Rattle.turns.specs.declared.ring.Said.{Said}
 use Rattle.turns.specs.declared.ring.Said.the-variants.{Going, Ended, Refused}

@@ -1,7 +1,6 @@
 -- A script of readings as bytes, and a transfer over one.
 -- Assumes nothing.
-use mathlib.Core.Bool.{Bool}
-use mathlib.Core.List.{List, [], _∷_}
+use mathlib.Core.List.{List}
 use Prim.Native.Nat.{ℕ, _+_, _/_, _%_}
 use lib.Dec.{eqb}
 use lib.ListN.{length}
@@ -12,7 +11,6 @@ use Rattle.codes.specs.declared.answers.Refusal.the-variants.{BadLength}
 use Rattle.turns.specs.Calls.{startCall, startedOf}
 use Rattle.turns.specs.Log.{Ran, hosted}
 use Rattle.turns.specs.declared.ring.Ring.{Ring}
-use Rattle.turns.specs.declared.ring.Turned.{Turned}
 use Rattle.turns.specs.declared.ring.Said.{Said}
 use Rattle.turns.specs.declared.ring.Said.the-variants.{Going, Ended, Refused}
 use Rattle.turns.specs.declared.reading.Reading.{Reading}

@@ -18,12 +18,9 @@ use Rattle.turns.specs.declared.ring.Said.the-variants.{Going, Ended, Re
 use Rattle.turns.specs.declared.reading.Reading.{Reading}
 use Rattle.turns.specs.declared.reading.Reading.the-variants.{Quiet}
 use Rattle.turns.specs.declared.script.Done.{Done}
+use Rattle.turns.specs.Steps.{scriptFrom}
 
 -- ---- the script
-
--- what is left of a script after n readings
-unfoldable pub scriptFrom : ℕ → List ℕ → List Reading
-scriptFrom n bytes = rowsAt readingAt 12 (n * 12) (length bytes / 12 - n) bytes
 
 script-more : (n k : ℕ) (bytes : List ℕ) → length bytes / 12 - n ≡ suc k → scriptFrom n bytes ≡ readingAt (n * 12) bytes ∷ scriptFrom (suc n) bytes
 unfolding scriptFrom rowsAt

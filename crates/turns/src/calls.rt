@@ -23,7 +23,7 @@ use codes::Answer;
 use codes::Refusal;
 
 // The least room that a submission needs, with direct descriptors.
-pub const LEAST: usize = 3;
+const LEAST: usize = 3;
 
 // What the next turn submits, or why it would be refused.
 pub enum Offer {
@@ -63,8 +63,8 @@ fn length_agrees(t: Track, len: usize) -> bool
 }
 
 // A turn of the track, lent frames of some length.
-pub fn turn_track(least: usize, t: Track, len: usize, reading: Reading) -> Step
-    ensures { λ r. ⌜ r ≡ turnCall least t len reading ⌝ }
+pub fn turn_track(t: Track, len: usize, reading: Reading) -> Step
+    ensures { λ r. ⌜ r ≡ turnCall 3 t len reading ⌝ }
 {
     let agrees = length_agrees(t, len);
     if !agrees {
@@ -77,7 +77,7 @@ pub fn turn_track(least: usize, t: Track, len: usize, reading: Reading) -> Step
     if !t.running {
         return refused(Refusal::InvalidParam, t);
     }
-    let s = rules::step(least, t, reading);
+    let s = rules::step(LEAST, t, reading);
     rules::counted(s)
 }
 
@@ -235,7 +235,7 @@ fn turned(r: Ring, s: Step) -> Turned
 pub(crate) fn turn_of(r: Ring, len: usize, reading: Reading) -> Turned
     ensures { λ x. ⌜ x ≡ turnedOf r (turnCall 3 (r .track) len reading) ⌝ }
 {
-    let s = turn_track(LEAST, r.track, len, reading);
+    let s = turn_track(r.track, len, reading);
     turned(r, s)
 }
 
@@ -278,8 +278,8 @@ fn next_sent(choice: Choice, t: Track) -> Sent
 }
 
 // What the next turn of the track submits, or its refusal.
-pub fn offer_track(least: usize, t: Track, len: usize) -> Offer
-    ensures { λ r. ⌜ r ≡ offerCall least t len ⌝ }
+pub fn offer_track(t: Track, len: usize) -> Offer
+    ensures { λ r. ⌜ r ≡ offerCall 3 t len ⌝ }
 {
     let agrees = length_agrees(t, len);
     if !agrees {
@@ -292,7 +292,7 @@ pub fn offer_track(least: usize, t: Track, len: usize) -> Offer
     if !t.running {
         return Offer::Refused(Refusal::InvalidParam);
     }
-    let choice = rules::choose(least, t);
+    let choice = rules::choose(LEAST, t);
     Offer::Is(next_sent(choice, t))
 }
 
@@ -301,7 +301,7 @@ pub fn offer_track(least: usize, t: Track, len: usize) -> Offer
 pub fn next_offer(r: Ring, frames: &[u8]) -> Offer
     ensures { λ x. ⌜ x ≡ offerCall 3 (r .track) (length (now (frames .entry))) ⌝ }
 {
-    offer_track(LEAST, r.track, frames.len())
+    offer_track(r.track, frames.len())
 }
 
 // What there is of len bytes of some frames from an offset on.

@@ -17,6 +17,7 @@ fn placed(t: Track) -> bool
     if 32 <= t.tail {
         return false;
     }
+    // with 3 to a submission, in flight × 3 is at most 32
     if 10 < held {
         return false;
     }

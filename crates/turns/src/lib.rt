@@ -7,7 +7,6 @@ mod ring;
 mod rules;
 mod script;
 
-pub use calls::LEAST;
 pub use calls::Offer;
 pub use calls::drain_track;
 pub use calls::drain_turn;

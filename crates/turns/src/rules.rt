@@ -3,7 +3,7 @@ ghost use mathlib.Core.Path.{_≡_};
 ghost use Prim.Native.Nat.{_+_, _*_, _≤_, _<_};
 ghost use Rattle.turns.specs.Cut.{spanOf};
 ghost use Rattle.turns.specs.Rules.{chooseOf, sentOf, submit, judgeOf, release, settle, hear, turnOf, ticked, countedOf};
-ghost use Rattle.turns.specs.ConsistentLaws.{Placed};
+ghost use Rattle.turns.specs.Steps.{Placed};
 use crate::reading::Reading;
 use crate::ring::Heard;
 use crate::ring::Said;
@@ -11,6 +11,7 @@ use crate::ring::Sent;
 use crate::ring::Step;
 use crate::ring::Track;
 use codes::Answer;
+use codes::StatusCode;
 
 // What rule 1 does.
 pub enum Choice {
@@ -25,9 +26,6 @@ pub enum Verdict {
     Good,
     Bad(Answer),
 }
-
-// The status of a period that was played.
-const PLAYED: u32 = 0x8000;
 
 // The length of the period at an offset.
 fn span(period: usize, total: usize, offset: usize) -> usize
@@ -108,7 +106,7 @@ pub(crate) fn judge(t: Track, slot: u32, status: u32) -> Verdict
     if slot as usize != t.tail {
         return Verdict::Stranger;
     }
-    if status == PLAYED {
+    if status == StatusCode::OK {
         Verdict::Good
     } else {
         Verdict::Bad(Answer::IoError)

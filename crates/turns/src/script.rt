@@ -4,7 +4,7 @@ ghost use Prim.Native.Nat.{_+_, _<_};
 ghost use lib.ListN.{length};
 ghost use Rattle.turns.specs.Log.{firstOf, hosted};
 ghost use Rattle.turns.specs.Script.{readingAt, scriptOf, doneOf, transferOf};
-ghost use Rattle.turns.specs.ScriptLaws.{scriptFrom};
+ghost use Rattle.turns.specs.Steps.{scriptFrom};
 use crate::calls;
 use crate::reading::Reading;
 use crate::ring::Ring;
