@@ -1,9 +1,15 @@
 -- A public function's contract leaves one outcome: any two that it permits, for the same arguments, are equal, in what is returned and in what the
 -- lent message buffer holds. `Post` is the contract itself, as Rattle reads it off the source, so no statement here repeats a clause.
 -- Assumes nothing.
-use mathlib.Core.Path.{_≡_}
+use mathlib.Core.Path.{_≡_, refl}
 use denote.Ref.{now}
-use Rattle.codes.specs.SaysLaws.{same}
+use lib.Dec.{eqb}
+use lib.ListN.{getD}
+use Rattle.codes.specs.Says.{Says, pick}
+use Rattle.codes.specs.SaysLaws.{same, one}
+use Rattle.exchange.specs.Consistent.{saysConfigured}
+use Rattle.exchange.specs.declared.state.Configured.{Configured}
+use Rattle.exchange.specs.declared.state.Configured.the-variants as configured
 use Rattle.exchange.proofs.state.Sound.new.Reads as new
 use Rattle.exchange.proofs.state.Sound.jacks.Reads as jacks
 use Rattle.exchange.proofs.state.Sound.streams.Reads as streams
@@ -37,14 +43,22 @@ use Rattle.exchange.proofs.xfer.pcm_xfer.Reads as pcm-xfer
 pub new-one : (κs : _) (a : _) (r₁ r₂ : _) (e₁ e₂ : _) → new.Post κs a r₁ e₁ → new.Post κs a r₂ e₂ → r₁ ≡ r₂
 new-one κs a r₁ r₂ e₁ e₂ p q = same p q
 
+unConfigured : Says → Configured
+unConfigured s = pick (eqb (s .number) 0) (configured.Is (getD (s .values) 0 0)) configured.InvalidParam
+
+un-configured : (r : Configured) → unConfigured (saysConfigured r) ≡ r
+unfolding unConfigured
+un-configured (configured.Is n) = refl
+un-configured configured.InvalidParam = refl
+
 pub jacks-one : (κs : _) (a : _) (r₁ r₂ : _) (e₁ e₂ : _) → jacks.Post κs a r₁ e₁ → jacks.Post κs a r₂ e₂ → r₁ ≡ r₂
-jacks-one κs a r₁ r₂ e₁ e₂ p q = same p q
+jacks-one κs a r₁ r₂ e₁ e₂ p q = one saysConfigured unConfigured un-configured p q
 
 pub streams-one : (κs : _) (a : _) (r₁ r₂ : _) (e₁ e₂ : _) → streams.Post κs a r₁ e₁ → streams.Post κs a r₂ e₂ → r₁ ≡ r₂
-streams-one κs a r₁ r₂ e₁ e₂ p q = same p q
+streams-one κs a r₁ r₂ e₁ e₂ p q = one saysConfigured unConfigured un-configured p q
 
 pub chmaps-one : (κs : _) (a : _) (r₁ r₂ : _) (e₁ e₂ : _) → chmaps.Post κs a r₁ e₁ → chmaps.Post κs a r₂ e₂ → r₁ ≡ r₂
-chmaps-one κs a r₁ r₂ e₁ e₂ p q = same p q
+chmaps-one κs a r₁ r₂ e₁ e₂ p q = one saysConfigured unConfigured un-configured p q
 
 pub consistent-one : (κs : _) (a : _) (r₁ r₂ : _) (e₁ e₂ : _) → consistent.Post κs a r₁ e₁ → consistent.Post κs a r₂ e₂ → r₁ ≡ r₂
 consistent-one κs a r₁ r₂ e₁ e₂ p q = same p q

@@ -1,9 +1,10 @@
 -- The consistency test of a state, on its core: what calls leave never fails it. docs/STATE.md says it in words.
 -- Assumes nothing.
 use mathlib.Core.Bool.{Bool, true, false, not, _&&_, _||_}
+use mathlib.Core.List.{[], _∷_}
 use Prim.Native.Nat.{ℕ, _%_}
 use lib.Dec.{leb, ltb, eqb}
-use Rattle.codes.specs.Says.{pick}
+use Rattle.codes.specs.Says.{Says, says, pick, guard}
 use Rattle.exchange.specs.declared.state.Counts.{Counts}
 use Rattle.exchange.specs.declared.state.Params.{Params}
 use Rattle.exchange.specs.declared.state.Call.{Call}
@@ -11,6 +12,8 @@ use Rattle.exchange.specs.declared.state.Call.the-variants.{SetParams, C
 use Rattle.exchange.specs.declared.state.Stage.{Stage}
 use Rattle.exchange.specs.declared.state.Stage.the-variants.{Idle, JacksAsked, StreamsAsked, MapsAsked, Sent}
 use Rattle.exchange.specs.declared.state.Core.{Core}
+use Rattle.exchange.specs.declared.state.Configured.{Configured}
+use Rattle.exchange.specs.declared.state.Configured.the-variants as configured
 
 -- "period 0, period above buffer, or buffer not a multiple of period gives 1"
 abbrev pub periodOk : ℕ → ℕ → Bool
@@ -82,3 +85,12 @@ paramsOk p = eqb (p .known) 0 || (numbersOk p && periodOk (p .buffer) (p .period
 
 unfoldable pub streamOk : Core → Params → ℕ → Bool
 streamOk c p stream = not (c .ready && ltb stream (c .counts .streams)) || paramsOk p
+
+-- ---- a configured count: no set-up, never Busy; a state that fails the test tells none
+
+abbrev pub saysConfigured : Configured → Says
+saysConfigured (configured.Is n) = says 0 (n ∷ [])
+saysConfigured configured.InvalidParam = says 1 []
+
+abbrev pub configuredOf : Core → ℕ → Says
+configuredOf c n = guard (consistentOf c) (says 0 (n ∷ [])) (says 1 [])

@@ -16,6 +16,7 @@ use Rattle.exchange.specs.declared.state.Call.the-variants.{SetParams}
 use Rattle.exchange.specs.declared.state.Stage.{Stage}
 use Rattle.exchange.specs.declared.state.Stage.the-variants.{Idle, JacksAsked, StreamsAsked, MapsAsked, Sent}
 use Rattle.exchange.specs.declared.state.Core.{Core}
+use Rattle.exchange.specs.Feed.{asking}
 
 pub both-of : (a b : Bool) → a ≡ true → b ≡ true → (a && b) ≡ true
 both-of a b p q = rw (p, q)
@@ -57,14 +58,6 @@ same-false false e = refl
 
 pub ready-sent : (c : Core) (call : Call) → At c (Sent call) → c .ready ≡ true
 ready-sent c call a = same-true (c .ready) (a .done)
-
--- a query of set-up is out
-abbrev pub asking : Stage → Bool
-asking Idle = false
-asking (JacksAsked call) = true
-asking (StreamsAsked call) = true
-asking (MapsAsked call) = true
-asking (Sent call) = false
 
 pub not-ready : (c : Core) (g : Stage) → At c g → asking g ≡ true → c .ready ≡ false
 not-ready c Idle a e = absurd (false≢true e)

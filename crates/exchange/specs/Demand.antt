@@ -102,6 +102,11 @@ ok-only-if-script s r stream budget m frames bytes =
     script-by (λ x. x .reply ≡ Says (Ended Ok) → Whole stream (periodOf s stream) frames (plays 3 r stream (periodOf s stream) budget frames (scriptOf bytes) .log)) s r stream (length frames) budget m
     (λ _ e. absurd (wrong (cc))) (λ _ _ _ e. absurd (wrong (cc))) bytes (λ e. turns.ok-only-if-script r stream (periodOf s stream) budget frames bytes (says-said e))
 
+pub always-answers-script : (s : Sound) (r : Ring) (stream budget m : ℕ) (frames bytes : List ℕ) → xferOf s r stream (length frames) budget bytes m .reply ≡ Says Going → ⊥
+always-answers-script s r stream budget m frames bytes =
+    script-by (λ x. x .reply ≡ Says Going → ⊥) s r stream (length frames) budget m (λ _ e. wrong (cc)) (λ _ _ _ e. wrong (cc)) bytes
+    (λ e. turns.always-answers-script r stream (periodOf s stream) budget frames bytes (says-said e))
+
 pub turns-within-budget : (s : Sound) (r : Ring) (stream budget m : ℕ) (frames bytes : List ℕ) → xferOf s r stream (length frames) budget bytes m .turns ≤ budget
 turns-within-budget s r stream budget m frames bytes =
     script-by (λ x. x .turns ≤ budget) s r stream (length frames) budget m (λ _. omega arith) (λ _ _ _. omega arith) bytes (turns.turns-within-budget r stream (periodOf s stream) budget frames bytes [] .1)

@@ -1,6 +1,7 @@
 -- The calls and feeds on the state: what is answered, what the state is then, and what the lent message buffer holds.
 -- Assumes nothing.
-use mathlib.Core.Bool.{Bool, true, false, _&&_}
+use mathlib.Core.Path.{_≡_}
+use mathlib.Core.Bool.{_&&_}
 use mathlib.Core.List.{List, [], _∷_, _++_}
 use Prim.Native.Nat.{ℕ, suc, _+_, _-_}
 use lib.Dec.{leb, eqb}
@@ -15,7 +16,6 @@ use Rattle.tables.specs.declared.verdict.Verdict.the-variants.{Failed}
 use Rattle.turns.specs.declared.ring.Track.{Track}
 use Rattle.exchange.specs.Plan.{keepOf, lookOf, beginOf, answerOf, verdictBy, pendingLook, soundAfter}
 use Rattle.exchange.specs.declared.state.Call.{Call}
-use Rattle.exchange.specs.declared.state.Core.{Core}
 use Rattle.exchange.specs.declared.state.Sound.{Sound}
 use Rattle.exchange.specs.declared.plan.Request.{Request}
 use Rattle.exchange.specs.declared.plan.Request.the-variants as request
@@ -97,6 +97,10 @@ stepOf p s page =
       reply = replyOf (p .say);
       streams = listOf (p .say) (p .core .read .streams) (s .pcms);
     }
+
+-- what a call or a feed returns, and what it leaves in the message buffer: m before, n after
+abbrev pub Stepped : Plan → Sound → List ℕ → List ℕ → List ℕ → Step → Type 0
+Stepped p s page m n r = (r ≡ stepOf p s page) × (n ≡ messageAfter (p .say) m)
 
 -- A CALL, with a ring that tells whether a transfer runs or a slot is in flight, and a message buffer of n bytes
 unfoldable pub callOf : Sound → Track → Call → ℕ → Plan

@@ -1,8 +1,8 @@
 -- A feed of either kind, a page or a queue failure, so that each theorem is stated once: "The caller then feeds the 4,096-byte answer page or a queue failure."
 -- Assumes nothing.
 use mathlib.Core.Path.{_≡_}
-use mathlib.Core.Bool.{Bool, _&&_}
-use mathlib.Core.List.{List, []}
+use mathlib.Core.Bool.{Bool, _&&_, true, false}
+use mathlib.Core.List.{List, [], _∷_}
 use Prim.Native.Nat.{ℕ, _≤_}
 use lib.Dec.{leb, eqb}
 use lib.ListN.{length}
@@ -13,6 +13,11 @@ use Rattle.exchange.specs.Exchange.{stepOf, feedOf, failOf}
 use Rattle.exchange.specs.declared.state.Sound.{Sound}
 use Rattle.exchange.specs.declared.plan.Plan.{Plan}
 use Rattle.exchange.specs.declared.calls.Step.{Step}
+use mathlib.Core.Logic.{_⊎_}
+use Rattle.exchange.specs.declared.state.Call.{Call}
+use Rattle.exchange.specs.declared.state.Call.the-variants.{SetParams, Command, Remap, Streams, Supported, Xfer}
+use Rattle.exchange.specs.declared.state.Stage.{Stage}
+use Rattle.exchange.specs.declared.state.Stage.the-variants.{Idle, JacksAsked, StreamsAsked, MapsAsked, Sent}
 
 -- a page, or a failure; with a message buffer of n bytes
 pub data Feed : Type 0 where
@@ -43,3 +48,33 @@ longOf (failed n) = leb 24 n
 abbrev pub Long : Feed → Type 0
 Long (paged bytes n) = (length bytes ≡ 4096) × (24 ≤ n)
 Long (failed n) = 24 ≤ n
+
+-- a number of a list
+abbrev pub One : ℕ → List ℕ → Type 0
+One n [] = ⊥
+One n (x ∷ xs) = (n ≡ x) ⊎ One n xs
+
+-- with what a call may be refused once set-up is done
+abbrev pub ownRefusals : Call → List ℕ
+ownRefusals (SetParams stream to) = 1 ∷ []
+ownRefusals (Command kind stream) = []
+ownRefusals (Remap jack association sequence) = 1 ∷ 3 ∷ 4 ∷ []
+ownRefusals (Streams direction) = []
+ownRefusals (Supported field stream) = 1 ∷ []
+ownRefusals (Xfer stream) = 1 ∷ 2 ∷ []
+
+-- a query of set-up is out
+abbrev pub asking : Stage → Bool
+asking Idle = false
+asking (JacksAsked call) = true
+asking (StreamsAsked call) = true
+asking (MapsAsked call) = true
+asking (Sent call) = false
+
+-- the call that waits
+abbrev pub callAt : Stage → Call
+callAt Idle = Streams 0
+callAt (JacksAsked call) = call
+callAt (StreamsAsked call) = call
+callAt (MapsAsked call) = call
+callAt (Sent call) = call

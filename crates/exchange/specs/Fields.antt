@@ -16,9 +16,9 @@ use Rattle.exchange.specs.OwnLaws.{Own, tells, refuses}
 use Rattle.exchange.specs.PlanLaws.{begun, fed}
 use Rattle.exchange.specs.Exchange.{callOf}
 use Rattle.exchange.specs.Ends.{waits}
-use Rattle.exchange.specs.ResultLaws.{wrong, callAt, recall, own?, begun-own, Finished, answered-own}
+use Rattle.exchange.specs.ResultLaws.{wrong, recall, own?, begun-own, Finished, answered-own}
 use Rattle.records.specs.declared.info.PcmInfo.{PcmInfo}
-use Rattle.exchange.specs.Feed.{Feed, planOf}
+use Rattle.exchange.specs.Feed.{Feed, planOf, callAt}
 use Rattle.exchange.specs.declared.state.Counts.{Counts}
 use Rattle.exchange.specs.declared.state.Field.{Field}
 use Rattle.exchange.specs.declared.state.Field.the-variants.{Rates, Formats, Channels, Features}

@@ -92,10 +92,17 @@ good-page : (s : Sound) (f : Feed) {call : Call} (n : Counts) → n ≡ s .core 
 good-page s (paged bytes m) n e g h = subst (λ (k : Counts). isGood (judged bytes (k .streams) 32) ≡ true) (sym e) (subst (λ (k : Stage). isGood (verdictBy k (s .core .counts) bytes) ≡ true) g h)
 good-page s (failed m) n e g h = absurd (false≢true h)
 
+-- a good answer to the query of streams, and to no other, makes the table anew
+pub record Refilled (s : Sound) (f : Feed) : Type 0 where
+  pub waits-for : Call
+  pub asked-streams : s .core .stage ≡ StreamsAsked waits-for
+  pub good : isGood (verdictOf s f) ≡ true
+  pub new : Filled (fedOf s f .sound) (pageOf f)
+
 touched : (s : Sound) (f : Feed) (old : List ℕ) → planOf s f .core .counts ≡ s .core .counts → Filled s old → Touch (s .core) (verdictOf s f) (planOf s f .effect)
-    → Filled (fedOf s f .sound) old ⊎ ((isGood (verdictOf s f) ≡ true) × Filled (fedOf s f .sound) (pageOf f))
+    → Filled (fedOf s f .sound) old ⊎ Refilled s f
 touched s f old a h (leaves e) = inl (kept-table (planOf s f .effect) (planOf s f .core) s (pageOf f) old e (ap (λ (m : Counts). m .streams) a) h)
-touched s f old a h (writes g v e) = inr (v, new-table (planOf s f .effect) (planOf s f .core) s (pageOf f) e (good-page s f (planOf s f .core .counts) a g v))
+touched s f old a h (writes {call} g v e) = inr (record { waits-for = call; asked-streams = g; good = v; new = new-table (planOf s f .effect) (planOf s f .core) s (pageOf f) e (good-page s f (planOf s f .core .counts) a g v) })
 
 -- the answer to the query of streams: set-up goes on with it only where it is good
 fed-good : {c : Core} {v : Verdict} {look : ℕ} {long : Bool} {p : Plan} {call : Call} → c .stage ≡ StreamsAsked call → asked (replyOf (p .say)) ≡ 1 → Answered c v look long p
@@ -116,7 +123,7 @@ streams-filled s f call g e =
     let a = fed-good g e (fed s f) in
     new-table (planOf s f .effect) (planOf s f .core) s (pageOf f) (a .1) (good-page s f (planOf s f .core .counts) (fed-stays s f .counts) g (a .0))
 
-pub filled-feed : (s : Sound) (f : Feed) (old : List ℕ) → Filled s old → Filled (fedOf s f .sound) old ⊎ ((isGood (verdictOf s f) ≡ true) × Filled (fedOf s f .sound) (pageOf f))
+pub filled-feed : (s : Sound) (f : Feed) (old : List ℕ) → Filled s old → Filled (fedOf s f .sound) old ⊎ Refilled s f
 filled-feed s f old h = touched s f old (fed-stays s f .counts) h (touch (fed s f))
 
 pub filled-call : (s : Sound) (old : List ℕ) (t : Track) (call : Call) (n : ℕ) → Filled s old → Filled (stepOf (callOf s t call n) s [] .sound) old

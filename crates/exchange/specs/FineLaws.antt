@@ -15,9 +15,9 @@ use Rattle.turns.specs.declared.ring.Track.{Track}
 use Rattle.exchange.specs.State.{withStage}
 use Rattle.exchange.specs.Consistent.{periodOk, callOk, numbersOk, sentOk, behind, exactly, atMost, tablesOk, consistentOf, paramsOk}
 use Rattle.exchange.specs.ConsistentLaws.{At, facts-at, ready-sent, full, exactly-self, atMost-self, ready-tables, sent-facts}
-use Rattle.exchange.specs.Plan.{effectOf, verdictBy}
+use Rattle.exchange.specs.Plan.{effectOf, verdictBy, readTo}
 use Rattle.exchange.specs.OwnLaws.{Own, sets, commands, remaps, lists, tells, refuses, picked-by}
-use Rattle.exchange.specs.PlanLaws.{Begun, bars, asks, goes, begun, readTo, counted, Answered, short, idle, asks-streams, asks-maps, cuts, finishes, ends, fails, fed}
+use Rattle.exchange.specs.PlanLaws.{Begun, bars, asks, goes, begun, counted, Answered, short, idle, asks-streams, asks-maps, cuts, finishes, ends, fails, fed}
 use Rattle.exchange.specs.Exchange.{callOf}
 use Rattle.exchange.specs.Feed.{Feed, paged, failed, planOf, verdictOf}
 use Rattle.exchange.specs.declared.state.Counts.{Counts}

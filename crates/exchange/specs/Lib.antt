@@ -4,7 +4,7 @@ pub mod Consistent
 pub mod Plan
 pub mod Exchange
 pub mod Xfer
-pub mod Asked
+pub mod Steps
 pub mod Feed
 pub mod Kept
 -- theorems

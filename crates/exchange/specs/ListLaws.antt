@@ -1,9 +1,9 @@
 -- The list of streams grows by one stream of the table at a time.
 -- Assumes nothing.
-use mathlib.Core.Path.{_≡_, refl, sym, ap, _∙_}
+use mathlib.Core.Path.{_≡_, sym, ap, _∙_}
 use mathlib.Core.Bool.{Bool, true, false}
 use mathlib.Core.List.{List, [], _∷_, _++_}
-use Prim.Native.Nat.{ℕ, zero, suc, _+_, _-_, _≤_, _<_}
+use Prim.Native.Nat.{ℕ, suc, _+_, _-_, _≤_, _<_}
 use native.Mathlib.Nat.{add-zero, add-suc, suc-add, zero-add}
 use native.Mathlib.Numerals.{add-one}
 use native.Mathlib.Omega.{arith}
@@ -13,11 +13,7 @@ use lib.Seq.{take-suc, set-append-seam, append-snoc, length-take-le, take-all}
 use Rattle.codes.specs.Says.{pick}
 use Rattle.records.specs.declared.info.PcmInfo.{PcmInfo}
 use Rattle.exchange.specs.Exchange.{idsFrom, listed}
-use Rattle.exchange.specs.declared.calls.StreamList.{StreamList}
-
--- one more id
-abbrev pub pushed : StreamList → ℕ → StreamList
-pushed l id = record { count = l .count + 1; ids = set (l .ids) (l .count) id }
+use Rattle.exchange.specs.Steps.{pushed}
 
 pub listed-push : (ids : List ℕ) (x : ℕ) → length ids < 127 → pushed (listed ids) x ≡ listed (ids ++ (x ∷ []))
 listed-push ids x h =

@@ -11,18 +11,18 @@ use lib.ListN.{length, getD, take}
 use lib.Seq.{getD-take, length-take-le}
 use borrow.Author.Tests.{eqb-true, eq-eqb}
 use Rattle.codes.specs.Says.{pick}
-use Rattle.records.specs.BackLaws.{pcmInfoOf}
+use Rattle.records.specs.Records.{pcmInfoOf}
 use Rattle.records.specs.declared.info.PcmInfo.{PcmInfo}
 use Rattle.turns.specs.declared.ring.Track.{Track}
 use Rattle.exchange.specs.ConsistentLaws.{full, ready-tables}
 use Rattle.exchange.specs.Exchange.{idsFrom, listed, listOf, stepOf, callOf}
-use Rattle.exchange.specs.OwnLaws.{One, Own, lists, refuses}
+use Rattle.exchange.specs.OwnLaws.{Own, lists, refuses}
 use Rattle.exchange.specs.PlanLaws.{begun, fed}
 use Rattle.exchange.specs.Kept.{Kept}
 use Rattle.exchange.specs.FineLaws.{Fine, called-fine, fed-fine}
 use Rattle.exchange.specs.Ends.{waits}
-use Rattle.exchange.specs.ResultLaws.{callAt, recall, own?, begun-own, Finished, answered-own}
-use Rattle.exchange.specs.Feed.{Feed, pageOf, planOf, fedOf}
+use Rattle.exchange.specs.ResultLaws.{recall, own?, begun-own, Finished, answered-own}
+use Rattle.exchange.specs.Feed.{Feed, pageOf, planOf, fedOf, One, callAt}
 use Rattle.exchange.specs.StayLaws.{Stays, called-stays, fed-stays}
 use Rattle.exchange.specs.declared.state.Counts.{Counts}
 use Rattle.exchange.specs.declared.state.Call.the-variants.{Streams}

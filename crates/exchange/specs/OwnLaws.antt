@@ -2,8 +2,7 @@
 -- Assumes nothing.
 use mathlib.Core.Path.{_≡_, refl}
 use mathlib.Core.Bool.{Bool, true, false}
-use mathlib.Core.List.{List, [], _∷_}
-use mathlib.Core.Logic.{_⊎_, inl, inr}
+use mathlib.Core.Logic.{inl, inr}
 use Prim.Native.Nat.{ℕ, _<_}
 use lib.Dec.{ltb, eqb}
 use borrow.Author.Tests.{ltb-true, eqb-false}
@@ -26,27 +25,14 @@ use Rattle.exchange.specs.declared.plan.Value.the-variants as value
 use Rattle.exchange.specs.declared.plan.Say.the-variants.{Done, Refused}
 use Rattle.exchange.specs.declared.plan.Effect.the-variants.{Nothing}
 use Rattle.exchange.specs.declared.plan.Plan.{Plan}
+use Rattle.exchange.specs.Feed.{One, ownRefusals}
 
 -- what holds of both ends of a choice holds of it
 pub picked-by : {A : Type 0} (P : A → Type 0) (t : Bool) (a b : A) → (t ≡ true → P a) → (t ≡ false → P b) → P (pick t a b)
 picked-by P true a b f g = f refl
 picked-by P false a b f g = g refl
 
--- a number of a list
-abbrev pub One : ℕ → List ℕ → Type 0
-One n [] = ⊥
-One n (x ∷ xs) = (n ≡ x) ⊎ One n xs
-
 -- ---- the call's own part
-
--- with what a call may be refused once set-up is done
-abbrev pub ownRefusals : Call → List ℕ
-ownRefusals (SetParams stream to) = 1 ∷ []
-ownRefusals (Command kind stream) = []
-ownRefusals (Remap jack association sequence) = 1 ∷ 3 ∷ 4 ∷ []
-ownRefusals (Streams direction) = []
-ownRefusals (Supported field stream) = 1 ∷ []
-ownRefusals (Xfer stream) = 1 ∷ 2 ∷ []
 
 pub data Own (c : Core) (look : ℕ) : Call → Plan → Type 0 where
   sets : {stream : ℕ} {to : Params} → periodOk (to .buffer) (to .period) ≡ true → stream < c .counts .streams

@@ -1,11 +1,11 @@
 -- Decide, then do: what a call or an answer leads to is decided on the core, and has one effect on the tables or the parameters.
 -- Assumes nothing.
 use mathlib.Core.Bool.{Bool, true, false, not, _&&_}
-use mathlib.Core.List.{List, []}
+use mathlib.Core.List.{List}
 use Prim.Native.Nat.{ℕ, _+_, _*_, _/_, _%_}
-use lib.Dec.{leb, ltb, eqb}
-use lib.ListN.{length, getD, set}
-use Rattle.codes.specs.Says.{Says, says, pick, guard}
+use lib.Dec.{ltb, eqb}
+use lib.ListN.{set}
+use Rattle.codes.specs.Says.{pick, guard}
 use Rattle.codes.specs.Flags.{hasBit, remapFeature}
 use Rattle.codes.specs.declared.answers.Refusal.{Refusal}
 use Rattle.codes.specs.declared.answers.Refusal.the-variants.{InvalidParam, IoError, Unsupported, NoInfo, TooMany, QueueFailed, Busy, BadLength}
@@ -132,7 +132,7 @@ unfoldable pub ownSupported : Core → Field → ℕ → ℕ → Plan
 ownSupported c field stream look =
     pick (ltb stream (c .counts .streams)) (endOf c (Done (valueOf field look)) Nothing) (endOf c (Refused InvalidParam) Nothing)
 
--- a transfer that had to begin set-up: no stream has parameters yet, so it never runs
+-- a transfer that had to begin set-up: in a state that calls left no stream has parameters yet (`Kept`), so it never runs
 unfoldable pub ownXfer : Core → ℕ → Plan
 ownXfer c stream = pick (ltb stream (c .counts .streams)) (endOf c (Refused IoError) Nothing) (endOf c (Refused InvalidParam) Nothing)
 
@@ -188,27 +188,29 @@ isTooMany verdict.TooMany = true
 isTooMany verdict.BadLength = false
 isTooMany verdict.Failed = false
 
+-- the core once the jacks, the streams, the maps are read
+abbrev pub readTo : Core → ℕ → ℕ → ℕ → Bool → Core
+readTo c jacks streams maps ready = record { counts = c .counts; read = record { jacks = jacks; streams = streams; maps = maps }; ready = ready; stage = c .stage }
+
 -- "A status not ok or queue failure on jacks or channel maps gives an empty table and set-up goes on." An ok header with too many records ends it with 5
 unfoldable pub afterJacks : Core → Call → Verdict → Plan
 afterJacks c call v =
     let n = pick (isGood v) (c .counts .jacks) 0 in
     pick (isTooMany v) (cutOf c TooMany)
-    (sendOf (record { counts = c .counts; read = record { jacks = n; streams = 0; maps = 0 }; ready = false; stage = c .stage })
-    (StreamsAsked call) (queryOf 0x0100 (c .counts .streams) 32) (pick (isGood v) FillJacks Nothing))
+    (sendOf (readTo c n 0 0 false) (StreamsAsked call) (queryOf 0x0100 (c .counts .streams) 32) (pick (isGood v) FillJacks Nothing))
 
 -- "On streams it ends the call with 2 or 7."
 unfoldable pub afterStreams : Core → Call → Verdict → Plan
 afterStreams c call v =
     pick (isGood v)
-    (sendOf (record { counts = c .counts; read = record { jacks = c .read .jacks; streams = c .counts .streams; maps = 0 }; ready = false; stage = c .stage })
-    (MapsAsked call) (queryOf 0x0200 (c .counts .maps) 24) FillStreams)
+    (sendOf (readTo c (c .read .jacks) (c .counts .streams) 0 false) (MapsAsked call) (queryOf 0x0200 (c .counts .maps) 24) FillStreams)
     (cutOf c (refusalOf v))
 
 -- "A set-up finished in a call stays done however that call ends."
 unfoldable pub afterMaps : Core → Call → Verdict → ℕ → Plan
 afterMaps c call v look =
     let n = pick (isGood v) (c .counts .maps) 0 in
-    let own = ownOf (record { counts = c .counts; read = record { jacks = c .read .jacks; streams = c .read .streams; maps = n }; ready = true; stage = c .stage }) call look in
+    let own = ownOf (readTo c (c .read .jacks) (c .read .streams) n true) call look in
     pick (isTooMany v) (cutOf c TooMany)
     (record { core = own .core; say = own .say; effect = pick (isGood v) FillMaps Nothing })
 
@@ -251,8 +253,18 @@ answerBy (StreamsAsked call) c v look = afterStreams c call v
 answerBy (MapsAsked call) c v look = afterMaps c call v look
 answerBy (Sent call) c v look = afterSent c call v
 
+-- a page that is not of 4,096 bytes
+abbrev pub isShort : Verdict → Bool
+isShort verdict.Good = false
+isShort (verdict.Status word) = false
+isShort verdict.TooMany = false
+isShort verdict.BadLength = true
+isShort verdict.Failed = false
+
+-- 10 "unchanged; an open exchange stays open", then the consistency test, then by what was asked
 unfoldable pub answerOf : Core → Verdict → ℕ → Plan
-answerOf c v look = guard (consistentOf c) (answerBy (c .stage) c v look) (keepOf c InvalidParam)
+answerOf c v look =
+    guard (not (isShort v)) (guard (consistentOf c) (answerBy (c .stage) c v look) (keepOf c InvalidParam)) (keepOf c BadLength)
 
 -- what a page says to what was asked
 abbrev pub verdictBy : Stage → Counts → List ℕ → Verdict

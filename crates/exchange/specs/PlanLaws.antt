@@ -1,7 +1,7 @@
 -- What a call and an answer can lead to: every theorem on plans goes by these cases.
 -- Assumes nothing.
 use mathlib.Core.Path.{_≡_, refl, sym, ap, _∙_}
-use mathlib.Core.Bool.{Bool, true, false, _&&_, false≢true}
+use mathlib.Core.Bool.{Bool, true, false, not, _&&_, false≢true}
 use mathlib.Core.List.{List, [], _∷_}
 use mathlib.Core.Logic.{inl, inr}
 use Prim.Native.Nat.{ℕ, _+_, _*_}
@@ -22,10 +22,10 @@ use Rattle.turns.specs.Consistent as ring
 use Rattle.turns.specs.ConsistentLaws.{both}
 use Rattle.turns.specs.declared.ring.Track.{Track}
 use Rattle.exchange.specs.Consistent.{callOk, consistentOf}
-use Rattle.exchange.specs.Plan.{sendOf, endOf, keepOf, cutOf, queryOf, lookOf, ownOf, isIdle, beginOf, refusalOf, isTooMany, afterJacks, afterStreams, afterMaps, effectOf, sentRefusal, afterSent, answerBy, answerOf, verdictBy, pendingLook}
+use Rattle.exchange.specs.Plan.{sendOf, endOf, keepOf, cutOf, queryOf, lookOf, ownOf, isIdle, beginOf, refusalOf, isTooMany, afterJacks, afterStreams, afterMaps, effectOf, sentRefusal, afterSent, answerBy, answerOf, verdictBy, pendingLook, isShort, readTo}
 use Rattle.exchange.specs.Exchange.{callOf, feedOf, failOf}
-use Rattle.exchange.specs.ConsistentLaws.{both-of, asking}
-use Rattle.exchange.specs.Feed.{Feed, paged, failed, planOf, verdictOf, longOf, Long}
+use Rattle.exchange.specs.ConsistentLaws.{both-of}
+use Rattle.exchange.specs.Feed.{Feed, paged, failed, planOf, verdictOf, longOf, Long, One, asking}
 use Rattle.exchange.specs.declared.state.Counts.{Counts}
 use Rattle.exchange.specs.declared.state.Call.{Call}
 use Rattle.exchange.specs.declared.state.Stage.{Stage}
@@ -36,7 +36,7 @@ use Rattle.exchange.specs.declared.plan.Value.the-variants as value
 use Rattle.exchange.specs.declared.plan.Say.the-variants.{Done, Refused}
 use Rattle.exchange.specs.declared.plan.Effect.the-variants.{Nothing, FillJacks, FillStreams, FillMaps}
 use Rattle.exchange.specs.declared.plan.Plan.{Plan}
-use Rattle.exchange.specs.OwnLaws.{picked-by, One, Own, own}
+use Rattle.exchange.specs.OwnLaws.{picked-by, Own, own}
 
 -- ---- a call: refused with nothing changed, the first query of set-up, or its own part
 
@@ -74,20 +74,8 @@ begun s t call n =
 
 -- ---- an answer with its verdict; `long` tells whether what is lent has its length
 
--- the core once the jacks, the streams, the maps are read
-abbrev pub readTo : Core → ℕ → ℕ → ℕ → Bool → Core
-readTo c jacks streams maps ready = record { counts = c .counts; read = record { jacks = jacks; streams = streams; maps = maps }; ready = ready; stage = c .stage }
-
 abbrev pub counted : Verdict → ℕ → ℕ
 counted v n = pick (isGood v) n 0
-
--- a page that is not of 4,096 bytes
-abbrev pub isShort : Verdict → Bool
-isShort verdict.Good = false
-isShort (verdict.Status word) = false
-isShort verdict.TooMany = false
-isShort verdict.BadLength = true
-isShort verdict.Failed = false
 
 -- with what set-up is cut short
 abbrev pub Cut : Verdict → Refusal → Type 0
@@ -139,17 +127,14 @@ module _ (c : Core) (v : Verdict) (look : ℕ) (long : Bool) where
       picked-by P (isGood v) (endOf c (Done value.Nothing) (effectOf call)) (endOf c (Refused (sentRefusal call v)) Nothing)
       (λ g. ends e p g) (λ _. fails l e p)
 
-  answered : P (guard long (answerOf c v look) (keepOf c BadLength))
+  answered : (long ≡ true → isShort v ≡ false) → P (guard long (answerOf c v look) (keepOf c BadLength))
   unfolding answerOf
-  answered =
+  answered w =
       guarded-by P _ _ _
-      (λ l. guarded-by P _ _ _ (λ e. answered-at l (c .stage) refl e) (λ f. idle (λ e. absurd (false≢true (sym f ∙ e)))))
+      (λ l. guarded-by P _ _ _
+      (λ _. guarded-by P _ _ _ (λ e. answered-at l (c .stage) refl e) (λ f. idle (λ e. absurd (false≢true (sym f ∙ e)))))
+      (λ f. absurd (false≢true (sym f ∙ ap not (w l)))))
       (λ s. short s)
-
-pub fed : (s : Sound) (f : Feed) → Answered (s .core) (verdictOf s f) (pendingLook (s .core .stage) s) (longOf f) (planOf s f)
-unfolding feedOf failOf
-fed s (paged bytes n) = answered (s .core) (verdictBy (s .core .stage) (s .core .counts) bytes) (pendingLook (s .core .stage) s) (eqb (length bytes) 4096 && leb 24 n)
-fed s (failed n) = answered (s .core) verdict.Failed (pendingLook (s .core .stage) s) (leb 24 n)
 
 -- ---- what is long has no verdict of its length
 
@@ -172,6 +157,11 @@ long-by (Sent call) n page l = long-judged page 0 0 l
 pub long-verdict : (s : Sound) (f : Feed) → longOf f ≡ true → isShort (verdictOf s f) ≡ false
 long-verdict s (paged bytes n) l = long-by (s .core .stage) (s .core .counts) bytes (both (eqb (length bytes) 4096) (leb 24 n) l .0)
 long-verdict s (failed n) l = refl
+
+pub fed : (s : Sound) (f : Feed) → Answered (s .core) (verdictOf s f) (pendingLook (s .core .stage) s) (longOf f) (planOf s f)
+unfolding feedOf failOf
+fed s (paged bytes n) = answered (s .core) (verdictBy (s .core .stage) (s .core .counts) bytes) (pendingLook (s .core .stage) s) (eqb (length bytes) 4096 && leb 24 n) (long-verdict s (paged bytes n))
+fed s (failed n) = answered (s .core) verdict.Failed (pendingLook (s .core .stage) s) (leb 24 n) (long-verdict s (failed n))
 
 pub long-of : (f : Feed) → Long f → longOf f ≡ true
 long-of (paged bytes n) l = both-of (eqb (length bytes) 4096) (leb 24 n) (eq-eqb _ _ (l .0)) (le-leb _ _ (l .1))

@@ -12,17 +12,16 @@ use Rattle.codes.specs.Says.{pick}
 use Rattle.codes.specs.Answers.{saysRefusal}
 use Rattle.codes.specs.declared.answers.Refusal.{Refusal}
 use Rattle.records.specs.declared.info.ChannelMap.{ChannelMap}
-use Rattle.tables.specs.Tables.{judged, isGood, mapsRead}
+use Rattle.tables.specs.Tables.{judged, isGood, saysVerdict, mapsRead}
 use Rattle.tables.specs.declared.verdict.Verdict.{Verdict}
 use Rattle.tables.specs.declared.verdict.Verdict.the-variants as verdict
 use Rattle.turns.specs.declared.ring.Track.{Track}
 use Rattle.exchange.specs.State.{none, withStage}
-use Rattle.exchange.specs.ConsistentLaws.{asking}
-use Rattle.exchange.specs.Plan.{refusalOf, remapRefusal, isTooMany, sentRefusal, soundAfter, verdictBy}
-use Rattle.exchange.specs.OwnLaws.{One, ownRefusals, Own, sets, commands, remaps, lists, tells, refuses}
-use Rattle.exchange.specs.PlanLaws.{Begun, bars, asks, goes, begun, readTo, isShort, long-verdict, Answered, short, idle, asks-streams, asks-maps, cuts, finishes, ends, fails, fed}
+use Rattle.exchange.specs.Plan.{refusalOf, remapRefusal, isTooMany, sentRefusal, soundAfter, verdictBy, isShort, readTo}
+use Rattle.exchange.specs.OwnLaws.{Own, sets, commands, remaps, lists, tells, refuses}
+use Rattle.exchange.specs.PlanLaws.{Begun, bars, asks, goes, begun, long-verdict, Answered, short, idle, asks-streams, asks-maps, cuts, finishes, ends, fails, fed}
 use Rattle.exchange.specs.Exchange.{messageAfter, replyOf, stepOf, callOf}
-use Rattle.exchange.specs.Feed.{Feed, paged, failed, pageOf, planOf, fedOf, verdictOf, longOf}
+use Rattle.exchange.specs.Feed.{Feed, paged, failed, pageOf, planOf, fedOf, verdictOf, longOf, One, ownRefusals, asking}
 use Rattle.exchange.specs.StayLaws.{own-stays}
 use Rattle.exchange.specs.declared.state.Call.{Call}
 use Rattle.exchange.specs.declared.state.Call.the-variants.{SetParams, Command, Remap, Streams, Supported, Xfer}
@@ -36,6 +35,14 @@ use Rattle.exchange.specs.declared.plan.Effect.{Effect}
 use Rattle.exchange.specs.declared.plan.Effect.the-variants.{Nothing, FillMaps}
 use Rattle.exchange.specs.declared.plan.Plan.{Plan}
 use Rattle.exchange.specs.declared.calls.Reply.the-variants as reply
+
+-- `refusalOf` has the verdict's own number (of a remap, a status that is not ok says 3 instead)
+pub verdict-number : (v : Verdict) → isGood v ≡ false → saysRefusal (refusalOf v) .number ≡ saysVerdict v .number
+verdict-number verdict.Good e = absurd (false≢true (sym e))
+verdict-number (verdict.Status word) e = refl
+verdict-number verdict.TooMany e = refl
+verdict-number verdict.BadLength e = refl
+verdict-number verdict.Failed e = refl
 
 -- ---- a reply that refuses
 
@@ -90,7 +97,7 @@ pub data Left (s : Sound) (r : Refusal) : Sound → Type 0 where
   -- 2, 7 and 5 "set-up not done": "leaves all three tables empty, and the next call begins it again"
   cut : One (saysRefusal r .number) (2 ∷ 5 ∷ 7 ∷ []) → asking (s .core .stage) ≡ true
       → Left s r (record { core = record { counts = s .core .counts; read = none; ready = false; stage = Idle }; jacks = s .jacks; pcms = s .pcms; maps = s .maps; params = s .params })
-  -- 1 "unchanged, but set-up stays done", 2 of a transfer, 3, 4: set-up is done, with the channel maps that it read, and the exchange is closed
+  -- 1 "unchanged, but set-up stays done", 2 of a transfer, 3, 4: set-up is done, and the exchange is closed; which channel maps it then has, the feed's equation says
   done : {call : Call} (n : ℕ) (maps : List ChannelMap) → One (saysRefusal r .number) (ownRefusals call) → s .core .stage ≡ MapsAsked call
       → Left s r (record { core = withStage (readTo (s .core) (s .core .read .jacks) (s .core .read .streams) n true) Idle; jacks = s .jacks; pcms = s .pcms; maps = maps; params = s .params })
 

@@ -9,9 +9,7 @@ use Rattle.turns.specs.declared.ring.Said.{Said}
 use Rattle.exchange.specs.OwnLaws.{Own}
 use Rattle.exchange.specs.PlanLaws.{Begun, bars, asks, goes, Answered, short, idle, asks-streams, asks-maps, cuts, finishes, ends, fails}
 use Rattle.exchange.specs.declared.state.Call.{Call}
-use Rattle.exchange.specs.declared.state.Call.the-variants.{Streams}
-use Rattle.exchange.specs.declared.state.Stage.{Stage}
-use Rattle.exchange.specs.declared.state.Stage.the-variants.{Idle, JacksAsked, StreamsAsked, MapsAsked, Sent}
+use Rattle.exchange.specs.declared.state.Stage.the-variants.{MapsAsked, Sent}
 use Rattle.exchange.specs.declared.state.Core.{Core}
 use Rattle.exchange.specs.declared.plan.Request.the-variants as request
 use Rattle.exchange.specs.declared.plan.Value.the-variants as value
@@ -25,14 +23,6 @@ wrong e = omega arith
 
 pub says-said : {a b : Said} → Says a ≡ Says b → a ≡ b
 says-said e = cc
-
--- the call that waits
-abbrev pub callAt : Stage → Call
-callAt Idle = Streams 0
-callAt (JacksAsked call) = call
-callAt (StreamsAsked call) = call
-callAt (MapsAsked call) = call
-callAt (Sent call) = call
 
 pub recall : {c : Core} {look : ℕ} {a b : Call} {p : Plan} → a ≡ b → Own c look a p → Own c look b p
 recall {c} {look} {p} e o = subst (λ (k : Call). Own c look k p) e o

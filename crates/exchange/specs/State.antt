@@ -1,12 +1,12 @@
 -- The state: a small core on which every decision is made, three tables, and the parameters of each stream.
 -- Assumes nothing.
-use mathlib.Core.Bool.{Bool, true, false}
-use mathlib.Core.List.{List, []}
+use mathlib.Core.Bool.{false}
+use mathlib.Core.List.{[]}
 use Prim.Native.Nat.{ℕ}
-use lib.ListN.{getD, set, replicate}
+use lib.ListN.{getD, replicate}
 use Rattle.records.specs.declared.info.JackInfo.{JackInfo}
 use Rattle.records.specs.declared.info.PcmInfo.{PcmInfo}
-use Rattle.records.specs.BackLaws.{jackInfoOf, pcmInfoOf}
+use Rattle.records.specs.Records.{jackInfoOf, pcmInfoOf}
 use Rattle.tables.specs.Tables.{noJacks, noStreams, noMaps}
 use Rattle.exchange.specs.declared.state.Counts.{Counts}
 use Rattle.exchange.specs.declared.state.Params.{Params}
@@ -41,3 +41,8 @@ paramsOf s i = getD (s .params) i unset
 
 abbrev pub withStage : Core → Stage → Core
 withStage c g = record { counts = c .counts; read = c .read; ready = c .ready; stage = g }
+
+-- the parameters that a call asks for: not known before the answer
+abbrev pub askedParams : ℕ → ℕ → ℕ → ℕ → ℕ → ℕ → Params
+askedParams buffer period features channels format rate =
+    record { known = 0; buffer = buffer; period = period; features = features; channels = channels; format = format; rate = rate }

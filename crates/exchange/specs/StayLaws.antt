@@ -7,10 +7,10 @@ use Prim.Native.Nat.{ℕ}
 use Rattle.tables.specs.declared.verdict.Verdict.{Verdict}
 use Rattle.turns.specs.declared.ring.Track.{Track}
 use Rattle.exchange.specs.Consistent.{consistentOf}
-use Rattle.exchange.specs.ConsistentLaws.{facts, asking, not-ready}
+use Rattle.exchange.specs.ConsistentLaws.{facts, not-ready}
 use Rattle.exchange.specs.Plan.{soundAfter}
 use Rattle.exchange.specs.Exchange.{callOf}
-use Rattle.exchange.specs.Feed.{Feed, planOf}
+use Rattle.exchange.specs.Feed.{Feed, planOf, asking}
 use Rattle.exchange.specs.OwnLaws.{Own, sets, commands, remaps, lists, tells, refuses}
 use Rattle.exchange.specs.PlanLaws.{Begun, bars, asks, goes, begun, Answered, short, idle, asks-streams, asks-maps, cuts, finishes, ends, fails, fed}
 use Rattle.exchange.specs.declared.state.Call.{Call}

@@ -1,28 +1,25 @@
 -- A plan comes to one step and one content of the message buffer: the laws for the code that goes from one to the other.
 -- Assumes nothing.
 use mathlib.Core.Path.{_≡_, refl, sym, ap, _∙_}
-use mathlib.Core.Bool.{Bool, true, false, not, _&&_, _||_}
-use mathlib.Core.List.{List, [], _++_}
+use mathlib.Core.Bool.{Bool, true, false, _&&_}
+use mathlib.Core.List.{List, _++_}
 use Prim.Native.Nat.{ℕ, _%_, _≤_}
 use native.Mathlib.Omega.{arith}
-use lib.Dec.{leb, ltb, eqb}
+use lib.Dec.{leb, eqb}
 use lib.ListN.{length, drop}
 use Rattle.layout.specs.Layout.{size, write}
 use Rattle.layout.specs.LayoutLaws.{length-write}
 use Rattle.codes.specs.Says.{guard}
-use Rattle.codes.specs.declared.answers.Refusal.the-variants.{InvalidParam, IoError}
+use Rattle.codes.specs.SaysLaws.{guard-ap}
+use Rattle.codes.specs.declared.answers.Refusal.{Refusal}
 use Rattle.records.specs.Slice.{written}
-use Rattle.codes.specs.declared.answers.Refusal.the-variants.{InvalidParam, IoError}
 use Rattle.records.specs.SliceLaws.{written-long}
 use Rattle.turns.specs.Calls.{startCall, startedOf}
 use Rattle.turns.specs.Script.{transferOf}
 use Rattle.turns.specs.declared.ring.Track.{Track}
 use Rattle.turns.specs.declared.ring.Ring.{Ring}
-use Rattle.exchange.specs.State.{paramsOf}
 use Rattle.exchange.specs.Exchange.{messageAfter, stepOf}
 use Rattle.exchange.specs.Xfer.{xferBy, refusedStep, setUpStep, startStep, doneStep, startOf, xferOf, xferMessage}
-use Rattle.exchange.specs.declared.state.Core.{Core}
-use Rattle.exchange.specs.declared.state.Params.{Params}
 use Rattle.exchange.specs.declared.state.Sound.{Sound}
 use Rattle.exchange.specs.declared.plan.Plan.{Plan}
 use Rattle.exchange.specs.declared.calls.Step.{Step}
@@ -42,21 +39,10 @@ moved q s page l e h = (h .0 ∙ ap (λ (p : Plan). stepOf p s page) e, h .1 ∙
 
 -- ---- the checks of a transfer
 
--- what is left of the checks once state and ring are at rest
-abbrev pub restBy : Core → ℕ → Params → Gate
-restBy c stream p =
-    guard (c .ready)
-    (guard (ltb stream (c .counts .streams)) (guard (not (eqb (p .known) 0)) (Open (p .period)) (Shut IoError)) (Shut InvalidParam))
-    SetUp
-
-guard-ap : {A B : Type 0} (f : A → B) (t : Bool) (a b : A) → f (guard t a b) ≡ guard t (f a) (f b)
-unfolding guard
-guard-ap f true a b = refl
-guard-ap f false a b = refl
-
 -- what is made of the outcome of the checks is made at each end of them
-gates : {A : Type 0} (f : Gate → A) (lengths : Bool) (s : Sound) (t : Track) (stream : ℕ) → f (xferBy lengths s t stream Shut SetUp Open) ≡ xferBy lengths s t stream (λ r. f (Shut r)) (f SetUp) (λ p. f (Open p))
-gates f lengths s t stream = simp (guard-ap f)
+pub xfer-ap : {A B : Type 0} (f : A → B) (lengths : Bool) (s : Sound) (t : Track) (stream : ℕ) (refuse : Refusal → A) (setUp : A) (go : ℕ → A)
+    → f (xferBy lengths s t stream refuse setUp go) ≡ xferBy lengths s t stream (λ x. f (refuse x)) (f setUp) (λ p. f (go p))
+xfer-ap f lengths s t stream refuse setUp go = simp (guard-ap f)
 
 -- set-up is begun only where the lengths are right
 pub set-up-long : (lengths : Bool) (s : Sound) (t : Track) (stream : ℕ) → SetUp ≡ xferBy lengths s t stream Shut SetUp Open → lengths ≡ true
@@ -72,7 +58,7 @@ module _ (s : Sound) (r : Ring) (stream len budget : ℕ) where
 
   pub started-by : (n : ℕ) (g : Gate) → g ≡ xferBy (leb 24 n) s (r .track) stream Shut SetUp Open → startBy g ≡ startOf s r stream len budget n
   unfolding startOf
-  started-by n g e = ap startBy e ∙ gates startBy (leb 24 n) s (r .track) stream
+  started-by n g e = ap startBy e ∙ xfer-ap startBy (leb 24 n) s (r .track) stream Shut SetUp Open
 
   abbrev pub runBy : List ℕ → Gate → XferStep
   runBy script (Shut x) = refusedStep s r x
@@ -81,7 +67,7 @@ module _ (s : Sound) (r : Ring) (stream len budget : ℕ) where
 
   pub run-by : (script : List ℕ) (n : ℕ) (b : Bool) (g : Gate) → b ≡ (leb 24 n && eqb (length script % 12) 0) → g ≡ xferBy b s (r .track) stream Shut SetUp Open → runBy script g ≡ xferOf s r stream len budget script n
   unfolding xferOf
-  run-by script n b g p e = ap (runBy script) (e ∙ ap (λ (t : Bool). xferBy t s (r .track) stream Shut SetUp Open) p) ∙ gates (runBy script) (leb 24 n && eqb (length script % 12) 0) s (r .track) stream
+  run-by script n b g p e = ap (runBy script) (e ∙ ap (λ (t : Bool). xferBy t s (r .track) stream Shut SetUp Open) p) ∙ xfer-ap (runBy script) (leb 24 n && eqb (length script % 12) 0) s (r .track) stream Shut SetUp Open
 
 -- a step, and the message that goes with its reply
 pub replied : (s : Sound) (stream : ℕ) (l : List ℕ) {n : List ℕ} {r x y : XferStep} → r ≡ x → x ≡ y → n ≡ xferMessage (x .reply) s stream l → (r ≡ y) × (n ≡ xferMessage (y .reply) s stream l)

@@ -43,6 +43,13 @@ setup-stays-done-call s t call n = done-after s (callOf s t call n) [] (called-s
 pub setup-stays-done-feed : (s : Sound) (f : Feed) → s .core .ready ≡ true → fedOf s f .sound .core .ready ≡ true
 setup-stays-done-feed s f = done-after s (planOf s f) (pageOf f) (fed-stays s f)
 
+module _ (s : Sound) (r : Ring) (stream len budget n : ℕ) (done : s .core .ready ≡ true) where
+  pub setup-stays-done-start : startOf s r stream len budget n .sound .core .ready ≡ true
+  setup-stays-done-start = start-by (λ x. x .sound .core .ready ≡ true) s r stream len budget n (λ _. done) (λ _ _ _. done) done
+
+  pub setup-stays-done-script : (script : List ℕ) → xferOf s r stream len budget script n .sound .core .ready ≡ true
+  setup-stays-done-script script = script-by (λ x. x .sound .core .ready ≡ true) s r stream len budget n (λ _. done) (λ _ _ _. done) script done
+
 -- ---- "Status ok stores all seven values; else 2." Parameters change only by a page with an ok header, to those of the call that is out
 
 pub record Stored (s : Sound) (page : List ℕ) (i : ℕ) (now : Params) : Type 0 where

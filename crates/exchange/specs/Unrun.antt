@@ -10,17 +10,18 @@ use Rattle.codes.specs.declared.answers.Refusal.{Refusal}
 use Rattle.tables.specs.declared.verdict.Verdict.{Verdict}
 use Rattle.turns.specs.declared.ring.Ring.{Ring}
 use Rattle.exchange.specs.State.{paramsOf}
-use Rattle.exchange.specs.ConsistentLaws.{facts, asking, not-ready}
+use Rattle.exchange.specs.ConsistentLaws.{facts, not-ready}
 use Rattle.exchange.specs.Consistent.{consistentOf}
-use Rattle.exchange.specs.OwnLaws.{One, Own, refuses}
-use Rattle.exchange.specs.PlanLaws.{isShort, long-verdict, long-of, Answered, short, idle, asks-streams, asks-maps, cuts, finishes, ends, fails, fed}
+use Rattle.exchange.specs.OwnLaws.{Own, refuses}
+use Rattle.exchange.specs.PlanLaws.{long-verdict, long-of, Answered, short, idle, asks-streams, asks-maps, cuts, finishes, ends, fails, fed}
+use Rattle.exchange.specs.Plan.{isShort}
 use Rattle.exchange.specs.Exchange.{replyOf, stepOf}
 use Rattle.exchange.specs.Xfer.{startOf, xferOf}
 use Rattle.exchange.specs.Kept.{Kept}
 use Rattle.exchange.specs.XferLaws.{start-by, script-by}
 use Rattle.exchange.specs.StayLaws.{after-core}
-use Rattle.exchange.specs.ResultLaws.{wrong, callAt, recall}
-use Rattle.exchange.specs.Feed.{Feed, pageOf, planOf, fedOf, verdictOf, longOf, Long}
+use Rattle.exchange.specs.ResultLaws.{wrong, recall}
+use Rattle.exchange.specs.Feed.{Feed, pageOf, planOf, fedOf, verdictOf, longOf, Long, One, asking, callAt}
 use Rattle.exchange.specs.declared.state.Call.the-variants.{Xfer}
 use Rattle.exchange.specs.declared.state.Stage.{Stage}
 use Rattle.exchange.specs.declared.state.Stage.the-variants.{Idle}

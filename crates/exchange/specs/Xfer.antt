@@ -1,11 +1,12 @@
 -- The start of a transfer, and a transfer over a whole script. "Checks: Busy (8), set-up, stream range (1), parameters set (2)."
 -- Assumes nothing.
-use mathlib.Core.Bool.{Bool, true, false, not, _&&_}
+use mathlib.Core.Bool.{Bool, not, _&&_}
 use mathlib.Core.List.{List, []}
-use Prim.Native.Nat.{ℕ, _%_}
+use Prim.Native.Nat.{ℕ, _%_, _+_}
 use lib.Dec.{leb, ltb, eqb}
 use lib.ListN.{length}
-use Rattle.codes.specs.Says.{pick, guard}
+use Rattle.codes.specs.Says.{guard}
+use Rattle.codes.specs.Says as answers
 use Rattle.codes.specs.declared.answers.Refusal.{Refusal}
 use Rattle.codes.specs.declared.answers.Refusal.the-variants.{InvalidParam, IoError, Busy, BadLength}
 use Rattle.turns.specs.Calls.{idleOf, startCall, startedOf}
@@ -14,13 +15,12 @@ use Rattle.turns.specs.Script.{transferOf}
 use Rattle.turns.specs.declared.ring.Track.{Track}
 use Rattle.turns.specs.declared.ring.Ring.{Ring}
 use Rattle.turns.specs.declared.ring.Turned.{Turned}
-use Rattle.turns.specs.declared.ring.Said.{Said}
 use Rattle.turns.specs.declared.ring.Said.the-variants as said
 use Rattle.turns.specs.declared.script.Done.{Done}
-use Rattle.exchange.specs.State.{paramsOf, withStage}
+use Rattle.exchange.specs.State.{paramsOf}
 use Rattle.exchange.specs.Consistent.{consistentOf, streamOk}
 use Rattle.exchange.specs.Plan.{isIdle, queryOf, sendOf, soundAfter}
-use Rattle.exchange.specs.Exchange.{requestBytes, messageAfter}
+use Rattle.exchange.specs.Exchange.{messageAfter}
 use Rattle.exchange.specs.declared.state.Call.the-variants.{Xfer}
 use Rattle.exchange.specs.declared.state.Stage.the-variants.{JacksAsked}
 use Rattle.exchange.specs.declared.state.Core.{Core}
@@ -31,6 +31,7 @@ use Rattle.exchange.specs.declared.plan.Plan.{Plan}
 use Rattle.exchange.specs.declared.xfer.XferReply.{XferReply}
 use Rattle.exchange.specs.declared.xfer.XferReply.the-variants.{Send, Says}
 use Rattle.exchange.specs.declared.xfer.XferStep.{XferStep}
+use Rattle.turns.specs.Ring.{saysSaid}
 
 -- THE CHECKS, in their order, over what is done at each end: the lengths, the consistency of state, ring and stream, Busy, set-up, range, parameters.
 -- They look at the core and at the stream's own parameters alone
@@ -83,3 +84,8 @@ xferOf s r stream len budget script n =
 abbrev pub xferMessage : XferReply → Sound → ℕ → List ℕ → List ℕ
 xferMessage (Send n) s stream l = messageAfter (setUpPlan s stream .say) l
 xferMessage (Says x) s stream l = l
+
+-- a request of n bytes to send is 256 + n; else what the ring says
+abbrev pub saysXfer : XferReply → answers.Says
+saysXfer (Send n) = answers.says (256 + n) []
+saysXfer (Says x) = saysSaid x

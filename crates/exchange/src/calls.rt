@@ -5,8 +5,8 @@ ghost use Prim.Native.Nat.{_≤_};
 ghost use lib.ListN.{length, drop};
 ghost use Rattle.codes.specs.declared.answers.Refusal.the-variants.{BadLength};
 ghost use Rattle.exchange.specs.Plan.{keepOf};
-ghost use Rattle.exchange.specs.Exchange.{requestBytes, messageAfter, replyOf, tellOf, toldIn, stepOf, callOf, feedOf, failOf};
-ghost use Rattle.exchange.specs.Asked.{askedParams};
+ghost use Rattle.exchange.specs.Exchange.{requestBytes, messageAfter, replyOf, tellOf, toldIn, stepOf, Stepped, callOf, feedOf, failOf};
+ghost use Rattle.exchange.specs.State.{askedParams};
 ghost use Rattle.exchange.specs.declared.state.Kind.the-variants.{Prepare, Release, Start, Stop};
 ghost use Rattle.exchange.specs.declared.state.Field.the-variants.{Rates, Formats, Channels, Features};
 ghost use Rattle.exchange.specs.declared.state.Call.the-variants as calls;
@@ -110,7 +110,7 @@ pub fn tell(say: Say, message: &mut [u8]) -> Reply
 // What a plan comes to, with the page at hand.
 fn finish(p: Plan, s: Sound, page: &[u8], message: &mut [u8]) -> Step
     requires { ⌜ 24 ≤ length (now message) ⌝ }
-    ensures { λ r. ⌜ (r ≡ stepOf p s (now (page .entry))) × (now (message .exit) ≡ messageAfter (p .say) (now (message .entry))) ⌝ }
+    ensures { λ r. ⌜ Stepped p s (now (page .entry)) (now (message .entry)) (now (message .exit)) r ⌝ }
 {
     let core = p.core;
     let say = p.say;
@@ -136,7 +136,7 @@ fn bad_length(s: Sound) -> Step
 
 // A call, with the ring to tell Busy.
 fn call(s: Sound, ring: Ring, asked: Call, message: &mut [u8]) -> Step
-    ensures { λ r. ⌜ (r ≡ stepOf (callOf s (ring .track) asked (length (now (message .entry)))) s []) × (now (message .exit) ≡ messageAfter (callOf s (ring .track) asked (length (now (message .entry))) .say) (now (message .entry))) ⌝ }
+    ensures { λ r. ⌜ Stepped (callOf s (ring .track) asked (length (now (message .entry)))) s [] (now (message .entry)) (now (message .exit)) r ⌝ }
 {
     if message.len() < MESSAGE {
         return bad_length(s);
@@ -154,7 +154,7 @@ pub fn jack_remap(
     sequence: u32,
     message: &mut [u8],
 ) -> Step
-    ensures { λ r. ⌜ (r ≡ stepOf (callOf s (ring .track) (calls.Remap jack association sequence) (length (now (message .entry)))) s []) × (now (message .exit) ≡ messageAfter (callOf s (ring .track) (calls.Remap jack association sequence) (length (now (message .entry))) .say) (now (message .entry))) ⌝ }
+    ensures { λ r. ⌜ Stepped (callOf s (ring .track) (calls.Remap jack association sequence) (length (now (message .entry)))) s [] (now (message .entry)) (now (message .exit)) r ⌝ }
 {
     let asked = Call::Remap {
         jack,
@@ -176,7 +176,7 @@ pub fn pcm_set_params(
     rate: u8,
     message: &mut [u8],
 ) -> Step
-    ensures { λ r. ⌜ (r ≡ stepOf (callOf s (ring .track) (calls.SetParams stream (askedParams buffer period features channels format rate)) (length (now (message .entry)))) s []) × (now (message .exit) ≡ messageAfter (callOf s (ring .track) (calls.SetParams stream (askedParams buffer period features channels format rate)) (length (now (message .entry))) .say) (now (message .entry))) ⌝ }
+    ensures { λ r. ⌜ Stepped (callOf s (ring .track) (calls.SetParams stream (askedParams buffer period features channels format rate)) (length (now (message .entry)))) s [] (now (message .entry)) (now (message .exit)) r ⌝ }
 {
     let to = Params {
         known: 0,
@@ -191,70 +191,70 @@ pub fn pcm_set_params(
 }
 
 pub fn pcm_prepare(s: Sound, ring: Ring, stream: u32, message: &mut [u8]) -> Step
-    ensures { λ r. ⌜ (r ≡ stepOf (callOf s (ring .track) (calls.Command Prepare stream) (length (now (message .entry)))) s []) × (now (message .exit) ≡ messageAfter (callOf s (ring .track) (calls.Command Prepare stream) (length (now (message .entry))) .say) (now (message .entry))) ⌝ }
+    ensures { λ r. ⌜ Stepped (callOf s (ring .track) (calls.Command Prepare stream) (length (now (message .entry)))) s [] (now (message .entry)) (now (message .exit)) r ⌝ }
 {
     let kind = Kind::Prepare;
     call(s, ring, Call::Command { kind, stream }, message)
 }
 
 pub fn pcm_release(s: Sound, ring: Ring, stream: u32, message: &mut [u8]) -> Step
-    ensures { λ r. ⌜ (r ≡ stepOf (callOf s (ring .track) (calls.Command Release stream) (length (now (message .entry)))) s []) × (now (message .exit) ≡ messageAfter (callOf s (ring .track) (calls.Command Release stream) (length (now (message .entry))) .say) (now (message .entry))) ⌝ }
+    ensures { λ r. ⌜ Stepped (callOf s (ring .track) (calls.Command Release stream) (length (now (message .entry)))) s [] (now (message .entry)) (now (message .exit)) r ⌝ }
 {
     let kind = Kind::Release;
     call(s, ring, Call::Command { kind, stream }, message)
 }
 
 pub fn pcm_start(s: Sound, ring: Ring, stream: u32, message: &mut [u8]) -> Step
-    ensures { λ r. ⌜ (r ≡ stepOf (callOf s (ring .track) (calls.Command Start stream) (length (now (message .entry)))) s []) × (now (message .exit) ≡ messageAfter (callOf s (ring .track) (calls.Command Start stream) (length (now (message .entry))) .say) (now (message .entry))) ⌝ }
+    ensures { λ r. ⌜ Stepped (callOf s (ring .track) (calls.Command Start stream) (length (now (message .entry)))) s [] (now (message .entry)) (now (message .exit)) r ⌝ }
 {
     let kind = Kind::Start;
     call(s, ring, Call::Command { kind, stream }, message)
 }
 
 pub fn pcm_stop(s: Sound, ring: Ring, stream: u32, message: &mut [u8]) -> Step
-    ensures { λ r. ⌜ (r ≡ stepOf (callOf s (ring .track) (calls.Command Stop stream) (length (now (message .entry)))) s []) × (now (message .exit) ≡ messageAfter (callOf s (ring .track) (calls.Command Stop stream) (length (now (message .entry))) .say) (now (message .entry))) ⌝ }
+    ensures { λ r. ⌜ Stepped (callOf s (ring .track) (calls.Command Stop stream) (length (now (message .entry)))) s [] (now (message .entry)) (now (message .exit)) r ⌝ }
 {
     let kind = Kind::Stop;
     call(s, ring, Call::Command { kind, stream }, message)
 }
 
 pub fn output_streams(s: Sound, ring: Ring, message: &mut [u8]) -> Step
-    ensures { λ r. ⌜ (r ≡ stepOf (callOf s (ring .track) (calls.Streams 0) (length (now (message .entry)))) s []) × (now (message .exit) ≡ messageAfter (callOf s (ring .track) (calls.Streams 0) (length (now (message .entry))) .say) (now (message .entry))) ⌝ }
+    ensures { λ r. ⌜ Stepped (callOf s (ring .track) (calls.Streams 0) (length (now (message .entry)))) s [] (now (message .entry)) (now (message .exit)) r ⌝ }
 {
     let direction = direction::OUTPUT;
     call(s, ring, Call::Streams { direction }, message)
 }
 
 pub fn input_streams(s: Sound, ring: Ring, message: &mut [u8]) -> Step
-    ensures { λ r. ⌜ (r ≡ stepOf (callOf s (ring .track) (calls.Streams 1) (length (now (message .entry)))) s []) × (now (message .exit) ≡ messageAfter (callOf s (ring .track) (calls.Streams 1) (length (now (message .entry))) .say) (now (message .entry))) ⌝ }
+    ensures { λ r. ⌜ Stepped (callOf s (ring .track) (calls.Streams 1) (length (now (message .entry)))) s [] (now (message .entry)) (now (message .exit)) r ⌝ }
 {
     let direction = direction::INPUT;
     call(s, ring, Call::Streams { direction }, message)
 }
 
 pub fn rates_supported(s: Sound, ring: Ring, stream: u32, message: &mut [u8]) -> Step
-    ensures { λ r. ⌜ (r ≡ stepOf (callOf s (ring .track) (calls.Supported Rates stream) (length (now (message .entry)))) s []) × (now (message .exit) ≡ messageAfter (callOf s (ring .track) (calls.Supported Rates stream) (length (now (message .entry))) .say) (now (message .entry))) ⌝ }
+    ensures { λ r. ⌜ Stepped (callOf s (ring .track) (calls.Supported Rates stream) (length (now (message .entry)))) s [] (now (message .entry)) (now (message .exit)) r ⌝ }
 {
     let field = Field::Rates;
     call(s, ring, Call::Supported { field, stream }, message)
 }
 
 pub fn formats_supported(s: Sound, ring: Ring, stream: u32, message: &mut [u8]) -> Step
-    ensures { λ r. ⌜ (r ≡ stepOf (callOf s (ring .track) (calls.Supported Formats stream) (length (now (message .entry)))) s []) × (now (message .exit) ≡ messageAfter (callOf s (ring .track) (calls.Supported Formats stream) (length (now (message .entry))) .say) (now (message .entry))) ⌝ }
+    ensures { λ r. ⌜ Stepped (callOf s (ring .track) (calls.Supported Formats stream) (length (now (message .entry)))) s [] (now (message .entry)) (now (message .exit)) r ⌝ }
 {
     let field = Field::Formats;
     call(s, ring, Call::Supported { field, stream }, message)
 }
 
 pub fn channel_range_supported(s: Sound, ring: Ring, stream: u32, message: &mut [u8]) -> Step
-    ensures { λ r. ⌜ (r ≡ stepOf (callOf s (ring .track) (calls.Supported Channels stream) (length (now (message .entry)))) s []) × (now (message .exit) ≡ messageAfter (callOf s (ring .track) (calls.Supported Channels stream) (length (now (message .entry))) .say) (now (message .entry))) ⌝ }
+    ensures { λ r. ⌜ Stepped (callOf s (ring .track) (calls.Supported Channels stream) (length (now (message .entry)))) s [] (now (message .entry)) (now (message .exit)) r ⌝ }
 {
     let field = Field::Channels;
     call(s, ring, Call::Supported { field, stream }, message)
 }
 
 pub fn features_supported(s: Sound, ring: Ring, stream: u32, message: &mut [u8]) -> Step
-    ensures { λ r. ⌜ (r ≡ stepOf (callOf s (ring .track) (calls.Supported Features stream) (length (now (message .entry)))) s []) × (now (message .exit) ≡ messageAfter (callOf s (ring .track) (calls.Supported Features stream) (length (now (message .entry))) .say) (now (message .entry))) ⌝ }
+    ensures { λ r. ⌜ Stepped (callOf s (ring .track) (calls.Supported Features stream) (length (now (message .entry)))) s [] (now (message .entry)) (now (message .exit)) r ⌝ }
 {
     let field = Field::Features;
     call(s, ring, Call::Supported { field, stream }, message)
@@ -262,7 +262,7 @@ pub fn features_supported(s: Sound, ring: Ring, stream: u32, message: &mut [u8])
 
 // The answer page to the request that is out.
 pub fn feed(s: Sound, page: &[u8], message: &mut [u8]) -> Step
-    ensures { λ r. ⌜ (r ≡ stepOf (feedOf s (now (page .entry)) (length (now (message .entry)))) s (now (page .entry))) × (now (message .exit) ≡ messageAfter (feedOf s (now (page .entry)) (length (now (message .entry))) .say) (now (message .entry))) ⌝ }
+    ensures { λ r. ⌜ Stepped (feedOf s (now (page .entry)) (length (now (message .entry)))) s (now (page .entry)) (now (message .entry)) (now (message .exit)) r ⌝ }
 {
     if page.len() != PAGE {
         return bad_length(s);
@@ -280,7 +280,7 @@ pub fn feed(s: Sound, page: &[u8], message: &mut [u8]) -> Step
 
 // The queue reports that the request that is out has failed: there is no page.
 pub fn feed_failure(s: Sound, message: &mut [u8]) -> Step
-    ensures { λ r. ⌜ (r ≡ stepOf (failOf s (length (now (message .entry)))) s []) × (now (message .exit) ≡ messageAfter (failOf s (length (now (message .entry))) .say) (now (message .entry))) ⌝ }
+    ensures { λ r. ⌜ Stepped (failOf s (length (now (message .entry)))) s [] (now (message .entry)) (now (message .exit)) r ⌝ }
 {
     if message.len() < MESSAGE {
         return bad_length(s);

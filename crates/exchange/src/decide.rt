@@ -1,7 +1,7 @@
 // What a call or an answer leads to, decided on the core: no table is in sight.
 ghost use mathlib.Core.Path.{_≡_};
 ghost use Rattle.codes.specs.Says.{pick};
-ghost use Rattle.exchange.specs.Plan.{sendOf, endOf, keepOf, cutOf, queryOf, kindCode, setOf, valueOf, ownSet, ownRemap, ownSupported, ownXfer, ownOf, isIdle, setUpOf, beginOf, refusalOf, remapRefusal, isTooMany, afterJacks, afterStreams, afterMaps, storedOf, effectOf, sentRefusal, afterSent, answerBy, answerOf};
+ghost use Rattle.exchange.specs.Plan.{sendOf, endOf, keepOf, cutOf, queryOf, kindCode, setOf, valueOf, ownSet, ownRemap, ownSupported, ownXfer, ownOf, isIdle, setUpOf, beginOf, refusalOf, remapRefusal, isTooMany, isShort, afterJacks, afterStreams, afterMaps, storedOf, effectOf, sentRefusal, afterSent, answerBy, answerOf};
 ghost use Rattle.exchange.specs.declared.state.Call.the-variants.{Command};
 ghost use Rattle.exchange.specs.declared.state.Stage.the-variants.{JacksAsked, Sent};
 ghost use Rattle.exchange.specs.declared.plan.Request.the-variants as request;
@@ -222,7 +222,8 @@ fn own_supported(c: Core, field: Field, stream: u32, look: u64) -> Plan
     end(c, Say::Done(value_of(field, look)), Effect::Nothing)
 }
 
-// A transfer that had to begin set-up never runs: no stream has parameters yet.
+// A transfer that had to begin set-up never runs: in a state that calls left no stream has
+// parameters yet.
 fn own_xfer(c: Core, stream: u32) -> Plan
     ensures { λ r. ⌜ r ≡ ownXfer c stream ⌝ }
 {
@@ -326,6 +327,18 @@ fn remap_refusal(v: Verdict) -> Refusal
         Verdict::TooMany => Refusal::TooMany,
         Verdict::BadLength => Refusal::BadLength,
         Verdict::Failed => Refusal::QueueFailed,
+    }
+}
+
+fn is_short(v: Verdict) -> bool
+    ensures { λ r. ⌜ r ≡ isShort v ⌝ }
+{
+    match v {
+        Verdict::Good => false,
+        Verdict::Status(_) => false,
+        Verdict::TooMany => false,
+        Verdict::BadLength => true,
+        Verdict::Failed => false,
     }
 }
 
@@ -503,6 +516,10 @@ pub fn answer(c: Core, v: Verdict, look: u64) -> Plan
     ensures { λ r. ⌜ r ≡ answerOf c v look ⌝ }
 {
     let stage = c.stage;
+    let short = is_short(v);
+    if short {
+        return keep(c, Refusal::BadLength);
+    }
     if !consistent(c) {
         return keep(c, Refusal::InvalidParam);
     }

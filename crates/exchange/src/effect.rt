@@ -2,7 +2,7 @@
 ghost use mathlib.Core.Path.{_≡_};
 ghost use mathlib.Core.List.{[]};
 ghost use lib.ListN.{getD, set};
-ghost use Rattle.records.specs.BackLaws.{jackInfoOf, pcmInfoOf};
+ghost use Rattle.records.specs.Records.{jackInfoOf, pcmInfoOf};
 ghost use Rattle.exchange.specs.State.{unset, jackOf, pcmOf, paramsOf};
 ghost use Rattle.exchange.specs.Plan.{fieldOf, lookOf, pendingLook, verdictBy, soundAfter};
 use crate::plan::Effect;

@@ -40,6 +40,7 @@ pub use plan::Request;
 pub use plan::Say;
 pub use plan::Value;
 pub use state::Call;
+pub use state::Configured;
 pub use state::Core;
 pub use state::Counts;
 pub use state::Field;

@@ -5,7 +5,7 @@ ghost use Prim.Native.Nat.{_≤_, _<_};
 ghost use lib.ListN.{take};
 ghost use Rattle.codes.specs.Says.{pick};
 ghost use Rattle.exchange.specs.Exchange.{idsFrom, listed, listBy, listOf};
-ghost use Rattle.exchange.specs.ListLaws.{pushed};
+ghost use Rattle.exchange.specs.Steps.{pushed};
 use crate::calls::StreamList;
 use crate::plan::Say;
 use crate::plan::Value;

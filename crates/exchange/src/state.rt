@@ -1,7 +1,9 @@
 // The state: a small core on which every decision is made, three tables, and parameters.
 ghost use mathlib.Core.Path.{_≡_};
 ghost use lib.ListN.{replicate};
+ghost use Rattle.exchange.specs.Consistent.{saysConfigured, configuredOf};
 ghost use Rattle.exchange.specs.State.{unset, newCore, newSound};
+use crate::consistency::consistent;
 use records::ChannelMap;
 use records::JackInfo;
 use records::PcmInfo;
@@ -132,6 +134,22 @@ fn no_params() -> [Params; 127]
     [blank; 127]
 }
 
+// A configured count; an inconsistent state tells none.
+pub enum Configured {
+    Is(u32),
+    InvalidParam,
+}
+
+fn count_told(c: Core, n: u32) -> Configured
+    ensures { λ r. ⌜ saysConfigured r ≡ configuredOf c n ⌝ }
+{
+    let sound = consistent(c);
+    if !sound {
+        return Configured::InvalidParam;
+    }
+    Configured::Is(n)
+}
+
 impl Sound {
     // The state before any call, from the configured counts.
     pub fn new(jacks: u32, streams: u32, chmaps: u32) -> Sound
@@ -147,21 +165,24 @@ impl Sound {
     }
 
     // The configured counts.
-    pub fn jacks(self) -> u32
-        ensures { λ r. ⌜ r ≡ self .core .counts .jacks ⌝ }
+    pub fn jacks(self) -> Configured
+        ensures { λ r. ⌜ saysConfigured r ≡ configuredOf (self .core) (self .core .counts .jacks) ⌝ }
     {
-        self.core.counts.jacks
+        let c = self.core;
+        count_told(c, c.counts.jacks)
     }
 
-    pub fn streams(self) -> u32
-        ensures { λ r. ⌜ r ≡ self .core .counts .streams ⌝ }
+    pub fn streams(self) -> Configured
+        ensures { λ r. ⌜ saysConfigured r ≡ configuredOf (self .core) (self .core .counts .streams) ⌝ }
     {
-        self.core.counts.streams
+        let c = self.core;
+        count_told(c, c.counts.streams)
     }
 
-    pub fn chmaps(self) -> u32
-        ensures { λ r. ⌜ r ≡ self .core .counts .maps ⌝ }
+    pub fn chmaps(self) -> Configured
+        ensures { λ r. ⌜ saysConfigured r ≡ configuredOf (self .core) (self .core .counts .maps) ⌝ }
     {
-        self.core.counts.maps
+        let c = self.core;
+        count_told(c, c.counts.maps)
     }
 }

@@ -4,7 +4,7 @@ ghost use Prim.Native.Nat.{_≤_};
 ghost use lib.ListN.{length};
 ghost use Rattle.exchange.specs.Exchange.{messageAfter};
 ghost use Rattle.exchange.specs.Xfer.{gateBy, xferBy, setUpPlan, refusedStep, setUpStep, startStep, doneStep, startOf, xferOf, xferMessage};
-ghost use Rattle.exchange.specs.StepLaws.{restBy};
+ghost use Rattle.exchange.specs.Steps.{restBy};
 ghost use Rattle.exchange.specs.declared.xfer.Gate.the-variants.{Shut, SetUp, Open};
 use crate::calls::MESSAGE;
 use crate::calls::put;

@@ -1,6 +1,5 @@
 -- `exchange::calls::tell` meets its contract: a short message is refused, and otherwise what is said is put. Assumes nothing.
 use mathlib.Core.Path.{sym, _∙_}
-use native.Mathlib.Omega.{arith}
 use borrow.Author.Needs.{needs}
 use borrow.Author.Tests.{le-leb, lt-leb}
 use Rattle.codes.specs.SaysLaws.{picks, skips}

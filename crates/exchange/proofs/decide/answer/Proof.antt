@@ -1,18 +1,28 @@
--- `exchange::decide::answer` meets its contract: the consistency test, then by what was asked. Assumes nothing.
+-- `exchange::decide::answer` meets its contract: the page's length, the consistency test, then by what was asked. Assumes nothing.
+use mathlib.Core.Path.{sym, ap, _∙_}
+use mathlib.Core.Bool.{not}
 use borrow.Author.Needs.{needs}
 use Rattle.exchange.specs.Plan.{answerOf}
-use Rattle.turns.specs.CallLaws.{passed, failed}
 use Rattle.codes.specs.SaysLaws.{passes, stops}
+use Rattle.turns.specs.CallLaws.{passed, failed}
 use Rattle.exchange.proofs.decide.answer.Statement.{statement}
 use Rattle.exchange.proofs.decide.answer.Tie as tie
 
 returns : tie.Need-returns
 unfolding answerOf
-returns c = stops _ _ _ (failed (c .before .before .consistent .ensures) (c .before .if1 .taken)) (c .keep .ensures)
+returns c = stops _ _ _ (ap not (sym (c .before .before .is-short .ensures) ∙ c .before .if1 .taken)) (c .keep .ensures)
 
 returns-2 : tie.Need-returns-2
 unfolding answerOf
-returns-2 c = passes _ _ _ (passed (c .before .before .consistent .ensures) (c .before .if1 .left)) (c .answer-by .ensures)
+returns-2 c =
+    passes _ _ _ (ap not (sym (c .before .before .before .before .is-short .ensures) ∙ c .before .before .before .if1 .left))
+    (stops _ _ _ (failed (c .before .before .consistent .ensures) (c .before .if2 .taken)) (c .keep2 .ensures))
+
+returns-3 : tie.Need-returns-3
+unfolding answerOf
+returns-3 c =
+    passes _ _ _ (ap not (sym (c .before .before .before .before .is-short .ensures) ∙ c .before .before .before .if1 .left))
+    (passes _ _ _ (passed (c .before .before .consistent .ensures) (c .before .if2 .left)) (c .answer-by .ensures))
 
 pub answer-spec : {M : Type 1} → statement M
 answer-spec =
@@ -22,4 +32,7 @@ answer-spec =
     (λ c κs. search needs)
     returns
     (λ c κs. search needs)
-    returns-2)
+    (λ c κs. search needs)
+    returns-2
+    (λ c κs. search needs)
+    returns-3)

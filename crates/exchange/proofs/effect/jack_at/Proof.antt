@@ -5,7 +5,7 @@ use Prim.Native.Nat.{_≤_}
 use native.Mathlib.Omega.{arith}
 use lib.ListN.{length, List·getD-eq-default}
 use borrow.Author.Needs.{needs}
-use Rattle.records.specs.BackLaws.{jackInfoOf}
+use Rattle.records.specs.Records.{jackInfoOf}
 use Rattle.exchange.proofs.effect.jack_at.Statement.{statement}
 use Rattle.exchange.proofs.effect.jack_at.Tie as tie
 

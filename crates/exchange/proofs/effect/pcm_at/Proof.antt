@@ -5,7 +5,7 @@ use Prim.Native.Nat.{_≤_}
 use native.Mathlib.Omega.{arith}
 use lib.ListN.{length, List·getD-eq-default}
 use borrow.Author.Needs.{needs}
-use Rattle.records.specs.BackLaws.{pcmInfoOf}
+use Rattle.records.specs.Records.{pcmInfoOf}
 use Rattle.exchange.proofs.effect.pcm_at.Statement.{statement}
 use Rattle.exchange.proofs.effect.pcm_at.Tie as tie
 

@@ -1,6 +1,5 @@
 -- `exchange::effect::store` meets its contract: past the last stream nothing is stored. Assumes nothing.
 use mathlib.Core.Path.{_≡_, sym}
-use Prim.Native.Nat.{_≤_}
 use native.Mathlib.Omega.{arith}
 use lib.ListN.{length}
 use lib.Seq.{set-out}

@@ -1,7 +1,6 @@
 -- `exchange::listing::all_ids` meets its contract: a table of 127 has no more. Assumes nothing.
 use mathlib.Core.List.{List}
 use mathlib.Core.Path.{_≡_, ap, _∙_}
-use Prim.Native.Nat.{ℕ}
 use lib.ListN.{length}
 use borrow.Author.Needs.{needs}
 use Rattle.records.specs.declared.info.PcmInfo.{PcmInfo}

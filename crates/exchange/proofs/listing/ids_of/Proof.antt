@@ -1,12 +1,12 @@
 -- `exchange::listing::ids_of` meets its contract, by the law of a list that grows. Assumes nothing.
 use mathlib.Core.List.{[]}
 use mathlib.Core.Path.{_≡_}
-use Prim.Native.Nat.{ℕ, _≤_, _<_, _-_}
+use Prim.Native.Nat.{_≤_, _-_}
 use native.Mathlib.Omega.{arith}
 use lib.ListN.{length, take}
 use lib.Seq.{length-take-le}
 use borrow.Author.Needs.{needs}
-use Rattle.records.specs.BackLaws.{pcmInfoOf}
+use Rattle.records.specs.Records.{pcmInfoOf}
 use Rattle.exchange.specs.Exchange.{idsFrom, listed}
 use Rattle.exchange.specs.ListLaws.{length-ids, listed-more}
 use Rattle.exchange.proofs.listing.ids_of.Statement.{statement}
