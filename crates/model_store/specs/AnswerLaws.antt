@@ -7,7 +7,7 @@ use Prim.Native.Nat.{ℕ, _+_, _*_, _<_, _≤_}
 use native.Mathlib.Nat.{zero-add, le-trans}
 use native.Mathlib.Omega.{arith}
 use lib.Dec.{eqb}
-use lib.ListN.{length, drop, length-append}
+use lib.ListN.{length, length-append}
 use lib.Seq.{sets}
 use borrow.Author.Tests.{eq-eqb, ne-eqb, lt-ltb, le-ltb}
 use Rattle.layout.specs.Bytes.{le, bytesAt, numAt, Bytes}
@@ -19,12 +19,11 @@ use Rattle.layout.specs.LayoutLaws.{write-read}
 use Rattle.codes.specs.Says.{pick}
 use Rattle.codes.specs.SaysLaws.{picks, skips}
 use Rattle.codes.specs.declared.requests.RequestCode.the-variants.{RJackInfo, RPcmInfo, RChmapInfo}
-use Rattle.records.specs.Records.{setParameters}
-use Rattle.records.specs.BackLaws.{setParametersOf}
+use Rattle.records.specs.Records.{setParameters, setParametersOf, jackBytes, pcmBytes, mapBytes}
 use Rattle.tables.specs.Tables.{jackAt, pcmAt, mapAt}
 use Rattle.model.specs.Device.{withinOf}
 use Rattle.model.specs.DeviceLaws.{passed, stopped, few-jacks, few-streams, few-maps}
-use Rattle.model.specs.Control.{Outcome, Laid, bad, ok, rangeOf, table, jackBytes, pcmBytes, mapBytes, keptBy, settingOf, commandOf, answerBy}
+use Rattle.model.specs.Control.{Outcome, Laid, bad, ok, rangeOf, table, keptBy, settingOf, commandOf, answerBy}
 use Rattle.model.specs.PageLaws.{front}
 use Rattle.model.specs.ControlLaws.{range-fits, table-bad, table-rows}
 use Rattle.model.specs.declared.device.Counts.{Counts}
@@ -32,15 +31,10 @@ use Rattle.model.specs.declared.device.Held.{Held}
 use Rattle.model.specs.declared.device.Device.{Device}
 use Rattle.model.specs.declared.control.Range.{Range}
 use Rattle.model.specs.declared.control.Range.the-variants.{Of, Bad}
-use Rattle.model_store.specs.Store.{countsAt, heldBytes, deviceOf, deviceBytes}
+use Rattle.model_store.specs.Store.{countsAt, heldBytes, deviceOf}
 use Rattle.model_store.specs.PartLaws.{range-below, part-same}
 use Rattle.model_store.specs.StoreLaws.{jack-same, pcm-same, map-same, store-same, params-alone}
-
--- what a function that gives an outcome tells, and leaves in the store and in the page
-pub record Gave (o : Outcome) (s page : List ℕ) (n : ℕ) (after shown : List ℕ) : Type 0 where
-  pub told : n ≡ length (o .bytes)
-  pub device : after ≡ sets s 0 (deviceBytes (o .device))
-  pub written : shown ≡ o .bytes ++ drop (length (o .bytes)) page
+use Rattle.model_store.specs.Steps.{rangeBytes, Gave}
 
 pub gave : {o o′ : Outcome} {s page : List ℕ} {n : ℕ} {after shown : List ℕ} → o ≡ o′ → Gave o′ s page n after shown → Gave o s page n after shown
 gave e g = rw e g
@@ -55,11 +49,6 @@ pub status-laid : (status : ℕ) (page after : List ℕ) → 4 ≤ length page �
 status-laid status page after h e = let n = length-le 4 status in (sym n, e ∙ front page (le 4 status) (rw n h))
 
 -- ---- a query
-
--- an ok header and a copy of the range's bytes
-abbrev pub rangeBytes : Range → ℕ → ℕ → List ℕ → List ℕ
-rangeBytes (Of start count) size place s = le 4 0x8000 ++ bytesAt (place + start * size) (count * size) s
-rangeBytes Bad size place s = le 4 0x8001
 
 pub range-laid : (s page p after : List ℕ) (place start count size : ℕ) → 4 + count * size ≤ length page
     → p ≡ sets page 0 (le 4 0x8000) → after ≡ sets p 4 (bytesAt (place + start * size) (count * size) s)

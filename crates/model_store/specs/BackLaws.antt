@@ -9,20 +9,19 @@ use lib.ListN.{length, getD, drop}
 use lib.Seq.{sets, sets-eq}
 use Rattle.layout.specs.Bytes.{le, un, bytesAt, numAt, Bytes}
 use Rattle.layout.specs.Layout.{write, readAt, read, Fit}
-use Rattle.layout.specs.Rows.{rowsBytes}
+use Rattle.layout.specs.Rows.{rowsAt, rowsBytes}
 use Rattle.layout.specs.BytesLaws.{length-le, un-le, numAt-below, bytesAt-all, bytesAt-append, bytesAt-own}
 use Rattle.layout.specs.LayoutLaws.{length-write, read-write, read-own, read-fits}
-use Rattle.records.specs.Records.{jackInfo, jackInfoValues, pcmInfo, pcmInfoValues, channelMap, channelMapValues, setParameters, setParametersValues}
-use Rattle.records.specs.BackLaws.{jackInfoOf, pcmInfoOf, channelMapOf, setParametersOf}
+use Rattle.records.specs.Records.{jackInfo, jackInfoValues, pcmInfo, pcmInfoValues, channelMap, channelMapValues, setParameters, setParametersValues, jackInfoOf, pcmInfoOf, channelMapOf, setParametersOf, jackBytes, pcmBytes, mapBytes}
 use Rattle.records.specs.declared.info.JackInfo.{JackInfo}
 use Rattle.records.specs.declared.info.PcmInfo.{PcmInfo}
 use Rattle.records.specs.declared.info.ChannelMap.{ChannelMap}
 use Rattle.tables.specs.Tables.{jackAt, pcmAt, mapAt}
-use Rattle.model.specs.Control.{jackBytes, pcmBytes, mapBytes}
 use Rattle.model.specs.declared.device.Held.{Held}
 use Rattle.model.specs.declared.device.Device.{Device}
 use Rattle.model_store.specs.Store.{countsBytes, countsAt, heldBytes, heldAt, wordAt, deviceOf, deviceBytes}
-use Rattle.model_store.specs.PartLaws.{Every, rows-every, table-back}
+use Rattle.layout.specs.RowsLaws.{table-back}
+use Rattle.layout.specs.AllLaws.{AllOk, rows-ok}
 use Rattle.model_store.specs.StoreLaws.{Sized, sized-of, jack-sized, pcm-sized, map-sized, held-sized, toPcms, toMaps, toParams, toPlayed, fromPcms, fromMaps, fromParams, fromPlayed, at-jacks, at-pcms, at-maps, at-params, at-played, length-counts, length-toPcms, length-toMaps, length-toParams, length-toPlayed, length-deviceBytes}
 
 -- ---- a record of each table is read from its own bytes alone, and is what was written
@@ -91,11 +90,11 @@ word-back x f = ap un (bytesAt-all (le 8 x) 8 (length-le 8 x)) ∙ un-le 8 x f
 pub record Fits (d : Device) : Type 0 where
   pub sized : Sized d
   pub counts : Fit (4 ∷ 4 ∷ 4 ∷ []) (d .counts .jacks ∷ d .counts .streams ∷ d .counts .maps ∷ [])
-  pub jacks : Every (λ (x : JackInfo). Fit jackInfo (jackInfoValues x)) (d .jacks)
-  pub pcms : Every (λ (x : PcmInfo). Fit pcmInfo (pcmInfoValues x)) (d .pcms)
-  pub maps : Every (λ (x : ChannelMap). Fit channelMap (channelMapValues x)) (d .maps)
-  pub params : Every HeldOk (d .params)
-  pub played : Every (λ (x : ℕ). x < 256 ^ 8) (d .played)
+  pub jacks : AllOk (λ (x : JackInfo). Fit jackInfo (jackInfoValues x)) (d .jacks)
+  pub pcms : AllOk (λ (x : PcmInfo). Fit pcmInfo (pcmInfoValues x)) (d .pcms)
+  pub maps : AllOk (λ (x : ChannelMap). Fit channelMap (channelMapValues x)) (d .maps)
+  pub params : AllOk HeldOk (d .params)
+  pub played : AllOk (λ (x : ℕ). x < 256 ^ 8) (d .played)
 
 -- the device that a store holds fits
 pub device-fits : (s : List ℕ) → Bytes s → Fits (deviceOf s)
@@ -104,14 +103,20 @@ device-fits s b =
     record {
       sized = sized-of s;
       counts = read-fits 0 (4 ∷ 4 ∷ 4 ∷ []) s b;
-      jacks = rows-every jackAt 24 (λ (x : JackInfo). Fit jackInfo (jackInfoValues x)) (λ o t c. read-fits o jackInfo t c) 12 170 s b;
-      pcms = rows-every pcmAt 32 (λ (x : PcmInfo). Fit pcmInfo (pcmInfoValues x)) (λ o t c. read-fits o pcmInfo t c) 4092 127 s b;
-      maps = rows-every mapAt 24 (λ (x : ChannelMap). Fit channelMap (channelMapValues x)) (λ o t c. read-fits o channelMap t c) 8156 170 s b;
-      params = rows-every heldAt 25 HeldOk (λ o t c. (read-fits o setParameters t c, numAt-below (o + 24) 1 t c)) 12236 127 s b;
-      played = rows-every wordAt 8 (λ (x : ℕ). x < 256 ^ 8) (λ o t c. numAt-below o 8 t c) 15411 127 s b;
+      jacks = rows-ok (λ (x : JackInfo). Fit jackInfo (jackInfoValues x)) jackAt 24 (λ o t c. read-fits o jackInfo t c) 12 170 s b;
+      pcms = rows-ok (λ (x : PcmInfo). Fit pcmInfo (pcmInfoValues x)) pcmAt 32 (λ o t c. read-fits o pcmInfo t c) 4092 127 s b;
+      maps = rows-ok (λ (x : ChannelMap). Fit channelMap (channelMapValues x)) mapAt 24 (λ o t c. read-fits o channelMap t c) 8156 170 s b;
+      params = rows-ok HeldOk heldAt 25 (λ o t c. (read-fits o setParameters t c, numAt-below (o + 24) 1 t c)) 12236 127 s b;
+      played = rows-ok (λ (x : ℕ). x < 256 ^ 8) wordAt 8 (λ o t c. numAt-below o 8 t c) 15411 127 s b;
     }
 
--- whatever follows the store
+-- a table within a store, whatever follows the store
+module _ {A : Type 0} (f : ℕ → List ℕ → A) (g : A → List ℕ) (size : ℕ) (own : (o : ℕ) (s : List ℕ) → f o s ≡ f 0 (bytesAt o size s))
+    (sized : (x : A) → length (g x) ≡ size) (Ok : A → Type 0) (back : (x : A) → Ok x → f 0 (g x) ≡ x) where
+  table-within : (w a b c : List ℕ) (xs : List A) (o n : ℕ) → w ≡ a ++ (rowsBytes g xs ++ b) → length a ≡ o → length xs ≡ n → AllOk Ok xs → rowsAt f size o n (w ++ c) ≡ xs
+  table-within w a b c xs o n p e l ok =
+      ap (λ (k : List ℕ). rowsAt f size o n (k ++ c)) p ∙ ap (rowsAt f size o n) (simp append-assoc) ∙ table-back f g size own sized Ok back a (b ++ c) xs o n e l ok
+
 module _ (d : Device) (f : Fits d) (c : List ℕ) where
   counts-back : countsAt (deviceBytes d ++ c) ≡ d .counts
   counts-back =
@@ -129,11 +134,11 @@ module _ (d : Device) (f : Fits d) (c : List ℕ) where
       let z = f .sized in
       λ i. record {
         counts = counts-back i;
-        jacks = table-back jackAt jackBytes 24 jack-own jack-sized _ jack-back w (countsBytes (d .counts)) (fromPcms d) c (d .jacks) 12 170 (at-jacks d) (length-counts d) (z .jacks) (f .jacks) i;
-        pcms = table-back pcmAt pcmBytes 32 pcm-own pcm-sized _ pcm-back w (toPcms d) (fromMaps d) c (d .pcms) 4092 127 (at-pcms d) (length-toPcms d z) (z .pcms) (f .pcms) i;
-        maps = table-back mapAt mapBytes 24 map-own map-sized _ map-back w (toMaps d) (fromParams d) c (d .maps) 8156 170 (at-maps d) (length-toMaps d z) (z .maps) (f .maps) i;
-        params = table-back heldAt heldBytes 25 held-own held-sized _ held-back w (toParams d) (fromPlayed d) c (d .params) 12236 127 (at-params d) (length-toParams d z) (z .params) (f .params) i;
-        played = table-back wordAt (le 8) 8 word-own (length-le 8) _ word-back w (toPlayed d) [] c (d .played) 15411 127 (at-played d) (length-toPlayed d z) (z .played) (f .played) i;
+        jacks = table-within jackAt jackBytes 24 jack-own jack-sized _ jack-back w (countsBytes (d .counts)) (fromPcms d) c (d .jacks) 12 170 (at-jacks d) (length-counts d) (z .jacks) (f .jacks) i;
+        pcms = table-within pcmAt pcmBytes 32 pcm-own pcm-sized _ pcm-back w (toPcms d) (fromMaps d) c (d .pcms) 4092 127 (at-pcms d) (length-toPcms d z) (z .pcms) (f .pcms) i;
+        maps = table-within mapAt mapBytes 24 map-own map-sized _ map-back w (toMaps d) (fromParams d) c (d .maps) 8156 170 (at-maps d) (length-toMaps d z) (z .maps) (f .maps) i;
+        params = table-within heldAt heldBytes 25 held-own held-sized _ held-back w (toParams d) (fromPlayed d) c (d .params) 12236 127 (at-params d) (length-toParams d z) (z .params) (f .params) i;
+        played = table-within wordAt (le 8) 8 word-own (length-le 8) _ word-back w (toPlayed d) [] c (d .played) 15411 127 (at-played d) (length-toPlayed d z) (z .played) (f .played) i;
       }
 
 pub store-back : (s : List ℕ) (d : Device) → Fits d → 16427 ≤ length s → deviceOf (sets s 0 (deviceBytes d)) ≡ d

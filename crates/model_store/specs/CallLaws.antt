@@ -12,13 +12,13 @@ use Rattle.codes.specs.SaysLaws.{picks, skips, passes, stops}
 use Rattle.codes.specs.declared.answers.Refusal.the-variants.{InvalidParam, BadLength}
 use Rattle.model.specs.Device.{withinOf}
 use Rattle.model.specs.DeviceLaws.{passed, stopped}
-use Rattle.model.specs.Control.{outcomeOf, controlOf, pageAfter}
+use Rattle.model.specs.Control.{outcomeOf, controlOf, pageAfter, saysControl}
 use Rattle.model.specs.declared.control.Answered.{Answered}
 use Rattle.model.specs.declared.said.Control.the-variants.{Answer, Refused}
 use Rattle.model_store.specs.Store.{countsAt, deviceOf, deviceBytes}
-use Rattle.model_store.specs.Calls.{Told, lengths, controlNumber, controlBytes, controlIn}
+use Rattle.model_store.specs.Calls.{Told, lengths, controlBytes, controlIn}
 use Rattle.model_store.specs.StoreLaws.{store-same}
-use Rattle.model_store.specs.AnswerLaws.{Gave}
+use Rattle.model_store.specs.Steps.{Gave}
 
 -- ---- the lengths
 
@@ -51,10 +51,10 @@ module _ (s request page r : List ℕ) where
   module _ (t : lengths s r ≡ true) where
     -- from the call by value
     control-by : (x : Answered) (shown : List ℕ) → x ≡ controlOf (deviceOf s) request (length page) → shown ≡ pageAfter (deviceOf s) request page
-        → record { answer = controlNumber (x .said); device = sets s 0 (deviceBytes (x .device)); page = shown; result = sets r 0 (controlBytes (x .said)) } ≡ controlIn s request page r
+        → record { answer = saysControl (x .said) .number; device = sets s 0 (deviceBytes (x .device)); page = shown; result = sets r 0 (controlBytes (x .said)) } ≡ controlIn s request page r
     unfolding controlIn
     control-by x shown e f =
-        passes _ _ _ t (λ i. record { answer = controlNumber (e i .said); device = sets s 0 (deviceBytes (e i .device)); page = f i; result = sets r 0 (controlBytes (e i .said)) })
+        passes _ _ _ t (λ i. record { answer = saysControl (e i .said) .number; device = sets s 0 (deviceBytes (e i .device)); page = f i; result = sets r 0 (controlBytes (e i .said)) })
 
     kept : (n : ℕ) → Bytes s → _≡_ {A = Told} (record { answer = n; device = s; page = page; result = r }) (record { answer = n; device = sets s 0 (deviceBytes (deviceOf s)); page = page; result = r })
     kept n b = ap (λ (z : List ℕ). record { answer = n; device = z; page = page; result = r }) (sym (store-same s b))

@@ -11,15 +11,12 @@ use Rattle.layout.specs.Bytes.{le}
 use Rattle.layout.specs.Layout.{write}
 use Rattle.layout.specs.Rows.{rowsAt}
 use Rattle.codes.specs.Says.{pick, guard}
-use Rattle.codes.specs.Answers.{saysRefusal}
-use Rattle.records.specs.Records.{setParameters, setParametersValues}
-use Rattle.records.specs.BackLaws.{jackInfoOf, pcmInfoOf, channelMapOf}
+use Rattle.records.specs.Records.{setParameters, setParametersValues, jackInfoOf, pcmInfoOf, channelMapOf}
 use Rattle.tables.specs.Tables.{jackAt, pcmAt, mapAt}
 use Rattle.model.specs.Device.{nothing, newDevice, withinOf, streamOk}
-use Rattle.model.specs.Control.{controlOf, pageAfter}
+use Rattle.model.specs.Control.{controlOf, pageAfter, saysControl}
 use Rattle.model.specs.Transfer.{plays, transferCall, answerAfter}
 use Rattle.model.specs.declared.device.Counts.{Counts}
-use Rattle.model.specs.declared.device.Held.{Held}
 use Rattle.model.specs.declared.device.Device.{Device}
 use Rattle.model.specs.declared.said.Control.{Control}
 use Rattle.model.specs.declared.said.Control.the-variants.{Answer, Refused}
@@ -70,10 +67,6 @@ newIn s jacks pcms maps =
 abbrev pub lengths : List ℕ → List ℕ → Bool
 lengths s r = leb 16427 (length s) && leb 512 (length r)
 
-abbrev pub controlNumber : Control → ℕ
-controlNumber (Answer n) = 0
-controlNumber (Refused x) = saysRefusal x .number
-
 abbrev pub controlBytes : Control → List ℕ
 controlBytes (Answer n) = le 8 n
 controlBytes (Refused x) = []
@@ -83,7 +76,7 @@ controlIn s request page r =
     let d = deviceOf s in
     let x = controlOf d request (length page) in
     guard (lengths s r)
-    (record { answer = controlNumber (x .said); device = sets s 0 (deviceBytes (x .device)); page = pageAfter d request page; result = sets r 0 (controlBytes (x .said)) })
+    (record { answer = saysControl (x .said) .number; device = sets s 0 (deviceBytes (x .device)); page = pageAfter d request page; result = sets r 0 (controlBytes (x .said)) })
     (record { answer = 10; device = s; page = page; result = r })
 
 -- ---- one transfer, one status in the answer slice
@@ -93,7 +86,7 @@ transferIn s request answer =
     let d = deviceOf s in
     let x = transferCall d request (length answer) in
     guard (leb 16427 (length s))
-    (record { answer = controlNumber (x .said); device = sets s 0 (deviceBytes (x .device)); status = answerAfter d request answer })
+    (record { answer = saysControl (x .said) .number; device = sets s 0 (deviceBytes (x .device)); status = answerAfter d request answer })
     (record { answer = 10; device = s; status = answer })
 
 -- ---- looks: 1 for a device with larger counts, and for a stream too high

@@ -1,6 +1,10 @@
--- The definitions of `model_store`, and their laws.
+-- definitions
 pub mod Store
 pub mod Calls
+pub mod Steps
+-- theorems
+pub mod Holds
+-- laws
 pub mod PartLaws
 pub mod StoreLaws
 pub mod BackLaws

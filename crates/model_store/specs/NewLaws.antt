@@ -10,30 +10,24 @@ use lib.Dec.{leb, eqb}
 use lib.ListN.{length, set, replicate, length-append, length-replicate, replicate-append-replicate}
 use lib.Seq.{sets}
 use borrow.Author.Tests.{le-leb, lt-leb, eq-eqb, ne-eqb}
-use Rattle.layout.specs.Bytes.{le, bytesAt, Bytes}
+use Rattle.layout.specs.Bytes.{le, bytesAt, Bytes, zeros}
 use Rattle.layout.specs.Rows.{rowsAt, rowsBytes}
 use Rattle.layout.specs.BytesLaws.{bytesAt-all}
 use Rattle.layout.specs.LayoutLaws.{length-write}
 use Rattle.layout.specs.StoreLaws.{sets-then}
 use Rattle.layout.specs.RowsLaws.{rowsBytes-append, rows-same}
 use Rattle.codes.specs.SaysLaws.{passes, stops}
-use Rattle.records.specs.BackLaws.{jackInfoOf, pcmInfoOf, channelMapOf}
+use Rattle.records.specs.Records.{jackInfoOf, pcmInfoOf, channelMapOf, jackBytes, pcmBytes, mapBytes}
 use Rattle.tables.specs.Tables.{jackAt, pcmAt, mapAt}
 use Rattle.model.specs.Device.{nothing, withinOf}
 use Rattle.model.specs.DeviceLaws.{passed, stopped, few-jacks, few-streams, few-maps}
-use Rattle.model.specs.Control.{jackBytes, pcmBytes, mapBytes}
 use Rattle.model.specs.declared.device.Counts.{Counts}
 use Rattle.model_store.specs.Store.{countsBytes, heldBytes, deviceBytes}
 use Rattle.model_store.specs.Calls.{Made, countsIn, rowsThen, deviceIn, newIn}
 use Rattle.model_store.specs.StoreLaws.{jack-same, pcm-same, map-same, at-jacks}
+use Rattle.model_store.specs.Steps.{padded}
 
 -- ---- zeros, and a table of which the rest is zeros
-
-unfoldable pub zeros : ℕ → List ℕ
-zeros n = replicate n 0
-
-abbrev pub padded : ℕ → List ℕ → List ℕ
-padded room rows = rows ++ zeros (room - length rows)
 
 length-zeros : (n : ℕ) → length (zeros n) ≡ n
 unfolding zeros

@@ -24,7 +24,8 @@ use Rattle.model.specs.declared.device.Counts.{Counts}
 use Rattle.model.specs.declared.said.Control.the-variants.{Refused}
 use Rattle.model.specs.declared.transfer.Transferred.{Transferred}
 use Rattle.model_store.specs.Store.{countsAt, wordAt, deviceOf, deviceBytes}
-use Rattle.model_store.specs.Calls.{Played, controlNumber, transferIn}
+use Rattle.model.specs.Control.{saysControl}
+use Rattle.model_store.specs.Calls.{Played, transferIn}
 use Rattle.model_store.specs.StoreLaws.{store-same, countedBy, played-alone}
 use Rattle.model_store.specs.CallLaws.{counts-of}
 
@@ -69,11 +70,11 @@ module _ (s request a : List ℕ) where
   module _ (l : 16427 ≤ length s) where
     -- from the call by value
     transfer-by : (x : Transferred) (after status : List ℕ) → x ≡ transferCall (deviceOf s) request (length a) → after ≡ sets s 0 (deviceBytes (x .device)) → status ≡ answerAfter (deviceOf s) request a
-        → record { answer = controlNumber (x .said); device = after; status = status } ≡ transferIn s request a
+        → record { answer = saysControl (x .said) .number; device = after; status = status } ≡ transferIn s request a
     unfolding transferIn
     transfer-by x after status e g f =
         passes _ _ _ (le-leb 16427 (length s) l)
-        (λ i. record { answer = controlNumber (e i .said); device = (g ∙ ap (λ (y : Transferred). sets s 0 (deviceBytes (y .device))) e) i; status = f i })
+        (λ i. record { answer = saysControl (e i .said) .number; device = (g ∙ ap (λ (y : Transferred). sets s 0 (deviceBytes (y .device))) e) i; status = f i })
 
     pub transfer-answer : Bytes s → length a < 8 → record { answer = 10; device = s; status = a } ≡ transferIn s request a
     unfolding transferCall answerAfter

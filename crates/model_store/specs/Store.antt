@@ -5,10 +5,8 @@ use Prim.Native.Nat.{ℕ, _+_}
 use Rattle.layout.specs.Bytes.{le, numAt}
 use Rattle.layout.specs.Layout.{write, readAt}
 use Rattle.layout.specs.Rows.{rowsAt, rowsBytes}
-use Rattle.records.specs.Records.{setParameters, setParametersValues}
-use Rattle.records.specs.BackLaws.{setParametersOf}
+use Rattle.records.specs.Records.{setParameters, setParametersValues, setParametersOf, jackBytes, pcmBytes, mapBytes}
 use Rattle.tables.specs.Tables.{jackAt, pcmAt, mapAt}
-use Rattle.model.specs.Control.{jackBytes, pcmBytes, mapBytes}
 use Rattle.model.specs.declared.device.Counts.{Counts}
 use Rattle.model.specs.declared.device.Held.{Held}
 use Rattle.model.specs.declared.device.Device.{Device}

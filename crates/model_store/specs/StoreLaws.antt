@@ -12,13 +12,13 @@ use Rattle.layout.specs.BytesLaws.{length-le, le-numAt, bytesAt-add}
 use Rattle.layout.specs.StoreLaws.{sets-same}
 use Rattle.layout.specs.LayoutLaws.{length-write, write-read}
 use Rattle.layout.specs.RowsLaws.{length-rows, rows-same}
-use Rattle.records.specs.Records.{jackInfo, jackInfoValues, pcmInfo, pcmInfoValues, channelMap, channelMapValues, setParameters, setParametersValues}
+use Rattle.records.specs.Records.{jackInfo, jackInfoValues, pcmInfo, pcmInfoValues, channelMap, channelMapValues, setParameters, setParametersValues, jackBytes, pcmBytes, mapBytes}
 use Rattle.records.specs.declared.info.JackInfo.{JackInfo}
 use Rattle.records.specs.declared.info.PcmInfo.{PcmInfo}
 use Rattle.records.specs.declared.info.ChannelMap.{ChannelMap}
 use Rattle.tables.specs.Tables.{jackAt, pcmAt, mapAt}
 use Rattle.model.specs.Device.{nothing}
-use Rattle.model.specs.Control.{jackBytes, pcmBytes, mapBytes, keptBy}
+use Rattle.model.specs.Control.{keptBy}
 use Rattle.model.specs.declared.device.Held.{Held}
 use Rattle.model.specs.declared.device.Device.{Device}
 use Rattle.model_store.specs.Store.{countsBytes, heldBytes, heldAt, wordAt, deviceOf, deviceBytes}

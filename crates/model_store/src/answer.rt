@@ -9,7 +9,7 @@ ghost use Rattle.codes.specs.Says.{pick};
 ghost use Rattle.model.specs.Device.{withinOf};
 ghost use Rattle.model.specs.Control.{rangeOf, Laid, settingOf, answerBy, outcomeOf};
 ghost use Rattle.model_store.specs.Store.{countsAt, deviceOf};
-ghost use Rattle.model_store.specs.AnswerLaws.{rangeBytes, Gave};
+ghost use Rattle.model_store.specs.Steps.{rangeBytes, Gave};
 use crate::place::HELD;
 use crate::place::JACKS;
 use crate::place::MAPS;
@@ -18,6 +18,7 @@ use crate::place::PCMS;
 use crate::place::copy;
 use codes::FoundRequest;
 use codes::RequestCode;
+use codes::StatusCode;
 use model::Counts;
 use model::Range;
 use model::control::asked;
@@ -26,7 +27,6 @@ use records::JackInfo;
 use records::PcmCommand;
 use records::PcmInfo;
 use records::SetParameters;
-use records::TransferStatus;
 
 // The code of a request, and the status of an answer.
 const HEADER: usize = 4;
@@ -47,9 +47,9 @@ fn rows(device: &[u8], place: usize, size: usize, n: u32, request: &[u8], page: 
     ensures { λ r. ⌜ Laid (rangeBytes (rangeOf (now (request .entry)) size n) size place (now (device .entry))) (now (page .entry)) r (now (page .exit)) ⌝ }
 {
     let Range::Of(start, count) = asked(request, size, n) else {
-        return tell(TransferStatus::BAD_MSG, page);
+        return tell(StatusCode::BAD_MSG, page);
     };
-    layout::put_u32(page, 0, TransferStatus::OK);
+    layout::put_u32(page, 0, StatusCode::OK);
     let bytes = count * size;
     copy(page, HEADER, device, place + start * size, bytes);
     HEADER + bytes
@@ -61,16 +61,16 @@ fn setting(streams: u32, device: &mut [u8], request: &[u8], page: &mut [u8]) -> 
     ensures { λ r. ⌜ Gave (settingOf (now (request .entry)) (deviceOf (now (device .entry)))) (now (device .entry)) (now (page .entry)) r (now (device .exit)) (now (page .exit)) ⌝ }
 {
     if request.len() != SetParameters::SIZE {
-        return tell(TransferStatus::BAD_MSG, page);
+        return tell(StatusCode::BAD_MSG, page);
     }
     let stream = layout::get_u32(request, 4);
     if streams <= stream {
-        return tell(TransferStatus::BAD_MSG, page);
+        return tell(StatusCode::BAD_MSG, page);
     }
     let at = PARAMS + stream as usize * HELD;
     copy(device, at, request, 0, SetParameters::SIZE);
     layout::put_u8(device, at + SetParameters::SIZE, 1);
-    tell(TransferStatus::OK, page)
+    tell(StatusCode::OK, page)
 }
 
 // The stream of a command is not tested.
@@ -79,9 +79,9 @@ fn command(request: &[u8], page: &mut [u8]) -> usize
     ensures { λ r. ⌜ Laid (pick (eqb (length (now (request .entry))) 8) (le 4 0x8000) (le 4 0x8001)) (now (page .entry)) r (now (page .exit)) ⌝ }
 {
     if request.len() == PcmCommand::SIZE {
-        return tell(TransferStatus::OK, page);
+        return tell(StatusCode::OK, page);
     }
-    tell(TransferStatus::BAD_MSG, page)
+    tell(StatusCode::BAD_MSG, page)
 }
 
 // The device has no remap.
@@ -91,7 +91,7 @@ fn answer(code: RequestCode, n: Counts, device: &mut [u8], request: &[u8], page:
 {
     match code {
         RequestCode::RJackInfo => rows(&device[..], JACKS, JackInfo::SIZE, n.jacks, request, page),
-        RequestCode::RJackRemap => tell(TransferStatus::BAD_MSG, page),
+        RequestCode::RJackRemap => tell(StatusCode::BAD_MSG, page),
         RequestCode::RPcmInfo => rows(&device[..], PCMS, PcmInfo::SIZE, n.streams, request, page),
         RequestCode::RPcmSetParams => setting(n.streams, device, request, page),
         RequestCode::RPcmPrepare => command(request, page),
@@ -108,10 +108,10 @@ pub(crate) fn outcome(counts: Counts, device: &mut [u8], request: &[u8], page: &
     ensures { λ r. ⌜ Gave (outcomeOf (now (request .entry)) (deviceOf (now (device .entry)))) (now (device .entry)) (now (page .entry)) r (now (device .exit)) (now (page .exit)) ⌝ }
 {
     if request.len() < HEADER {
-        return tell(TransferStatus::BAD_MSG, page);
+        return tell(StatusCode::BAD_MSG, page);
     }
     let FoundRequest::Is(code) = RequestCode::from_code(layout::get_u32(request, 0)) else {
-        return tell(TransferStatus::BAD_MSG, page);
+        return tell(StatusCode::BAD_MSG, page);
     };
     answer(code, counts, device, request, page)
 }

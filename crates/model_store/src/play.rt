@@ -9,10 +9,10 @@ ghost use Rattle.model.specs.Transfer.{statusBy, deviceAfter};
 ghost use Rattle.model_store.specs.Store.{countsAt, deviceOf, deviceBytes};
 use crate::place::PLAYED;
 use crate::place::WORD;
+use codes::StatusCode;
 use model::Counts;
 use model::transfer::plays;
 use records::Transfer;
-use records::TransferStatus;
 use std::num::wrapping_add_u64;
 
 // The status of a transfer. The stream's count grows by the payload's length.
@@ -25,7 +25,7 @@ pub(crate) fn play(counts: Counts, device: &mut [u8], request: &[u8]) -> u32
         let n = layout::get_u64(&device[..], at);
         let more = request.len() - Transfer::SIZE;
         layout::put_u64(device, at, wrapping_add_u64(n, more as u64));
-        return TransferStatus::OK;
+        return StatusCode::OK;
     }
-    TransferStatus::BAD_MSG
+    StatusCode::BAD_MSG
 }

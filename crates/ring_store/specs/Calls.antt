@@ -1,7 +1,7 @@
 -- The calls on a ring that stands in a lent byte store: the call by value on the ring that the store holds, and the ring that it leaves, written
 -- over it. A store under 592 bytes, or a result slice under 512, gets 10. A refusal leaves every byte as it was.
 -- Assumes nothing.
-use mathlib.Core.Bool.{Bool, _&&_}
+use mathlib.Core.Bool.{_&&_}
 use mathlib.Core.List.{List, [], _∷_}
 use Prim.Native.Nat.{ℕ}
 use lib.Dec.{leb, eqb}
@@ -9,19 +9,15 @@ use lib.ListN.{length}
 use lib.Seq.{sets}
 use Rattle.layout.specs.Bytes.{le}
 use Rattle.layout.specs.Rows.{rowsBytes}
-use Rattle.codes.specs.Says.{Says, says, pick, guard}
-use Rattle.codes.specs.Answers.{saysRefusal}
+use Rattle.codes.specs.Says.{Says, pick, guard}
 use Rattle.turns.specs.Ring.{newRing, saysSaid}
 use Rattle.turns.specs.Reads.{readOf}
-use Rattle.turns.specs.Calls.{startCall, startedOf, offerCall}
+use Rattle.turns.specs.Calls.{startCall, startedOf, offerCall, saysOffer}
 use Rattle.turns.specs.InPlace.{turnWords, drainWords}
 use Rattle.turns.specs.declared.ring.Track.{Track}
 use Rattle.turns.specs.declared.ring.Turned.{Turned}
-use Rattle.turns.specs.declared.ring.Sent.{Sent}
-use Rattle.turns.specs.declared.ring.Sent.the-variants.{Nothing, Period}
 use Rattle.turns.specs.declared.ring.Said.{Said}
 use Rattle.turns.specs.declared.ring.Said.the-variants.{Going, Ended, Refused}
-use Rattle.turns.specs.declared.calls.Offer.{Offer}
 use Rattle.turns.specs.declared.calls.Offer.the-variants as offer
 use Rattle.ring_store.specs.Store.{trackAt, ringOf, ringBytes}
 
@@ -67,15 +63,6 @@ words values = rowsBytes (le 8) values
 
 unfoldable pub shown : List ℕ → List ℕ → Says → Shown
 shown s r x = guard (leb 592 (length s) && leb 512 (length r)) (record { answer = x .number; result = sets r 0 (words (x .values)) }) (record { answer = 10; result = r })
-
--- what the next turn submits: 1, slot, offset and length; or 0 three times more
-abbrev pub saysSent : Sent → Says
-saysSent Nothing = says 0 (0 ∷ 0 ∷ 0 ∷ 0 ∷ [])
-saysSent (Period slot offset len) = says 0 (1 ∷ slot ∷ offset ∷ len ∷ [])
-
-abbrev pub saysOffer : Offer → Says
-saysOffer (offer.Is sent) = saysSent sent
-saysOffer (offer.Refused r) = saysRefusal r
 
 abbrev pub offerIn : List ℕ → ℕ → List ℕ → Shown
 offerIn s len r = shown s r (saysOffer (offerCall 3 (trackAt s) len))

@@ -1,7 +1,6 @@
 -- The calls on a store, by what their code does.
 -- Assumes nothing.
 use mathlib.Core.Path.{_≡_, refl, ap, _∙_}
-use mathlib.Core.Bool.{Bool, true, false}
 use mathlib.Core.List.{List}
 use Prim.Native.Nat.{ℕ, _≤_, _<_}
 use lib.Dec.{leb}
@@ -17,18 +16,10 @@ use Rattle.turns.specs.declared.ring.Track.{Track}
 use Rattle.turns.specs.declared.ring.Step.{Step}
 use Rattle.turns.specs.declared.ring.Said.{Said}
 use Rattle.turns.specs.declared.ring.Said.the-variants.{Going, Ended, Refused}
-use Rattle.ring_store.specs.Store.{ringOf, ringBytes}
+use Rattle.ring_store.specs.Store.{ringOf, ringBytes, trackBytes}
 use Rattle.ring_store.specs.Calls.{Left, unlessRefused, leftBy, changed, newIn}
-use Rattle.ring_store.specs.StoreLaws.{trackBytes, sentOver, sent-over, blankOver, new-over}
-
-abbrev pub changesOf : Said → Bool
-changesOf Going = true
-changesOf (Ended a) = true
-changesOf (Refused r) = false
-
--- what a step leaves of a store
-abbrev pub stepOver : List ℕ → Step → List ℕ
-stepOver s x = pick (changesOf (x .said)) (sentOver (sets s 0 (trackBytes (x .track))) (x .sent)) s
+use Rattle.ring_store.specs.StoreLaws.{sent-over, new-over}
+use Rattle.ring_store.specs.Steps.{blankOver, changesOf, stepOver}
 
 unless-by : (said : Said) (old new : List ℕ) → pick (changesOf said) new old ≡ unlessRefused said old new
 unless-by Going old new = refl

@@ -17,7 +17,7 @@ use Rattle.codes.specs.declared.answers.Answer.{Answer}
 use Rattle.turns.specs.Ring.{newRing, saysSaid}
 use Rattle.turns.specs.Rules.{chooseOf, judgeOf, settle, hear, act, turnOf, submit, sentOf, countedBy, countedOf}
 use Rattle.turns.specs.RuleLaws.{Judged, judged}
-use Rattle.turns.specs.CaseLaws.{Plain, lastOf}
+use Rattle.turns.specs.CaseLaws.{lastOf}
 use Rattle.turns.specs.Consistent.{consistentOf}
 use Rattle.turns.specs.ConsistentLaws.{consistent-facts}
 use Rattle.turns.specs.Calls.{turnCall, drainBy, drained, drainCall, startCall, carry, turnedOf}
@@ -109,23 +109,7 @@ pub flag-consistent : (s : List ℕ) → consistentOf (trackAt s) ≡ true → f
 unfolding trackAt
 flag-consistent s e = flag-by (flagAt s) (numAt 0 8 s) (leb (flagAt s) 1) refl (consistent-facts (trackAt s) e .placed .direct)
 
-module _ (t : Track) where
-  abbrev pub Sound : Step → Type 0
-  Sound x = Plain (x .said) → consistentOf t ≡ true
-
-  pub turn-sound : (least len : ℕ) (reading : Reading) → Sound (turnCall least t len reading)
-  unfolding turnCall
-  turn-sound least len reading = guarded-by Sound _ _ _ (λ _. guarded-by Sound _ _ _ (λ e _. e) (λ _ p. absurd p)) (λ _ p. absurd p)
-
-  pub drain-sound : (reading : Reading) → Sound (drainCall t reading)
-  unfolding drainCall
-  drain-sound reading = guarded-by Sound _ _ _ (λ e _. e) (λ _ p. absurd p)
-
-  pub start-sound : (stream total period budget : ℕ) → Sound (startCall t stream total period budget)
-  unfolding startCall
-  start-sound stream total period budget = guarded-by Sound _ _ _ (λ e _. e) (λ _ p. absurd p)
-
--- ---- AN ANSWER 10 OR 1 LEAVES THE STORE AS IT WAS: these are refusals alone
+-- ---- AN ANSWER 10 OR 1 LEAVES THE STORE AS IT WAS: these are refusals alone. So does any answer of a start but 512
 
 abbrev pub Barred : ℕ → Type 0
 Barred n = (n ≡ 10) ⊎ (n ≡ 1)
@@ -144,6 +128,16 @@ unless-barred : (said : Said) (old new : List ℕ) → Telling said → Barred (
 unless-barred Going old new p b = absurd (other 512 (λ e. omega arith) (λ e. omega arith) b)
 unless-barred (Ended a) old new p b = absurd (p b)
 unless-barred (Refused r) old new p b = refl
+
+abbrev Begins : Said → Type 0
+Begins Going = Unit {0}
+Begins (Ended a) = ⊥
+Begins (Refused r) = Unit {0}
+
+unless-begun : (said : Said) (old new : List ℕ) → Begins said → (saysSaid said .number ≡ 512 → ⊥) → unlessRefused said old new ≡ old
+unless-begun Going old new p n = absurd (n refl)
+unless-begun (Ended a) old new p n = absurd p
+unless-begun (Refused r) old new p n = refl
 
 refused-unchanged : (s : List ℕ) (x : Step) → Telling (x .said) → Barred (leaves s x .answer) → leaves s x .ring ≡ s
 refused-unchanged s x p =
@@ -198,11 +192,15 @@ drain-call-tells : (t : Track) (reading : Reading) → Tells (drainCall t readin
 unfolding drainCall
 drain-call-tells t reading = guarded-by Tells _ _ _ (λ _. guarded-by Tells _ _ _ (λ _. tt) (λ _. drained-tells t reading)) (λ _. tt)
 
-start-tells : (t : Track) (stream total period budget : ℕ) → Tells (startCall t stream total period budget)
+-- a start goes on or is refused
+abbrev Starts : Step → Type 0
+Starts x = Begins (x .said)
+
+start-begins : (t : Track) (stream total period budget : ℕ) → Starts (startCall t stream total period budget)
 unfolding startCall
-start-tells t stream total period budget =
-    guarded-by Tells _ _ _
-    (λ _. guarded-by Tells _ _ _ (λ _. guarded-by Tells _ _ _ (λ _. guarded-by Tells _ _ _ (λ _. tt) (λ _. tt)) (λ _. tt)) (λ _. tt))
+start-begins t stream total period budget =
+    guarded-by Starts _ _ _
+    (λ _. guarded-by Starts _ _ _ (λ _. guarded-by Starts _ _ _ (λ _. guarded-by Starts _ _ _ (λ _. tt) (λ _. tt)) (λ _. tt)) (λ _. tt))
     (λ _. tt)
 
 pub turn-unchanged : (s : List ℕ) (len kind slot status : ℕ) → Barred (turnIn s len kind slot status .answer) → turnIn s len kind slot status .ring ≡ s
@@ -211,5 +209,11 @@ turn-unchanged s len kind slot status = rw (turn-leaves s len kind slot status) 
 pub drain-unchanged : (s : List ℕ) (kind slot status : ℕ) → Barred (drainIn s kind slot status .answer) → drainIn s kind slot status .ring ≡ s
 drain-unchanged s kind slot status = rw (drain-leaves s kind slot status) (refused-unchanged s (drainStep s kind slot status) (drain-call-tells (trackAt s) (readingOf kind slot status)))
 
-pub start-unchanged : (s : List ℕ) (stream len period budget : ℕ) → Barred (startIn s stream len period budget .answer) → startIn s stream len period budget .ring ≡ s
-start-unchanged s stream len period budget = rw (start-leaves s stream len period budget) (refused-unchanged s (startStep s stream len period budget) (start-tells (trackAt s) stream len period budget))
+-- a start that does not go on, whatever it answers: 10, 1, 8 or 9
+pub start-unchanged : (s : List ℕ) (stream len period budget : ℕ) → (startIn s stream len period budget .answer ≡ 512 → ⊥) → startIn s stream len period budget .ring ≡ s
+start-unchanged s stream len period budget =
+    let x = startStep s stream len period budget in
+    rw (start-leaves s stream len period budget)
+    (guarded-by (λ (l : Left). (l .answer ≡ 512 → ⊥) → l .ring ≡ s) (leb 592 (length s)) _ _
+    (λ _ n. unless-begun (x .said) s _ (start-begins (trackAt s) stream len period budget) n)
+    (λ _ _. refl))

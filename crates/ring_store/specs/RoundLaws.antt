@@ -12,17 +12,18 @@ use lib.Seq.{sets, sets-eq}
 use Rattle.layout.specs.Bytes.{le, un, numAt, bytesAt, Bytes}
 use Rattle.layout.specs.Layout.{write, readAt, read, Fit}
 use Rattle.layout.specs.Rows.{rowsAt, rowsBytes}
-use Rattle.layout.specs.BytesLaws.{bytesAt-add, bytesAt-append}
+use Rattle.layout.specs.BytesLaws.{bytesAt-add}
 use Rattle.layout.specs.LayoutLaws.{length-write, read-write, write-read, read-own}
 use Rattle.layout.specs.StoreLaws.{sets-same}
-use Rattle.layout.specs.RowsLaws.{length-rowsBytes, rows-same, rows-back}
+use Rattle.layout.specs.RowsLaws.{length-rowsBytes, rows-same, table-back}
+use Rattle.layout.specs.AllLaws.{AllOk}
 use Rattle.codes.specs.Says.{pick}
 use Rattle.codes.specs.SaysLaws.{picks}
 use Rattle.turns.specs.declared.ring.Slot.{Slot}
 use Rattle.turns.specs.declared.ring.Track.{Track}
 use Rattle.turns.specs.declared.ring.Ring.{Ring}
-use Rattle.ring_store.specs.Store.{trackRow, trackValues, trackOf, trackAt, slotRow, slotBytes, slotAt, ringOf, ringBytes}
-use Rattle.ring_store.specs.StoreLaws.{trackBytes, slot-sized, slot-same}
+use Rattle.ring_store.specs.Store.{trackRow, trackValues, trackOf, trackAt, slotRow, slotBytes, slotAt, ringOf, ringBytes, trackBytes}
+use Rattle.ring_store.specs.StoreLaws.{slot-sized, slot-same}
 
 -- where `running` stands in a store
 abbrev pub flagAt : List ℕ → ℕ
@@ -62,16 +63,8 @@ slot-back x f =
     let vs = x .offset ∷ x .len ∷ [] in
     ap (λ (l : List ℕ). record { offset = getD l 0 0; len = getD l 1 0 }) (ap (read slotRow) (sym (append-nil (slotBytes x))) ∙ read-write slotRow vs [] f)
 
--- the slots behind 80 bytes of track
-slots-behind : (t l : List ℕ) → length t ≡ 80 → rowsAt slotAt 16 80 32 (t ++ l) ≡ rowsAt slotAt 16 0 32 l
-unfolding rowsAt
-slots-behind t l e =
-    let behind : (o : ℕ) (m : List ℕ) → slotAt (80 + o) (t ++ m) ≡ slotAt o m = λ o m. slot-own (80 + o) (t ++ m) ∙ ap (slotAt 0) (ap (λ (k : ℕ). bytesAt (k + o) 16 (t ++ m)) (sym e) ∙ bytesAt-append t m o 16) ∙ sym (slot-own o m) in
-    λ i. rowsAt (λ (o : ℕ) (m : List ℕ). behind o m i) 16 0 32 l
-
 abbrev pub SlotsFit : List Slot → Type 0
-SlotsFit [] = Unit {0}
-SlotsFit (x ∷ xs) = SlotFits x × SlotsFit xs
+SlotsFit = AllOk SlotFits
 
 -- each number fits its width, and there are 32 slots
 pub record Fits (r : Ring) : Type 0 where
@@ -106,9 +99,7 @@ store-back s r f h =
     let n : length (t ++ b) ≡ 592 = length-ringBytes r (f .long) in
     let e : sets s 0 (t ++ b) ≡ t ++ (b ++ rest) = sets-eq (t ++ b) s 0 (omega arith) ∙ append-assoc t b rest in
     let slots : rowsAt slotAt 16 80 32 (t ++ (b ++ rest)) ≡ r .slots =
-    slots-behind t (b ++ rest) (length-write trackRow (trackValues (r .track)))
-    ∙ ap (λ (k : ℕ). rowsAt slotAt 16 0 k (b ++ rest)) (sym (f .long))
-    ∙ rows-back slotAt slotBytes 16 slot-own slot-sized SlotFits slot-back (r .slots) rest (f .slots) in
+    table-back slotAt slotBytes 16 slot-own slot-sized SlotFits slot-back t rest (r .slots) 80 32 (length-write trackRow (trackValues (r .track))) (f .long) (f .slots) in
     ap ringOf e ∙ (λ i. record { track = (ap trackOf (read-write trackRow (trackValues (r .track)) (b ++ rest) (f .track)) ∙ track-back (r .track)) i; slots = slots i })
 
 -- ---- the flag of what was written is 0 or 1

@@ -1,6 +1,6 @@
 -- The ring as bytes in its owner's storage: 80 bytes of track, then 32 slots of 16.
 -- Assumes nothing.
-use mathlib.Core.Bool.{Bool, not}
+use mathlib.Core.Bool.{not}
 use mathlib.Core.List.{List, [], _∷_, _++_}
 use Prim.Native.Nat.{ℕ, _+_}
 use lib.Dec.{leb, eqb}
@@ -56,3 +56,6 @@ ringOf s = record { track = trackAt s; slots = rowsAt slotAt 16 80 32 s }
 
 unfoldable pub ringBytes : Ring → List ℕ
 ringBytes r = write trackRow (trackValues (r .track)) ++ rowsBytes slotBytes (r .slots)
+
+abbrev pub trackBytes : Track → List ℕ
+trackBytes t = write trackRow (trackValues t)

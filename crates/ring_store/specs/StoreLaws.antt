@@ -1,22 +1,20 @@
 -- A store written by place: a track or a slot over a store is the whole ring with that part new.
 -- Assumes nothing.
 use mathlib.Core.Path.{_≡_, refl, sym, ap, _∙_}
-use mathlib.Core.Bool.{Bool, true, false, not}
+use mathlib.Core.Bool.{Bool, true, false}
 use mathlib.Core.List.{List, [], _∷_, _++_, append-assoc}
 use Prim.Native.Nat.{ℕ, suc, _+_, _*_, _≤_, _<_}
 use native.Mathlib.Omega.{arith}
-use lib.Dec.{leb, eqb, ltb}
+use lib.Dec.{ltb}
 use borrow.Author.Tests.{lt-ltb, le-ltb, ltb-true, ltb-false}
 use lib.ListN.{length, getD, set, take, drop, replicate, length-append, List·getD-eq-default, getD-replicate}
 use lib.Seq.{sets, set-out, length-take-le}
 use Rattle.layout.specs.Bytes.{le, numAt, bytesAt, Bytes}
-use Rattle.layout.specs.Layout.{write}
 use Rattle.layout.specs.Rows.{rowsBytes}
 use Rattle.layout.specs.LayoutLaws.{length-write, write-read}
 use Rattle.layout.specs.StoreLaws.{over, sets-but, sets-then}
 use Rattle.layout.specs.ChainLaws.{Got, Stored, got, stored}
 use Rattle.layout.specs.RowsLaws.{length-rows, length-rowsBytes, rows-at, rowsBytes-more, rows-split, rows-with, rows-same}
-use Rattle.codes.specs.Says.{pick}
 use Rattle.codes.specs.SaysLaws.{picks, skips}
 use Rattle.turns.specs.Ring.{blankSlot, newTrack, newRing}
 use Rattle.turns.specs.Calls.{carry}
@@ -25,23 +23,8 @@ use Rattle.turns.specs.declared.ring.Track.{Track}
 use Rattle.turns.specs.declared.ring.Ring.{Ring}
 use Rattle.turns.specs.declared.ring.Sent.{Sent}
 use Rattle.turns.specs.declared.ring.Sent.the-variants.{Nothing, Period}
-use Rattle.ring_store.specs.Store.{trackRow, trackValues, trackOf, trackAt, slotRow, slotBytes, slotAt, ringOf, ringBytes}
-
--- ---- what the code stores
-
-abbrev pub trackBytes : Track → List ℕ
-trackBytes t = write trackRow (trackValues t)
-
--- a slot at its place; there are 32
-abbrev pub slotOver : List ℕ → ℕ → Slot → List ℕ
-slotOver s slot x = pick (ltb slot 32) (sets s (80 + slot * 16) (slotBytes x)) s
-
-abbrev pub sentOver : List ℕ → Sent → List ℕ
-sentOver s Nothing = s
-sentOver s (Period slot offset len) = slotOver s slot (record { offset = offset; len = len })
-
-abbrev pub blankOver : List ℕ → List ℕ
-blankOver s = sets s 80 (rowsBytes slotBytes (replicate 32 blankSlot))
+use Rattle.ring_store.specs.Store.{trackRow, trackValues, trackOf, trackAt, slotRow, slotBytes, slotAt, ringOf, ringBytes, trackBytes}
+use Rattle.ring_store.specs.Steps.{slotOver, sentOver, blankOver}
 
 -- ---- one slot
 

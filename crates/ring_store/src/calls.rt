@@ -5,7 +5,7 @@ ghost use Prim.Native.Nat.{_≤_};
 ghost use lib.ListN.{length};
 ghost use Rattle.turns.specs.Ring.{saysSaid};
 ghost use Rattle.ring_store.specs.Calls.{newIn, turnIn, drainIn, startIn};
-ghost use Rattle.ring_store.specs.CallsLaws.{changesOf, stepOver};
+ghost use Rattle.ring_store.specs.Steps.{changesOf, stepOver};
 use crate::store;
 use crate::store::SIZE;
 use turns::Reading;
@@ -79,7 +79,7 @@ pub fn turn(ring: &mut [u8], len: usize, kind: u32, slot: u32, status: u32) -> u
     }
     let t = store::get_track(ring);
     let reading = Reading::from_words(kind, slot, status);
-    let step = turns::turn_track(turns::LEAST, t, len, reading);
+    let step = turns::turn_track(t, len, reading);
     leave(ring, step)
 }
 

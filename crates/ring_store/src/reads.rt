@@ -10,7 +10,8 @@ ghost use Rattle.codes.specs.Answers.{saysRefusal};
 ghost use Rattle.turns.specs.Reads.{runningOf, inFlightOf, freeOf, turnsOf, streamOf, carriedOf};
 ghost use Rattle.turns.specs.Consistent.{consistentOf};
 ghost use Rattle.ring_store.specs.Store.{trackAt, ringOf};
-ghost use Rattle.ring_store.specs.Calls.{shown, saysSent, offerIn, oldestSays};
+ghost use Rattle.ring_store.specs.Calls.{shown, offerIn, oldestSays};
+ghost use Rattle.turns.specs.Calls.{saysSent};
 use crate::calls::BAD_LENGTH;
 use crate::store;
 use crate::store::SIZE;
@@ -104,7 +105,7 @@ pub fn offered(ring: &[u8], len: usize, result: &mut [u8]) -> u64
     ensures { λ r. ⌜ (r ≡ offerIn (now (ring .entry)) len (now (result .entry)) .answer) × (now (result .exit) ≡ offerIn (now (ring .entry)) len (now (result .entry)) .result) ⌝ }
 {
     let t = store::track(ring);
-    let offer = turns::offer_track(turns::LEAST, t, len);
+    let offer = turns::offer_track(t, len);
     match offer {
         Offer::Is(sent) => tell_sent(ring, sent, result),
         Offer::Refused(refusal) => tell_refusal(ring, refusal, result),

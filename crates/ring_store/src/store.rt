@@ -10,7 +10,7 @@ ghost use Rattle.layout.specs.Bytes.{le, numAt};
 ghost use Rattle.layout.specs.Layout.{write};
 ghost use Rattle.turns.specs.Ring.{blankSlot};
 ghost use Rattle.ring_store.specs.Store.{trackRow, trackValues, trackOf, trackAt, ringOf};
-ghost use Rattle.ring_store.specs.StoreLaws.{slotOver, sentOver, blankOver};
+ghost use Rattle.ring_store.specs.Steps.{slotOver, sentOver, blankOver};
 use layout;
 use turns::Sent;
 use turns::Slot;

@@ -8,14 +8,13 @@ use native.Mathlib.Numerals.{towards-numerals}
 use native.Mathlib.Omega.{arith}
 use native.Mathlib.Nat.{mul-le-mul-right}
 use lib.Dec.{ltb}
-use lib.ListN.{getD, set}
+use lib.ListN.{set}
 use lib.Seq.{sets, set-out}
 use borrow.Author.Tests.{ltb-true, ltb-false}
 use Rattle.layout.specs.Bytes.{le, bytesAt, Bytes}
 use Rattle.layout.specs.Layout.{write}
 use Rattle.layout.specs.Rows.{rowsAt, rowsBytes}
-use Rattle.layout.specs.BytesLaws.{length-bytesAt, bytesAt-add}
-use Rattle.layout.specs.StoreLaws.{sets-then}
+use Rattle.layout.specs.BytesLaws.{length-bytesAt}
 use Rattle.layout.specs.RowsLaws.{length-rows}
 use Rattle.layout.specs.ChainLaws.{Stored, stored}
 use Rattle.codes.specs.Says.{pick}
@@ -29,21 +28,11 @@ use Rattle.exchange.specs.declared.state.Core.{Core}
 use Rattle.exchange.specs.declared.state.Params.{Params}
 use Rattle.exchange.specs.declared.plan.Effect.{Effect}
 use Rattle.exchange.specs.declared.plan.Effect.the-variants.{Nothing, FillJacks, FillStreams, FillMaps, Store}
-use Rattle.state_store.specs.Store.{headRow, headValues, headOf, jackBytes, pcmBytes, mapBytes, paramsRow, paramsBytes, paramsAt, soundOf, soundBytes}
+use Rattle.state_store.specs.Store.{headRow, headValues, headOf, paramsRow, paramsBytes, paramsAt, soundOf, soundBytes}
+use Rattle.records.specs.Records.{jackBytes, pcmBytes, mapBytes}
 use Rattle.state_store.specs.TableLaws.{Alike, alike-on, alike-after, table-kept, table-filled, table-set}
 use Rattle.state_store.specs.OverLaws.{headBytes, head-alike, Sized, sized-of, tables-apart, jacksIn, pcmsIn, mapsIn, paramsIn, jack-same, pcm-same, map-same, params-same, params-sized, jacks-kept, pcms-kept, maps-kept, params-kept, kept-from-maps, kept-from-pcms, core-over}
 use Rattle.state_store.specs.Effect.{copiedIn, effectIn}
-
--- ---- a turn of the copy
-
-pub copy-more : (s page : List ℕ) (o from n : ℕ) (s₁ : List ℕ) → s₁ ≡ sets s o (bytesAt from n page)
-    → set s₁ (o + n) (getD page (from + n) 0) ≡ sets s o (bytesAt from (n + 1) page)
-unfolding bytesAt
-copy-more s page o from n s₁ e =
-    let v = getD page (from + n) 0 ∷ [] in
-    ap (λ (l : List ℕ). sets l (o + n) v) e
-    ∙ sets-then s o (o + n) (bytesAt from n page) v (ap (λ (k : ℕ). o + k) (sym (length-bytesAt from n page)))
-    ∙ ap (sets s o) (sym (bytesAt-add from n 1 page))
 
 -- ---- a verdict that was tested
 

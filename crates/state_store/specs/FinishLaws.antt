@@ -3,7 +3,7 @@
 use mathlib.Core.Path.{_≡_, refl, sym, ap, _∙_}
 use mathlib.Core.Bool.{Bool, true, false, _&&_}
 use mathlib.Core.List.{List, []}
-use Prim.Native.Nat.{ℕ, _+_, _≤_}
+use Prim.Native.Nat.{ℕ, _≤_}
 use native.Mathlib.Omega.{arith}
 use lib.Dec.{leb, eqb}
 use lib.ListN.{length}
@@ -11,46 +11,33 @@ use lib.Seq.{sets}
 use borrow.Author.Tests.{le-leb, leb-true}
 use Rattle.layout.specs.Bytes.{Bytes}
 use Rattle.layout.specs.LayoutLaws.{length-write}
-use Rattle.codes.specs.Says.{pick, guard}
+use Rattle.codes.specs.Says.{guard}
 use Rattle.codes.specs.SaysLaws.{picks, skips, passes, stops}
-use Rattle.codes.specs.Answers.{saysAnswer}
 use Rattle.codes.specs.Answers as answers
-use Rattle.codes.specs.declared.answers.Answer.{Answer}
-use Rattle.codes.specs.declared.answers.Answer.the-variants as answer
+use Rattle.codes.specs.AnswersLaws.{answer-small}
 use Rattle.codes.specs.declared.answers.Refusal.the-variants.{BadLength}
 use Rattle.records.specs.Records.{query, queryValues, remap, remapValues, pcmCommand, pcmCommandValues, setParameters, setParametersValues}
 use Rattle.turns.specs.ConsistentLaws.{both}
 use Rattle.turns.specs.declared.ring.Track.{Track}
 use Rattle.tables.specs.declared.verdict.Verdict.{Verdict}
 use Rattle.tables.specs.declared.verdict.Verdict.the-variants.{Failed}
-use Rattle.exchange.specs.Plan.{keepOf, queryOf, sendOf, lookOf, beginOf, answerOf, verdictBy, pendingLook, soundAfter}
-use Rattle.exchange.specs.Exchange.{saysReply, requestBytes, messageAfter, replyOf, tellOf, toldIn, listOf, callOf, feedOf, failOf}
+use Rattle.exchange.specs.Plan.{keepOf, lookOf, beginOf, answerOf, verdictBy, pendingLook, soundAfter}
+use Rattle.exchange.specs.Exchange.{saysReply, requestBytes, messageAfter, replyOf, tellOf, toldIn, callOf, feedOf, failOf}
 use Rattle.exchange.specs.declared.state.Call.{Call}
-use Rattle.exchange.specs.declared.state.Call.the-variants.{Xfer}
-use Rattle.exchange.specs.declared.state.Stage.the-variants.{JacksAsked}
 use Rattle.exchange.specs.declared.state.Core.{Core}
 use Rattle.exchange.specs.declared.plan.Request.{Request}
 use Rattle.exchange.specs.declared.plan.Request.the-variants as request
 use Rattle.exchange.specs.declared.plan.Say.{Say}
 use Rattle.exchange.specs.declared.plan.Say.the-variants.{Send, Done, Refused}
 use Rattle.exchange.specs.declared.plan.Effect.{Effect}
-use Rattle.exchange.specs.declared.plan.Effect.the-variants.{Nothing}
 use Rattle.exchange.specs.declared.plan.Plan.{Plan}
 use Rattle.state_store.specs.Store.{headAt, coreOf, whole, soundOf, soundBytes}
-use Rattle.state_store.specs.Calls.{Told, left, told, tooShort, lengths, resultBytes, callIn, feedIn, failIn, Opened, opened}
-use Rattle.state_store.specs.declared.calls.Opening.the-variants.{Says}
+use Rattle.state_store.specs.Calls.{Told, left, told, tooShort, lengths, callIn, feedIn, failIn}
 use Rattle.state_store.specs.StoreLaws.{core-at}
 use Rattle.state_store.specs.RefusedLaws.{state-kept}
+use Rattle.state_store.specs.Steps.{changed, finished}
 
 -- ---- a plan carried out, by whether the store is whole
-
-abbrev pub changed : Bool → List ℕ → Effect → Core → List ℕ → List ℕ
-changed w s e c page = pick w (sets s 0 (soundBytes (soundAfter e c (soundOf s) page))) s
-
-abbrev pub finished : Bool → List ℕ → Plan → List ℕ → List ℕ → List ℕ → Told
-finished w s p page m r =
-    left (saysReply (replyOf (p .say)) .number) (changed w s (p .effect) (p .core) page) (messageAfter (p .say) m)
-    (sets r 0 (resultBytes (replyOf (p .say)) (listOf (p .say) (p .core .read .streams) (soundOf s .pcms))))
 
 module _ (w : Bool) (s : List ℕ) (e : Effect) (c : Core) (page : List ℕ) where
   pub change-none : w ≡ false → s ≡ changed w s e c page
@@ -59,12 +46,6 @@ module _ (w : Bool) (s : List ℕ) (e : Effect) (c : Core) (page : List ℕ) whe
   pub change-all : {l : List ℕ} → w ≡ true → l ≡ sets s 0 (soundBytes (soundAfter e c (soundOf s) page)) → l ≡ changed w s e c page
   change-all h p = p ∙ sym (picks w _ s h)
 
--- a transfer that waits for set-up, by the core at hand
-abbrev pub settingUpBy : Bool → Core → List ℕ → ℕ → List ℕ → Opened
-settingUpBy w c s stream m =
-    let p = sendOf c (JacksAsked (Xfer stream)) (queryOf 0x0001 (c .counts .jacks) 24) Nothing in
-    opened (Says (256 + 16)) (changed w s (p .effect) (p .core) []) (messageAfter (p .say) m)
-
 -- the number of a reply: at most 256 and the longest request
 request-small : (q : Request) → length (requestBytes q) ≤ 24
 request-small (request.Query q) = omega (arith, length-write query (queryValues q))
@@ -72,23 +53,10 @@ request-small (request.Remap q) = omega (arith, length-write remap (remapValues 
 request-small (request.Command q) = omega (arith, length-write pcmCommand (pcmCommandValues q))
 request-small (request.Set q) = omega (arith, length-write setParameters (setParametersValues q))
 
-answer-small : (a : Answer) → saysAnswer a .number ≤ 280
-answer-small answer.Ok = omega arith
-answer-small answer.InvalidParam = omega arith
-answer-small answer.IoError = omega arith
-answer-small answer.Unsupported = omega arith
-answer-small answer.NoInfo = omega arith
-answer-small answer.TooMany = omega arith
-answer-small answer.WrongToken = omega arith
-answer-small answer.QueueFailed = omega arith
-answer-small answer.Busy = omega arith
-answer-small answer.OutOfTurns = omega arith
-answer-small answer.BadLength = omega arith
-
 pub reply-small : (a : Say) → saysReply (replyOf a) .number ≤ 280
 reply-small (Send q) = omega (arith, request-small q)
 reply-small (Done v) = omega arith
-reply-small (Refused r) = answer-small (answers.answerOf r)
+reply-small (Refused r) = omega (arith, answer-small (answers.answerOf r))
 
 -- what is told in a message that is long enough
 module _ (a : Say) (m : List ℕ) (l : 24 ≤ length m) where

@@ -95,8 +95,8 @@ flatOf ready (Sent call) = staged ready 4 (callFlat call)
 abbrev pub kindOf : ℕ → Kind
 kindOf n = pick (eqb n 0) Prepare (pick (eqb n 1) Release (pick (eqb n 2) Start Stop))
 
-abbrev pub fieldOf : ℕ → Field
-fieldOf n = pick (eqb n 0) Rates (pick (eqb n 1) Formats (pick (eqb n 2) Channels Features))
+abbrev pub flatField : ℕ → Field
+flatField n = pick (eqb n 0) Rates (pick (eqb n 1) Formats (pick (eqb n 2) Channels Features))
 
 abbrev pub flatParams : Flat → Params
 flatParams f =
@@ -116,7 +116,7 @@ flatCall f =
     (pick (eqb (f .call) 2) (Command (kindOf (f .part)) (f .id))
     (pick (eqb (f .call) 3) (Remap (f .id) (f .first) (f .second))
     (pick (eqb (f .call) 4) (Streams (f .part))
-    (pick (eqb (f .call) 5) (Supported (fieldOf (f .part)) (f .id)) (Xfer (f .id))))))
+    (pick (eqb (f .call) 5) (Supported (flatField (f .part)) (f .id)) (Xfer (f .id))))))
 
 abbrev pub flatStage : Flat → Stage
 flatStage f =

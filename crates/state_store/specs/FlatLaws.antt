@@ -19,7 +19,7 @@ use Rattle.exchange.specs.declared.state.Call.the-variants.{SetParams, Command,
 use Rattle.exchange.specs.declared.state.Stage.{Stage}
 use Rattle.exchange.specs.declared.state.Stage.the-variants.{Idle, JacksAsked, StreamsAsked, MapsAsked, Sent}
 use Rattle.exchange.specs.declared.state.Core.{Core}
-use Rattle.state_store.specs.Flat.{flatValues, kindNumber, kindOf, fieldNumber, fieldOf, callFlat, staged, flatOf, flatCall, flatStage, flatReady, sameFlat, wholeFlat}
+use Rattle.state_store.specs.Flat.{flatValues, kindNumber, kindOf, fieldNumber, flatField, callFlat, staged, flatOf, flatCall, flatStage, flatReady, sameFlat, wholeFlat}
 use Rattle.state_store.specs.Store.{headFrom, headOf, coreOf}
 use Rattle.state_store.specs.declared.flat.Flat.{Flat}
 use Rattle.state_store.specs.declared.flat.Head.{Head}
@@ -32,7 +32,7 @@ kind-back Release = refl
 kind-back Start = refl
 kind-back Stop = refl
 
-field-back : (f : Field) → fieldOf (fieldNumber f) ≡ f
+field-back : (f : Field) → flatField (fieldNumber f) ≡ f
 field-back Rates = refl
 field-back Formats = refl
 field-back Channels = refl

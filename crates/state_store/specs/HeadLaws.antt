@@ -12,16 +12,10 @@ use Rattle.layout.specs.Layout.{write}
 use Rattle.layout.specs.LayoutLaws.{length-write}
 use Rattle.layout.specs.StoreLaws.{sets-then}
 use Rattle.exchange.specs.declared.state.Core.{Core}
-use Rattle.exchange.specs.declared.state.Counts.{Counts}
 use Rattle.state_store.specs.Flat.{flatRow, flatValues, flatOf}
 use Rattle.state_store.specs.Store.{headRow, headValues, headOf}
 use Rattle.state_store.specs.declared.flat.Flat.{Flat}
-
-abbrev pub countsRow : List ℕ
-countsRow = 4 ∷ 4 ∷ 4 ∷ 4 ∷ 4 ∷ 4 ∷ []
-
-abbrev pub countsValues : Counts → Counts → List ℕ
-countsValues n r = n .jacks ∷ n .streams ∷ n .maps ∷ r .jacks ∷ r .streams ∷ r .maps ∷ []
+use Rattle.state_store.specs.Steps.{countsRow, countsValues}
 
 -- fields that follow fields
 write-more : (ws vs us ts : List ℕ) → length vs ≡ length ws → write ws vs ++ write us ts ≡ write (ws ++ us) (vs ++ ts)

@@ -1,8 +1,12 @@
--- The definitions of `state_store`.
+-- definitions
 pub mod Flat
 pub mod Store
 pub mod Calls
 pub mod Effect
+pub mod Steps
+-- theorems
+pub mod Holds
+-- laws
 pub mod HeadLaws
 pub mod FlatLaws
 pub mod TableLaws

@@ -17,11 +17,13 @@ use Rattle.codes.specs.Says.{pick}
 use Rattle.tables.specs.Tables.{pcmAt}
 use Rattle.exchange.specs.State.{pcmOf}
 use Rattle.exchange.specs.Exchange.{idsFrom, listed}
-use Rattle.exchange.specs.ListLaws.{pushed, listed-push, listed-more, length-ids, take-cap}
+use Rattle.exchange.specs.ListLaws.{listed-push, listed-more, length-ids, take-cap}
+use Rattle.exchange.specs.Steps.{pushed}
 use Rattle.exchange.specs.declared.calls.StreamList.{StreamList}
 use Rattle.exchange.specs.declared.plan.Value.the-variants.{Streams}
 use Rattle.state_store.specs.Store.{soundOf}
 use Rattle.state_store.specs.Calls.{valueBytes}
+use Rattle.state_store.specs.Steps.{idsIn, Listed}
 
 -- ---- the array of ids with its count is the ids
 
@@ -35,9 +37,6 @@ listed-bytes : (d : ℕ) (ids : List ℕ) → valueBytes (Streams d) (listed ids
 listed-bytes d ids = ap (λ (l : List ℕ). le 4 (length ids) ++ rowsBytes (le 4) l) (unlisted ids)
 
 -- ---- the ids of a direction among the first n streams of a store
-
-abbrev pub idsIn : List ℕ → ℕ → ℕ → List ℕ
-idsIn s d n = idsFrom d 0 (take n (soundOf s .pcms))
 
 pub pcms-long : (s : List ℕ) → length (soundOf s .pcms) ≡ 127
 unfolding soundOf
@@ -62,10 +61,6 @@ pub ids-all : (s : List ℕ) (d n : ℕ) → 127 < n → idsIn s d 127 ≡ idsIn
 ids-all s d n h = ap (idsFrom d 0) (take-cap n (soundOf s .pcms) (pcms-long s) h)
 
 -- ---- the ids in a result r: so many of them, from byte 4 on
-
-pub record Listed (r ids : List ℕ) (count : ℕ) (now : List ℕ) : Type 0 where
-  pub counted : count ≡ length ids
-  pub stored : now ≡ sets r 4 (rowsBytes (le 4) ids)
 
 pub none-listed : (s r : List ℕ) (d : ℕ) → Listed r (idsIn s d 0) 0 r
 unfolding rowsBytes

@@ -8,24 +8,20 @@ use native.Mathlib.Nat.{zero-add, suc-add, suc-mul, zero-mul, add-comm}
 use lib.ListN.{length, set, replicate}
 use lib.Seq.{sets}
 use borrow.Author.Tests.{le-leb, lt-leb}
-use Rattle.layout.specs.Bytes.{le}
+use Rattle.layout.specs.Bytes.{le, zeros}
 use Rattle.layout.specs.Rows.{rowsBytes}
 use Rattle.layout.specs.StoreLaws.{sets-then}
-use Rattle.codes.specs.Says.{guard}
 use Rattle.codes.specs.SaysLaws.{passes, stops}
-use Rattle.records.specs.BackLaws.{jackInfoOf, pcmInfoOf, channelMapOf}
+use Rattle.records.specs.Records.{jackInfoOf, pcmInfoOf, channelMapOf, jackBytes, pcmBytes, mapBytes}
 use Rattle.tables.specs.Tables.{noJacks, noStreams, noMaps}
 use Rattle.exchange.specs.State.{unset, newCore}
-use Rattle.exchange.specs.Consistent.{consistentOf}
 use Rattle.exchange.specs.declared.state.Counts.{Counts}
 use Rattle.exchange.specs.declared.state.Core.{Core}
-use Rattle.state_store.specs.Store.{jackBytes, pcmBytes, mapBytes, paramsBytes, headAt, coreOf, soundBytes}
-use Rattle.state_store.specs.Calls.{lengths, made, newIn, Shown, shown, countIn}
+use Rattle.state_store.specs.Store.{paramsBytes, headAt, coreOf, soundBytes}
+use Rattle.state_store.specs.Calls.{lengths, made, newIn, shown, countIn}
 use Rattle.state_store.specs.OverLaws.{headBytes, head-sized}
 use Rattle.state_store.specs.StoreLaws.{core-at}
-
-unfoldable pub zeros : ℕ → List ℕ
-zeros n = replicate n 0
+use Rattle.state_store.specs.Steps.{countBy}
 
 length-zeros : (n : ℕ) → length (zeros n) ≡ n
 unfolding zeros
@@ -98,9 +94,6 @@ module _ (s : List ℕ) (jacks streams maps : ℕ) where
       ∙ ap (λ (l : List ℕ). sets s 0 (b ++ l)) (sym no-tables)))
 
 -- ---- the configured counts
-
-abbrev pub countBy : Core → ℕ → List ℕ → Shown
-countBy c n r = guard (consistentOf c) (shown 0 (sets r 0 (le 8 n))) (shown 1 r)
 
 module _ (s r : List ℕ) (count : Counts → ℕ) where
   pub count-unread : lengths s r ≡ false → shown 10 r ≡ countIn s count r

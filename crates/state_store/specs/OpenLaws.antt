@@ -1,13 +1,12 @@
 -- The start of a transfer goes by what its checks come to: a refusal, set-up first, or a transfer by periods.
 -- Assumes nothing.
 use mathlib.Core.Path.{_≡_, refl, sym, ap, _∙_, subst}
-use mathlib.Core.Bool.{Bool, true, false, _&&_}
+use mathlib.Core.Bool.{Bool, _&&_}
 use mathlib.Core.List.{List}
 use Prim.Native.Nat.{ℕ, _≤_}
 use lib.Dec.{leb}
 use lib.ListN.{length}
 use borrow.Author.Tests.{leb-true}
-use Rattle.codes.specs.Says.{guard}
 use Rattle.turns.specs.ConsistentLaws.{both}
 use Rattle.turns.specs.declared.ring.Track.{Track}
 use Rattle.exchange.specs.State.{paramsOf}
@@ -22,11 +21,6 @@ use Rattle.state_store.specs.Store.{headAt, coreOf, soundOf}
 use Rattle.state_store.specs.Calls.{Opened, opened, shut, settingUp, openIn}
 use Rattle.state_store.specs.StoreLaws.{core-at}
 use Rattle.state_store.specs.declared.calls.Opening.the-variants.{Open}
-
-guard-ap : {A B : Type 0} (f : A → B) (t : Bool) (a b : A) → f (guard t a b) ≡ guard t (f a) (f b)
-unfolding guard
-guard-ap f true a b = refl
-guard-ap f false a b = refl
 
 module _ (s m : List ℕ) (t : Track) (stream : ℕ) where
   abbrev long : Bool
@@ -51,7 +45,7 @@ module _ (s m : List ℕ) (t : Track) (stream : ℕ) where
 
   pub opens : (g : Gate) → g ≡ gateIn → openBy g ≡ openIn s t stream m
   unfolding openIn
-  opens g e = ap openBy e ∙ simp (guard-ap openBy)
+  opens g e = ap openBy e ∙ step.xfer-ap openBy long (soundOf s) t stream Shut SetUp gate.Open
 
   -- what holds at each end of the checks holds of the start
   pub opened-by : (P : Opened → Type 0) → ((g : Gate) → g ≡ gateIn → P (openBy g)) → P (openIn s t stream m)

@@ -13,7 +13,7 @@ use Rattle.layout.specs.Rows.{rowsBytes}
 use Rattle.layout.specs.LayoutLaws.{length-write, write-read}
 use Rattle.layout.specs.StoreLaws.{sets-then}
 use Rattle.layout.specs.RowsLaws.{length-rows, length-rowsBytes}
-use Rattle.records.specs.Records.{jackInfo, jackInfoValues, pcmInfo, pcmInfoValues, channelMap, channelMapValues}
+use Rattle.records.specs.Records.{jackInfo, jackInfoValues, pcmInfo, pcmInfoValues, channelMap, channelMapValues, jackBytes, pcmBytes, mapBytes}
 use Rattle.records.specs.declared.info.JackInfo.{JackInfo}
 use Rattle.records.specs.declared.info.PcmInfo.{PcmInfo}
 use Rattle.records.specs.declared.info.ChannelMap.{ChannelMap}
@@ -23,7 +23,7 @@ use Rattle.exchange.specs.declared.state.Core.{Core}
 use Rattle.exchange.specs.declared.state.Sound.{Sound}
 use Rattle.exchange.specs.Plan.{soundAfter}
 use Rattle.exchange.specs.declared.plan.Effect.the-variants.{Nothing}
-use Rattle.state_store.specs.Store.{headRow, headValues, headOf, jackBytes, pcmBytes, mapBytes, paramsRow, paramsBytes, paramsAt, soundOf, soundBytes}
+use Rattle.state_store.specs.Store.{headRow, headValues, headOf, paramsRow, paramsBytes, paramsAt, soundOf, soundBytes}
 use Rattle.state_store.specs.TableLaws.{Alike, alike-self, alike-on, alike-after, table-kept}
 
 -- ---- of each record: its size, and that what was read, written again, is the bytes that stand there

@@ -9,7 +9,7 @@ use lib.ListN.{getD, List·getD-eq-default}
 use Rattle.layout.specs.Bytes.{numAt}
 use Rattle.layout.specs.Rows.{rowsAt}
 use Rattle.layout.specs.RowsLaws.{length-rows, rows-at}
-use Rattle.records.specs.BackLaws.{jackInfoOf, pcmInfoOf}
+use Rattle.records.specs.Records.{jackInfoOf, pcmInfoOf}
 use Rattle.tables.specs.Tables.{jackAt, pcmAt}
 use Rattle.exchange.specs.State.{unset, jackOf, pcmOf, paramsOf}
 use Rattle.exchange.specs.Plan.{fieldOf}

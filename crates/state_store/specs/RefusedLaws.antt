@@ -1,6 +1,6 @@
 -- What is refused leaves every lent byte as it was: the state, the message and the result.
 -- Assumes nothing.
-use mathlib.Core.Path.{_≡_, refl, sym, ap, _∙_}
+use mathlib.Core.Path.{_≡_, refl, sym, ap, _∙_, subst}
 use mathlib.Core.Bool.{Bool, true, false, false≢true}
 use mathlib.Core.List.{List, [], _∷_}
 use mathlib.Core.Logic.{inl, inr}
@@ -20,12 +20,12 @@ use Rattle.turns.specs.declared.ring.Track.{Track}
 use Rattle.exchange.specs.Consistent.{consistentOf}
 use Rattle.exchange.specs.Plan.{keepOf}
 use Rattle.exchange.specs.Exchange.{saysReply, replyOf, stepOf, callOf}
-use Rattle.exchange.specs.Feed.{Feed, paged, failed, planOf, pageOf, fedOf}
-use Rattle.exchange.specs.OwnLaws.{One, ownRefusals}
-use Rattle.exchange.specs.PlanLaws.{Answered, short, idle, asks-streams, asks-maps, cuts, finishes, ends, fails, fed}
+use Rattle.exchange.specs.Feed.{Feed, paged, failed, planOf, pageOf, fedOf, One, ownRefusals}
+use Rattle.exchange.specs.PlanLaws.{Begun, bars, asks, goes, Answered, short, idle, asks-streams, asks-maps, cuts, finishes, ends, fails, fed}
 use Rattle.exchange.specs.Refused.{refused-writes-nothing, refused-unchanged, Left, same, closed, cut, done, refused-feed}
 use Rattle.exchange.specs.declared.state.Call.{Call}
 use Rattle.exchange.specs.declared.state.Call.the-variants.{SetParams, Command, Remap, Streams, Supported, Xfer}
+use Rattle.exchange.specs.declared.state.Core.{Core}
 use Rattle.exchange.specs.declared.state.Sound.{Sound}
 use Rattle.exchange.specs.declared.plan.Plan.{Plan}
 use Rattle.exchange.specs.declared.calls.Reply.{Reply}
@@ -77,6 +77,31 @@ ten-left x r e (closed o g) = absurd (lacks (saysRefusal r .number) (2 ∷ 3 ∷
 ten-left x r e (cut o a) = absurd (lacks (saysRefusal r .number) (2 ∷ 5 ∷ 7 ∷ []) (lit< tt, (lit< tt, (lit< tt, tt))) e o)
 ten-left x r e (done {call} n maps o g) = absurd (lacks (saysRefusal r .number) (ownRefusals call) (own-below call) e o)
 
+-- ---- of a state that fails the consistency test, every plan is a refusal that keeps it
+
+pub record Barred (c : Core) (p : Plan) : Type 0 where
+  pub why : Refusal
+  pub is : p ≡ keepOf c why
+
+module _ (c : Core) (e : consistentOf c ≡ false) where
+  never : {A : Type 0} → consistentOf c ≡ true → A
+  never k = absurd (false≢true (sym e ∙ k))
+
+  pub begun-barred : {call : Call} {look : ℕ} {p : Plan} → Begun c call look p → Barred c p
+  begun-barred (bars x) = record { why = x; is = refl }
+  begun-barred (asks k _ _ _) = never k
+  begun-barred (goes k _ _ _ _) = never k
+
+  pub answered-barred : {v : Verdict} {look : ℕ} {long : Bool} {p : Plan} → Answered c v look long p → Barred c p
+  answered-barred (short _) = record { why = BadLength; is = refl }
+  answered-barred (idle _) = record { why = InvalidParam; is = refl }
+  answered-barred (asks-streams k _) = never k
+  answered-barred (asks-maps k _ _) = never k
+  answered-barred (cuts _ _ _ k _) = never k
+  answered-barred (finishes k _ _) = never k
+  answered-barred (ends k _ _) = never k
+  answered-barred (fails _ k _) = never k
+
 -- ---- a plan that refuses, with nothing changed
 
 module _ (s m r : List ℕ) (b : Bytes s) where
@@ -104,18 +129,11 @@ module _ (s m r : List ℕ) (b : Bytes s) where
 
   -- ---- A FEED: 10, and 1 for a state that fails the consistency test (of which a store that is not whole is one)
 
-  barred : {v : Verdict} {look : ℕ} {long : Bool} {p : Plan} (page : List ℕ) → consistentOf (soundOf s .core) ≡ false → Answered (soundOf s .core) v look long p → Unchanged s m r (told s p page m r)
-  barred page e (short _) = told-unchanged (keepOf (soundOf s .core) BadLength) page BadLength refl refl
-  barred page e (idle _) = told-unchanged (keepOf (soundOf s .core) InvalidParam) page InvalidParam refl refl
-  barred page e (asks-streams k _) = absurd (false≢true (sym e ∙ k))
-  barred page e (asks-maps k _ _) = absurd (false≢true (sym e ∙ k))
-  barred page e (cuts _ _ _ k _) = absurd (false≢true (sym e ∙ k))
-  barred page e (finishes k _ _) = absurd (false≢true (sym e ∙ k))
-  barred page e (ends k _ _) = absurd (false≢true (sym e ∙ k))
-  barred page e (fails _ k _) = absurd (false≢true (sym e ∙ k))
-
   inconsistent : (f : Feed) → consistentOf (soundOf s .core) ≡ false → Unchanged s m r (told s (planOf (soundOf s) f) (pageOf f) m r)
-  inconsistent f e = barred (pageOf f) e (fed (soundOf s) f)
+  inconsistent f e =
+      let x = soundOf s in
+      let k = answered-barred (x .core) e (fed x f) in
+      subst (λ (p : Plan). Unchanged s m r (told s p (pageOf f) m r)) (sym (k .is)) (told-unchanged (keepOf (x .core) (k .why)) (pageOf f) (k .why) refl refl)
 
   feed-unchanged : (f : Feed) → saysReply (fedOf (soundOf s) f .reply) .number ≡ 10 → Unchanged s m r (told s (planOf (soundOf s) f) (pageOf f) m r)
   feed-unchanged f e =

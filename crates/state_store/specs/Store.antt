@@ -9,10 +9,7 @@ use Rattle.layout.specs.Bytes.{numAt}
 use Rattle.layout.specs.Layout.{write, readAt}
 use Rattle.layout.specs.Rows.{rowsAt, rowsBytes}
 use Rattle.codes.specs.Says.{pick}
-use Rattle.records.specs.Records.{jackInfo, jackInfoValues, pcmInfo, pcmInfoValues, channelMap, channelMapValues}
-use Rattle.records.specs.declared.info.JackInfo.{JackInfo}
-use Rattle.records.specs.declared.info.PcmInfo.{PcmInfo}
-use Rattle.records.specs.declared.info.ChannelMap.{ChannelMap}
+use Rattle.records.specs.Records.{jackBytes, pcmBytes, mapBytes}
 use Rattle.tables.specs.Tables.{jackAt, pcmAt, mapAt}
 use Rattle.exchange.specs.declared.state.Params.{Params}
 use Rattle.exchange.specs.declared.state.Core.{Core}
@@ -70,15 +67,6 @@ coreOf h =
     (record { counts = h .counts; read = h .read; ready = true; stage = JacksAsked (Streams 0) })
 
 -- ---- rows
-
-abbrev pub jackBytes : JackInfo → List ℕ
-jackBytes r = write jackInfo (jackInfoValues r)
-
-abbrev pub pcmBytes : PcmInfo → List ℕ
-pcmBytes r = write pcmInfo (pcmInfoValues r)
-
-abbrev pub mapBytes : ChannelMap → List ℕ
-mapBytes r = write channelMap (channelMapValues r)
 
 -- known 1, channels 1, format 1, rate 1, buffer 4, period 4, features 4
 abbrev pub paramsRow : List ℕ

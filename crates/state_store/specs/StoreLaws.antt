@@ -3,8 +3,8 @@
 use mathlib.Core.Path.{_≡_, refl, sym, ap, _∙_}
 use mathlib.Core.Bool.{true}
 use mathlib.Core.List.{List, [], _∷_, _++_, append-assoc, append-nil}
-use Prim.Native.Nat.{ℕ, zero, suc, _+_, _*_, _≤_}
-use native.Mathlib.Nat.{zero-add, add-zero, add-assoc}
+use Prim.Native.Nat.{ℕ, _+_, _*_, _≤_}
+use native.Mathlib.Nat.{zero-add}
 use native.Mathlib.Numerals.{towards-numerals}
 use lib.ListN.{length, getD, drop, length-append}
 use lib.Seq.{sets, sets-eq}
@@ -12,15 +12,14 @@ use Rattle.layout.specs.Bytes.{bytesAt, Bytes}
 use Rattle.layout.specs.Layout.{size, write, readAt, Fit}
 use Rattle.layout.specs.LayoutLaws.{length-write, read-write, write-read, read-own}
 use Rattle.layout.specs.Rows.{rowsAt, rowsBytes}
-use Rattle.layout.specs.BytesLaws.{bytesAt-append}
-use Rattle.layout.specs.RowsLaws.{length-rowsBytes, AllOk, rows-back}
+use Rattle.layout.specs.RowsLaws.{length-rowsBytes, table-back}
+use Rattle.layout.specs.AllLaws.{AllOk}
 use Rattle.layout.specs.StoreLaws.{sets-same}
-use Rattle.records.specs.Records.{jackInfo, jackInfoValues, pcmInfo, pcmInfoValues, channelMap, channelMapValues}
-use Rattle.records.specs.BackLaws.{jackInfoOf, pcmInfoOf, channelMapOf}
+use Rattle.records.specs.Records.{jackInfo, jackInfoValues, pcmInfo, pcmInfoValues, channelMap, channelMapValues, jackInfoOf, pcmInfoOf, channelMapOf, jackBytes, pcmBytes, mapBytes}
 use Rattle.tables.specs.Tables.{jackAt, pcmAt, mapAt}
 use Rattle.exchange.specs.declared.state.Params.{Params}
 use Rattle.exchange.specs.declared.state.Sound.{Sound}
-use Rattle.state_store.specs.Store.{headRow, headValues, headFrom, headAt, headOf, coreOf, whole, jackBytes, pcmBytes, mapBytes, paramsRow, paramsAt, paramsBytes, soundOf, soundBytes}
+use Rattle.state_store.specs.Store.{headRow, headValues, headFrom, headAt, headOf, coreOf, whole, paramsRow, paramsAt, paramsBytes, soundOf, soundBytes}
 use Rattle.state_store.specs.FlatLaws.{core-back, core-same}
 use Rattle.state_store.specs.OverLaws.{jack-sized, pcm-sized, map-sized, params-sized, headBytes, head-sized, core-over}
 use Rattle.state_store.specs.declared.flat.Head.{Head}
@@ -49,8 +48,7 @@ head-back h r f = ap headFrom (read-write headRow (headValues h) r f)
 
 -- a table, over the layout of its records
 abbrev pub AllFit : {A : Type 0} → List ℕ → (A → List ℕ) → List A → Type 0
-AllFit ws values [] = Unit {0}
-AllFit ws values (x ∷ xs) = Fit ws (values x) × AllFit ws values xs
+AllFit {A} ws values = AllOk (λ (x : A). Fit ws (values x))
 
 module _ {A : Type 0} (ws : List ℕ) (values : A → List ℕ) (of : List ℕ → A) (is : (x : A) → of (values x) ≡ x) (f : ℕ → List ℕ → A)
     (reads : (o : ℕ) (s : List ℕ) → f o s ≡ of (readAt o ws s)) where
@@ -66,27 +64,8 @@ module _ {A : Type 0} (ws : List ℕ) (values : A → List ℕ) (of : List ℕ �
   back : (x : A) → Fit ws (values x) → f 0 (g x) ≡ x
   back x h = reads 0 (g x) ∙ ap of (ap (readAt 0 ws) (sym (append-nil (g x))) ∙ read-write ws (values x) [] h) ∙ is x
 
-  abbrev Ok : A → Type 0
-  Ok x = Fit ws (values x)
-
-  all : (xs : List A) → AllFit ws values xs → AllOk f g (size ws) own sized Ok back xs
-  all [] h = tt
-  all (x ∷ xs) h = (h .0, all xs (h .1))
-
-  -- what stands before is passed over
-  past : (a t : List ℕ) (k n : ℕ) → rowsAt f (size ws) (length a + k) n (a ++ t) ≡ rowsAt f (size ws) k n t
-  unfolding rowsAt
-  past a t k zero = refl
-  past a t k (suc n) =
-      λ i. (own (length a + k) (a ++ t) ∙ ap (f 0) (bytesAt-append a t k (size ws)) ∙ sym (own k t)) i
-      ∷ (ap (λ (z : ℕ). rowsAt f (size ws) z n (a ++ t)) (add-assoc (length a) k (size ws)) ∙ past a t (k + size ws) n) i
-
-  table-back : (a c : List ℕ) (xs : List A) (o n : ℕ) → length a ≡ o → length xs ≡ n → AllFit ws values xs → rowsAt f (size ws) o n (a ++ (rowsBytes g xs ++ c)) ≡ xs
-  table-back a c xs o n p q h =
-      let t = rowsBytes g xs ++ c in
-      (λ i. rowsAt f (size ws) (sym (add-zero (length a) ∙ p) i) (sym q i) (a ++ t))
-      ∙ past a t 0 (length xs)
-      ∙ rows-back f g (size ws) own sized Ok back xs c (all xs h)
+  table-of : (a c : List ℕ) (xs : List A) (o n : ℕ) → length a ≡ o → length xs ≡ n → AllFit ws values xs → rowsAt f (size ws) o n (a ++ (rowsBytes g xs ++ c)) ≡ xs
+  table-of = table-back f g (size ws) own sized (λ (x : A). Fit ws (values x)) back
 
 -- ---- the four tables
 
@@ -198,25 +177,25 @@ module _ (x : Sound) (f : Fits x) where
     unfolding soundBytes
     jacks-in =
         ap (rowsAt jackAt 24 48 170) (first-cut h j p m q c)
-        ∙ table-back jackInfo jackInfoValues jackInfoOf (λ r. refl) jackAt jack-reads h (p ++ (m ++ (q ++ c))) (x .jacks) 48 170 (head-sized (x .core)) (f .jacks-170) (f .jacks)
+        ∙ table-of jackInfo jackInfoValues jackInfoOf (λ r. refl) jackAt jack-reads h (p ++ (m ++ (q ++ c))) (x .jacks) 48 170 (head-sized (x .core)) (f .jacks-170) (f .jacks)
 
     pcms-in : rowsAt pcmAt 32 4128 127 (soundBytes x ++ c) ≡ x .pcms
     unfolding soundBytes
     pcms-in =
         ap (rowsAt pcmAt 32 4128 127) (second-cut h j p m q c)
-        ∙ table-back pcmInfo pcmInfoValues pcmInfoOf (λ r. refl) pcmAt pcm-reads (h ++ j) (m ++ (q ++ c)) (x .pcms) 4128 127 to-pcms (f .pcms-127) (f .pcms)
+        ∙ table-of pcmInfo pcmInfoValues pcmInfoOf (λ r. refl) pcmAt pcm-reads (h ++ j) (m ++ (q ++ c)) (x .pcms) 4128 127 to-pcms (f .pcms-127) (f .pcms)
 
     maps-in : rowsAt mapAt 24 8192 170 (soundBytes x ++ c) ≡ x .maps
     unfolding soundBytes
     maps-in =
         ap (rowsAt mapAt 24 8192 170) (third-cut h j p m q c)
-        ∙ table-back channelMap channelMapValues channelMapOf (λ r. refl) mapAt map-reads ((h ++ j) ++ p) (q ++ c) (x .maps) 8192 170 to-maps (f .maps-170) (f .maps)
+        ∙ table-of channelMap channelMapValues channelMapOf (λ r. refl) mapAt map-reads ((h ++ j) ++ p) (q ++ c) (x .maps) 8192 170 to-maps (f .maps-170) (f .maps)
 
     params-in : rowsAt paramsAt 16 12272 127 (soundBytes x ++ c) ≡ x .params
     unfolding soundBytes
     params-in =
         ap (rowsAt paramsAt 16 12272 127) (fourth-cut h j p m q c)
-        ∙ table-back paramsRow paramsValues paramsFrom (λ r. refl) paramsAt params-reads (((h ++ j) ++ p) ++ m) c (x .params) 12272 127 to-params (f .params-127) (f .params)
+        ∙ table-of paramsRow paramsValues paramsFrom (λ r. refl) paramsAt params-reads (((h ++ j) ++ p) ++ m) c (x .params) 12272 127 to-params (f .params-127) (f .params)
 
     sound-back : soundOf (soundBytes x ++ c) ≡ x
     unfolding soundOf

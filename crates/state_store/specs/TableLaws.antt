@@ -2,17 +2,17 @@
 -- what writes one.
 -- Assumes nothing.
 use mathlib.Core.Path.{_≡_, refl, sym, ap, _∙_}
-use mathlib.Core.List.{List, _∷_, _++_}
-use Prim.Native.Nat.{ℕ, zero, suc, _+_, _-_, _*_, _<_, _≤_}
-use native.Mathlib.Nat.{zero-add, suc-add, suc-mul, zero-mul, le-refl}
+use mathlib.Core.List.{List, _++_}
+use Prim.Native.Nat.{ℕ, suc, _+_, _-_, _*_, _<_, _≤_}
+use native.Mathlib.Nat.{suc-mul, le-refl}
 use native.Mathlib.Omega.{arith}
-use lib.ListN.{length, set, take, drop}
-use lib.Seq.{sets, take-at, drop-at}
+use lib.ListN.{length, set, drop}
+use lib.Seq.{sets}
 use Rattle.layout.specs.Bytes.{bytesAt, Bytes}
 use Rattle.layout.specs.Rows.{rowsAt, rowsBytes}
 use Rattle.layout.specs.BytesLaws.{length-bytesAt}
 use Rattle.layout.specs.StoreLaws.{sets-then, sets-same, bytesAt-after}
-use Rattle.layout.specs.RowsLaws.{length-rows, rows-same, rowsBytes-append, rows-with}
+use Rattle.layout.specs.RowsLaws.{length-rows, rows-take, rows-drop, rows-same, rowsBytes-append, rows-with}
 use Rattle.tables.specs.Tables.{filled}
 
 -- from place o on, u holds what s held
@@ -32,27 +32,6 @@ alike-after o i j u s v a h k p m q = bytesAt-after v u i p m (omega arith) ∙ 
 -- what stands there already, stored again
 kept : (o m : ℕ) (u s : List ℕ) → Alike o u s → sets u o (bytesAt o m s) ≡ u
 kept o m u s a = ap (sets u o) (sym (a o m (le-refl o))) ∙ sets-same u o m
-
--- ---- rows, cut in two
-
-module _ {A : Type 0} (f : ℕ → List ℕ → A) (size : ℕ) where
-  rows-add : (o n m : ℕ) (s : List ℕ) → rowsAt f size o (n + m) s ≡ rowsAt f size o n s ++ rowsAt f size (o + n * size) m s
-  unfolding rowsAt
-  rows-add o zero m s = let e : o ≡ o + 0 * size = omega (arith, zero-mul size) in λ i. rowsAt f size (e i) (zero-add m i) s
-  rows-add o (suc n) m s =
-      ap (λ (k : ℕ). rowsAt f size o k s) (suc-add n m)
-      ∙ ap (λ (l : List A). f o s ∷ l)
-      (rows-add (o + size) n m s
-      ∙ ap (λ (k : ℕ). rowsAt f size (o + size) n s ++ rowsAt f size k m s) (omega (arith, suc-mul n size)))
-
-  rows-cut : (o n k : ℕ) (s : List ℕ) → k ≤ n → rowsAt f size o n s ≡ rowsAt f size o k s ++ rowsAt f size (o + k * size) (n - k) s
-  rows-cut o n k s h = let e : n ≡ k + (n - k) = omega arith in ap (λ (z : ℕ). rowsAt f size o z s) e ∙ rows-add o k (n - k) s
-
-  rows-take : (o n k : ℕ) (s : List ℕ) → k ≤ n → take k (rowsAt f size o n s) ≡ rowsAt f size o k s
-  rows-take o n k s h = ap (take k) (rows-cut o n k s h) ∙ take-at (rowsAt f size o k s) _ k (length-rows f size o k s)
-
-  rows-drop : (o n k : ℕ) (s : List ℕ) → k ≤ n → drop k (rowsAt f size o n s) ≡ rowsAt f size (o + k * size) (n - k) s
-  rows-drop o n k s h = ap (drop k) (rows-cut o n k s h) ∙ drop-at (rowsAt f size o k s) _ k (length-rows f size o k s)
 
 -- ---- a table
 

@@ -3,25 +3,25 @@
 use mathlib.Core.Path.{_≡_, refl, sym, ap, _∙_, subst}
 use mathlib.Core.Bool.{Bool, true, false}
 use mathlib.Core.List.{List, [], _∷_, _++_}
-use Prim.Native.Nat.{ℕ, zero, suc, _+_, _<_, _≤_, _^_}
+use Prim.Native.Nat.{ℕ, _+_, _<_, _≤_, _^_}
 use native.Mathlib.Nat.{zero-add}
 use native.Mathlib.Omega.{arith}
 use lib.Dec.{lit<, leb}
-use lib.ListN.{length, drop, set}
-use lib.Seq.{sets, sets-eq, getD-set-other}
+use lib.ListN.{length, drop}
+use lib.Seq.{sets, sets-eq}
 use borrow.Author.Tests.{leb-true}
-use Rattle.layout.specs.Bytes.{bytesAt, Bytes}
+use Rattle.layout.specs.Bytes.{Bytes}
 use Rattle.layout.specs.Layout.{readAt, Fit}
 use Rattle.layout.specs.Rows.{rowsBytes}
 use Rattle.layout.specs.LayoutLaws.{read-fits, read-own}
-use Rattle.layout.specs.StoreLaws.{sets-then}
+use Rattle.layout.specs.StoreLaws.{sets-then, bytesAt-before}
 use Rattle.codes.specs.Says.{pick}
 use Rattle.codes.specs.SaysLaws.{picks, guarded-by}
 use Rattle.tables.specs.Tables.{isGood}
 use Rattle.tables.specs.declared.verdict.Verdict.{Verdict}
 use Rattle.turns.specs.ConsistentLaws.{both}
 use Rattle.turns.specs.declared.ring.Track.{Track}
-use Rattle.exchange.specs.State.{newSound}
+use Rattle.exchange.specs.State.{newCore, newSound, withStage}
 use Rattle.exchange.specs.Plan.{soundAfter}
 use Rattle.exchange.specs.Feed.{Feed, paged, failed, planOf, pageOf}
 use Rattle.exchange.specs.Exchange.{callOf}
@@ -41,9 +41,10 @@ use Rattle.exchange.specs.declared.plan.Plan.{Plan}
 use Rattle.exchange.specs.declared.xfer.Gate.{Gate}
 use Rattle.exchange.specs.declared.xfer.Gate.the-variants.{Shut, SetUp, Open}
 use Rattle.state_store.specs.Flat.{flatRow, flatValues, callFlat, staged, flatOf, wholeFlat}
-use Rattle.state_store.specs.Store.{headRow, headValues, headFrom, headAt, headOf, coreOf, whole, jackBytes, pcmBytes, mapBytes, paramsBytes, soundOf, soundBytes}
+use Rattle.state_store.specs.Store.{headRow, headValues, headFrom, headAt, headOf, coreOf, whole, paramsBytes, soundOf, soundBytes}
+use Rattle.records.specs.Records.{jackBytes, pcmBytes, mapBytes}
 use Rattle.state_store.specs.Calls.{Told, told, lengths, callIn, feedIn, failIn, Opened, settingUp, openIn, Made, newIn}
-use Rattle.state_store.specs.FlatLaws.{core-back, core-same, flat-whole}
+use Rattle.state_store.specs.FlatLaws.{core-same, flat-whole}
 use Rattle.state_store.specs.OverLaws.{headBytes, head-sized}
 use Rattle.state_store.specs.StoreLaws.{core-at, head-back}
 use Rattle.state_store.specs.OpenLaws.{gateIn, openBy, set-up-long, opened-by}
@@ -126,15 +127,15 @@ own-fits f k lists = record { counts = f .counts; read = f .read; stage = tt }
 own-fits f k (tells _) = record { counts = f .counts; read = f .read; stage = tt }
 own-fits f k (refuses _ _) = record { counts = f .counts; read = f .read; stage = tt }
 
-begun-fits : {c : Core} {call : Call} {look : ℕ} {p : Plan} → FitCore c → FitCall call → Begun c call look p → FitCore (p .core)
+pub begun-fits : {c : Core} {call : Call} {look : ℕ} {p : Plan} → FitCore c → FitCall call → Begun c call look p → FitCore (p .core)
 begun-fits f k (bars _) = f
 begun-fits f k (asks _ _ _ _) = record { counts = f .counts; read = f .read; stage = k }
 begun-fits f k (goes _ _ _ _ o) = own-fits f k o
 
-waits : {c : Core} (g : Stage) → FitCore c → c .stage ≡ g → FitStage g
+pub waits : {c : Core} (g : Stage) → FitCore c → c .stage ≡ g → FitStage g
 waits g f e = subst FitStage e (f .stage)
 
-answered-fits : {c : Core} {v : Verdict} {look : ℕ} {long : Bool} {p : Plan} → FitCore c → Answered c v look long p → FitCore (p .core)
+pub answered-fits : {c : Core} {v : Verdict} {look : ℕ} {long : Bool} {p : Plan} → FitCore c → Answered c v look long p → FitCore (p .core)
 answered-fits f (short _) = f
 answered-fits f (idle _) = f
 answered-fits {c} {v} f (asks-streams {call} _ g) = record { counts = f .counts; read = (counted-fits v (c .counts .jacks) (f .counts .0), (lit< tt, (lit< tt, tt))); stage = waits (JacksAsked call) f g }
@@ -145,17 +146,16 @@ answered-fits {c} {v} f (finishes {call} _ g o) =
 answered-fits f (ends _ _ _) = record { counts = f .counts; read = f .read; stage = tt }
 answered-fits f (fails _ _ _) = record { counts = f .counts; read = f .read; stage = tt }
 
+-- a transfer that waits for set-up
+pub set-up-fits : (c : Core) (stream : ℕ) → FitCore c → stream < 256 ^ 4 → FitCore (withStage c (JacksAsked (Xfer stream)))
+set-up-fits c stream f k =
+    let z : 0 < 256 ^ 4 = lit< tt in
+    record { counts = f .counts; read = f .read; stage = (lit< tt, (lit< tt, (k, (z, (z, (z, (lit< tt, (lit< tt, (lit< tt, (lit< tt, tt)))))))))) }
+
+pub new-fits : (jacks streams maps : ℕ) → jacks < 256 ^ 4 → streams < 256 ^ 4 → maps < 256 ^ 4 → FitCore (newCore jacks streams maps)
+new-fits jacks streams maps j k m = record { counts = (j, (k, (m, tt))); read = no-counts; stage = tt }
+
 -- ---- a store in which a state was written
-
-before-set : (l : List ℕ) (i v o n : ℕ) → o + n ≤ i → bytesAt o n (set l i v) ≡ bytesAt o n l
-unfolding bytesAt
-before-set l i v o zero h = refl
-before-set l i v o (suc n) h = λ k. getD-set-other l i o v 0 (λ e. omega arith) k ∷ before-set l i v (suc o) n (omega arith) k
-
--- a store past a place leaves what is read there
-bytesAt-before : (vs l : List ℕ) (i o n : ℕ) → o + n ≤ i → bytesAt o n (sets l i vs) ≡ bytesAt o n l
-bytesAt-before [] l i o n h = refl
-bytesAt-before (v ∷ vs) l i o n h = bytesAt-before vs (set l i v) (suc i) o n (omega arith) ∙ before-set l i v o n h
 
 head-before : (l vs : List ℕ) → headAt (sets l 48 vs) ≡ headAt l
 unfolding headAt
@@ -174,9 +174,6 @@ left-head s x f l =
 
 pub left-whole : (s : List ℕ) (x : Sound) → FitCore (x .core) → 48 ≤ length s → whole (sets s 0 (soundBytes x)) ≡ true
 left-whole s x f l = ap (λ (h : Head). wholeFlat (h .flat)) (left-head s x f l) ∙ flat-whole (x .core .ready) (x .core .stage)
-
-pub left-core : (s : List ℕ) (x : Sound) → FitCore (x .core) → 48 ≤ length s → soundOf (sets s 0 (soundBytes x)) .core ≡ x .core
-left-core s x f l = core-at (sets s 0 (soundBytes x)) ∙ ap coreOf (left-head s x f l) ∙ core-back (x .core)
 
 -- ---- THE CALLS
 
@@ -216,10 +213,7 @@ module _ (s m r : List ℕ) (b : Bytes s) (w : whole s ≡ true) where
   set-up-whole stream k l =
       let p = setUpPlan (soundOf s) stream in
       let x = soundAfter (p .effect) (p .core) (soundOf s) [] in
-      let f = store-fits s b w in
-      let z : 0 < 256 ^ 4 = lit< tt in
-      let g : FitCall (Xfer stream) = (lit< tt, (lit< tt, (k, (z, (z, (z, (lit< tt, (lit< tt, (lit< tt, (lit< tt, tt)))))))))) in
-      ap whole (picks (whole s) (sets s 0 (soundBytes x)) s w) ∙ left-whole s x (record { counts = f .counts; read = f .read; stage = g }) (omega arith)
+      ap whole (picks (whole s) (sets s 0 (soundBytes x)) s w) ∙ left-whole s x (set-up-fits (soundOf s .core) stream (store-fits s b w) k) (omega arith)
 
   pub open-whole : (t : Track) (stream : ℕ) → stream < 256 ^ 4 → whole (openIn s t stream m .state) ≡ true
   open-whole t stream k = opened-by s m t stream (λ (o : Opened). whole (o .state) ≡ true) by
@@ -232,5 +226,5 @@ module _ (s m r : List ℕ) (b : Bytes s) (w : whole s ≡ true) where
 pub new-whole : (s : List ℕ) (jacks streams maps : ℕ) → jacks < 256 ^ 4 → streams < 256 ^ 4 → maps < 256 ^ 4 → newIn s jacks streams maps .answer ≡ 0 → whole (newIn s jacks streams maps .state) ≡ true
 new-whole s jacks streams maps j k m =
     guarded-by (λ (x : Made). x .answer ≡ 0 → whole (x .state) ≡ true) _ _ _
-    (λ l _. left-whole s (newSound jacks streams maps) (record { counts = (j, (k, (m, tt))); read = no-counts; stage = tt }) (omega (arith, leb-true 14304 (length s) l)))
+    (λ l _. left-whole s (newSound jacks streams maps) (new-fits jacks streams maps j k m) (omega (arith, leb-true 14304 (length s) l)))
     (λ _ e. absurd (omega arith))

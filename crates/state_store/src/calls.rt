@@ -5,7 +5,7 @@ ghost use Prim.Native.Nat.{_≤_};
 ghost use lib.ListN.{length};
 ghost use Rattle.exchange.specs.Exchange.{saysReply};
 ghost use Rattle.state_store.specs.Calls.{left, callIn, feedIn, failIn, opened, openIn};
-ghost use Rattle.state_store.specs.FinishLaws.{changed, finished, settingUpBy};
+ghost use Rattle.state_store.specs.Steps.{changed, finished, settingUpBy};
 use crate::effect::apply;
 use crate::flat::both;
 use crate::flat::is_whole;

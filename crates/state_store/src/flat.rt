@@ -2,7 +2,7 @@
 ghost use mathlib.Core.Path.{_≡_};
 ghost use mathlib.Core.Bool.{_&&_};
 ghost use Rattle.codes.specs.Says.{pick};
-ghost use Rattle.state_store.specs.Flat.{kindNumber, fieldNumber, numbered, setFlat, callFlat, staged, flatOf, kindOf, fieldOf, flatParams, flatCall, flatStage, sameFlat, wholeFlat};
+ghost use Rattle.state_store.specs.Flat.{kindNumber, fieldNumber, numbered, setFlat, callFlat, staged, flatOf, kindOf, flatField, flatParams, flatCall, flatStage, sameFlat, wholeFlat};
 use exchange::Call;
 use exchange::Counts;
 use exchange::Field;
@@ -158,7 +158,7 @@ fn kind_of(n: u8) -> Kind
 }
 
 fn field_of(n: u8) -> Field
-    ensures { λ r. ⌜ r ≡ fieldOf n ⌝ }
+    ensures { λ r. ⌜ r ≡ flatField n ⌝ }
 {
     if n == 0 {
         return Field::Rates;

@@ -4,7 +4,7 @@ ghost use lib.Seq.{sets};
 ghost use Rattle.layout.specs.Layout.{write};
 ghost use Rattle.state_store.specs.Flat.{flatRow, flatValues};
 ghost use Rattle.state_store.specs.Store.{headRow, headValues, headAt, headOf, coreOf};
-ghost use Rattle.state_store.specs.HeadLaws.{countsRow, countsValues};
+ghost use Rattle.state_store.specs.Steps.{countsRow, countsValues};
 use crate::flat::Flat;
 use crate::flat::Head;
 use crate::flat::flat_of;

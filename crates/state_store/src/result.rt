@@ -8,7 +8,7 @@ ghost use Rattle.exchange.specs.Exchange.{replyOf, listBy, listOf};
 ghost use Rattle.exchange.specs.declared.plan.Value.the-variants as value;
 ghost use Rattle.state_store.specs.Store.{soundOf};
 ghost use Rattle.state_store.specs.Calls.{valueBytes, resultBytes};
-ghost use Rattle.state_store.specs.ListedLaws.{idsIn, Listed};
+ghost use Rattle.state_store.specs.Steps.{idsIn, Listed};
 use crate::place::PCMS;
 use exchange::Say;
 use exchange::Value;

@@ -4,7 +4,8 @@ use Prim.Native.Nat.{ℕ, _≤_, _+_, _-_}
 use native.Mathlib.Omega.{arith}
 use lib.ListN.{length, length-set}
 use lib.Seq.{sets}
-use Rattle.model_store.specs.NewLaws.{zeros, clear-more}
+use Rattle.layout.specs.Bytes.{zeros}
+use Rattle.model_store.specs.NewLaws.{clear-more}
 use Rattle.model_store.proofs.made.clear.Statement.{statement}
 use Rattle.model_store.proofs.made.clear.Tie as tie
 

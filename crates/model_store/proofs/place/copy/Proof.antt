@@ -5,7 +5,7 @@ use native.Mathlib.Omega.{arith}
 use lib.ListN.{length, getD, length-set}
 use lib.Seq.{sets}
 use Rattle.layout.specs.Bytes.{bytesAt}
-use Rattle.model_store.specs.PartLaws.{copy-more}
+use Rattle.layout.specs.StoreLaws.{copy-more}
 use Rattle.model_store.proofs.place.copy.Statement.{statement}
 use Rattle.model_store.proofs.place.copy.Tie as tie
 

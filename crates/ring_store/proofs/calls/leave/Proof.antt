@@ -5,7 +5,7 @@ use mathlib.Core.List.{List}
 use Prim.Native.Nat.{ℕ}
 use Rattle.codes.specs.SaysLaws.{picks, skips}
 use Rattle.turns.specs.CallLaws.{passed, failed}
-use Rattle.ring_store.specs.StoreLaws.{sentOver}
+use Rattle.ring_store.specs.Steps.{sentOver}
 use Rattle.ring_store.proofs.calls.leave.Statement.{statement}
 use Rattle.ring_store.proofs.calls.leave.Tie as tie
 

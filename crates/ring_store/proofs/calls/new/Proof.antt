@@ -2,7 +2,7 @@
 use borrow.Author.Needs.{needs}
 use mathlib.Core.Path.{ap, _∙_}
 use Rattle.turns.specs.declared.ring.Ring.{Ring}
-use Rattle.ring_store.specs.StoreLaws.{blankOver}
+use Rattle.ring_store.specs.Steps.{blankOver}
 use Rattle.ring_store.specs.CallsLaws.{short, made}
 use Rattle.ring_store.proofs.calls.new.Statement.{statement}
 use Rattle.ring_store.proofs.calls.new.Tie as tie

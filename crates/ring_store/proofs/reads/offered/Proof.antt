@@ -1,9 +1,8 @@
 -- By the cases of the offer. Assumes nothing.
 use borrow.Author.Needs.{needs}
 use mathlib.Core.Path.{sym, ap, _∙_}
-use Rattle.turns.specs.Calls.{offerCall}
+use Rattle.turns.specs.Calls.{offerCall, saysOffer}
 use Rattle.turns.specs.declared.ring.Track.{Track}
-use Rattle.ring_store.specs.Calls.{saysOffer}
 use Rattle.ring_store.specs.ReadsLaws.{told}
 use Rattle.ring_store.proofs.reads.offered.Statement.{statement}
 use Rattle.ring_store.proofs.reads.offered.Tie as tie

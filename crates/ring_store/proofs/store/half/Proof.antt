@@ -1,7 +1,7 @@
 -- Its 4 bytes. Assumes nothing.
 use native.Mathlib.Numerals.{towards-suc}
 use borrow.Author.Needs.{needs}
-use Rattle.layout.specs.Bytes.{un, bytesAt, numAt}
+use Rattle.layout.specs.Bytes.{bytesAt, numAt}
 use Rattle.ring_store.proofs.store.half.Statement.{statement}
 use Rattle.ring_store.proofs.store.half.Tie as tie
 

@@ -1,6 +1,5 @@
 -- The list of its reads, in the layout's order. Assumes nothing.
 use mathlib.Core.Path.{_∙_}
-use borrow.Author.Needs.{needs}
 use Rattle.layout.specs.ChainLaws.Got.{get, end}
 use Rattle.ring_store.specs.StoreLaws.{track-got}
 use Rattle.ring_store.proofs.store.track.Statement.{statement}

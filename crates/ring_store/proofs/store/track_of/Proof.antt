@@ -3,8 +3,6 @@ use mathlib.Core.Path.{ap}
 use mathlib.Core.Bool.{not}
 use Prim.Native.Nat.{ℕ}
 use lib.Dec.{eqb}
-use borrow.Author.Needs.{needs}
-use Rattle.turns.specs.declared.ring.Track.{Track}
 use Rattle.ring_store.proofs.store.track_of.Statement.{statement}
 use Rattle.ring_store.proofs.store.track_of.Tie as tie
 

@@ -4,7 +4,7 @@ use Rattle.state_store.specs.Flat.{wholeFlat}
 use Rattle.state_store.specs.Store.{coreOf}
 use Rattle.state_store.specs.declared.flat.Head.{Head}
 use Rattle.state_store.specs.Calls.{opened}
-use Rattle.state_store.specs.FinishLaws.{settingUpBy}
+use Rattle.state_store.specs.Steps.{settingUpBy}
 use Rattle.state_store.specs.OpenLaws.{gated, set-up-long, opens}
 use Rattle.state_store.specs.declared.calls.Opening.the-variants.{Says, Open}
 use Rattle.exchange.specs.declared.xfer.Gate.the-variants as gate

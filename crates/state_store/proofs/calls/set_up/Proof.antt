@@ -2,7 +2,8 @@
 use mathlib.Core.Path.{ap, _∙_}
 use mathlib.Core.List.{[]}
 use Rattle.state_store.specs.Calls.{opened}
-use Rattle.state_store.specs.FinishLaws.{changed, says-in}
+use Rattle.state_store.specs.FinishLaws.{says-in}
+use Rattle.state_store.specs.Steps.{changed}
 use Rattle.exchange.specs.Exchange.{messageAfter}
 use Rattle.exchange.specs.declared.plan.Effect.the-variants.{Nothing}
 use Rattle.exchange.specs.declared.plan.Plan.{Plan}

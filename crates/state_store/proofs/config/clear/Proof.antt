@@ -3,7 +3,8 @@ use mathlib.Core.Path.{_≡_, ap, _∙_}
 use Prim.Native.Nat.{ℕ, _≤_, _-_}
 use native.Mathlib.Omega.{arith}
 use lib.Seq.{sets, length-sets}
-use Rattle.state_store.specs.NewLaws.{zeros, zeros-none, zeros-more}
+use Rattle.state_store.specs.NewLaws.{zeros-none, zeros-more}
+use Rattle.layout.specs.Bytes.{zeros}
 use Rattle.state_store.proofs.config.clear.Statement.{statement}
 use Rattle.state_store.proofs.config.clear.Tie as tie
 

@@ -4,7 +4,7 @@ use Prim.Native.Nat.{ℕ, _+_, _≤_, _-_}
 use lib.ListN.{length, getD, length-set}
 use lib.Seq.{sets}
 use Rattle.layout.specs.Bytes.{bytesAt}
-use Rattle.state_store.specs.EffectLaws.{copy-more}
+use Rattle.layout.specs.StoreLaws.{copy-more}
 use native.Mathlib.Omega.{arith}
 use Rattle.state_store.proofs.effect.copy.Statement.{statement}
 use Rattle.state_store.proofs.effect.copy.Tie as tie

@@ -1,7 +1,7 @@
 -- `state_store::head::put_counts` meets its contract: the list of its stores, in the layout's order. Assumes nothing.
 use Rattle.layout.specs.ChainLaws.{stored}
 use Rattle.layout.specs.ChainLaws.Stored.{put, end}
-use Rattle.state_store.specs.HeadLaws.{countsRow, countsValues}
+use Rattle.state_store.specs.Steps.{countsRow, countsValues}
 use borrow.Author.Needs.{needs}
 use Rattle.state_store.proofs.head.put_counts.Statement.{statement}
 use Rattle.state_store.proofs.head.put_counts.Tie as tie

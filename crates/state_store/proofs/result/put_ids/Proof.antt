@@ -6,7 +6,8 @@ use lib.ListN.{length}
 use lib.Seq.{length-sets}
 use Rattle.records.specs.declared.info.PcmInfo.{PcmInfo}
 use Rattle.state_store.specs.PlaceLaws.{pcm-in, direction-in}
-use Rattle.state_store.specs.ListedLaws.{idsIn, Listed, none-listed, ids-short, turn-listed}
+use Rattle.state_store.specs.ListedLaws.{none-listed, ids-short, turn-listed}
+use Rattle.state_store.specs.Steps.{idsIn, Listed}
 use borrow.Author.Needs.{needs}
 use native.Mathlib.Omega.{arith}
 use Rattle.state_store.proofs.result.put_ids.Statement.{statement}

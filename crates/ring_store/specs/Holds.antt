@@ -2,16 +2,17 @@
 -- Assumes nothing.
 use mathlib.Core.Path.{_≡_, refl, sym, ap, _∙_, subst}
 use mathlib.Core.Bool.{Bool, true, false}
-use mathlib.Core.List.{List, [], _∷_}
-use Prim.Native.Nat.{ℕ, zero, suc, _+_, _≤_, _<_, _^_}
+use mathlib.Core.List.{List}
+use Prim.Native.Nat.{ℕ, zero, suc, _≤_, _<_, _^_}
 use native.Mathlib.Omega.{arith}
 use lib.Dec.{leb}
 use borrow.Author.Tests.{leb-false}
-use lib.ListN.{length, set, replicate}
+use lib.ListN.{length, replicate}
 use lib.Seq.{sets}
 use Rattle.layout.specs.Bytes.{Bytes}
 use Rattle.layout.specs.Layout.{Fit}
 use Rattle.layout.specs.Rows.{rowsAt}
+use Rattle.layout.specs.AllLaws.{set-ok, rows-ok}
 use Rattle.layout.specs.LayoutLaws.{read-fits}
 use Rattle.codes.specs.Says.{pick}
 use Rattle.codes.specs.SaysLaws.{guarded-by}
@@ -54,23 +55,17 @@ SentFits (Period slot offset len) = SlotFits (record { offset = offset; len = le
 -- ---- what was read fits
 
 slots-fit : (o n : ℕ) (s : List ℕ) → Bytes s → SlotsFit (rowsAt slotAt 16 o n s)
-unfolding rowsAt slotAt
-slots-fit o zero s b = tt
-slots-fit o (suc n) s b = (read-fits o slotRow s b, slots-fit (o + 16) n s b)
+unfolding slotAt
+slots-fit o n s b = rows-ok SlotFits slotAt 16 (λ o s b. read-fits o slotRow s b) o n s b
 
 track-fits : (s : List ℕ) → Bytes s → consistentOf (trackAt s) ≡ true → TrackFits (trackAt s)
 track-fits s b c = subst (Fit trackRow) (sym (track-values s (flag-consistent s c))) (read-fits 0 trackRow s b)
 
 -- ---- a step that fits is held
 
-set-fits : (slots : List Slot) (i : ℕ) (x : Slot) → SlotsFit slots → SlotFits x → SlotsFit (set slots i x)
-set-fits [] i x p q = tt
-set-fits (y ∷ slots) zero x p q = (q, p .1)
-set-fits (y ∷ slots) (suc i) x p q = (p .0, set-fits slots i x (p .1) q)
-
 carry-fits : (slots : List Slot) (sent : Sent) → SlotsFit slots → SentFits sent → SlotsFit (carry slots sent)
 carry-fits slots Nothing p q = p
-carry-fits slots (Period slot offset len) p q = set-fits slots slot (record { offset = offset; len = len }) p q
+carry-fits slots (Period slot offset len) p q = set-ok SlotFits slots slot (record { offset = offset; len = len }) p q
 
 -- where it was not refused
 abbrev StepFits : Step → Type 0

@@ -1,0 +1,348 @@
+-- THE STORE HOLDS what the call by value leaves: each number fits its width, so nothing is cut off. A store that is not whole stays, and so does its state.
+-- Assumes nothing.
+use mathlib.Core.Path.{_≡_, refl, sym, ap, _∙_, subst}
+use mathlib.Core.Bool.{Bool, true, false, _&&_, false≢true}
+use mathlib.Core.List.{List, []}
+use Prim.Native.Nat.{ℕ, _+_, _≤_, _<_, _^_}
+use native.Mathlib.Omega.{arith}
+use lib.Dec.{lit<, leb}
+use lib.ListN.{length, set, drop, length-set}
+use lib.Seq.{sets}
+use borrow.Author.Tests.{le-leb}
+use Rattle.layout.specs.Bytes.{un, bytesAt, numAt, Bytes}
+use Rattle.layout.specs.Layout.{Fit, write}
+use Rattle.layout.specs.BytesLaws.{numAt-below}
+use Rattle.layout.specs.LayoutLaws.{read-fits}
+use Rattle.layout.specs.Rows.{rowsAt, rowsBytes}
+use Rattle.layout.specs.RowsLaws.{length-rows}
+use Rattle.layout.specs.WrittenLaws.{bytes-append, bytes-write, bytes-rows, Again, over-again}
+use Rattle.layout.specs.AllLaws.{AllOk, append-ok, drop-ok, set-ok, replicate-ok, rows-ok}
+use Rattle.codes.specs.Says.{pick, guard}
+use Rattle.codes.specs.SaysLaws.{guarded-by}
+use Rattle.codes.specs.declared.answers.Refusal.{Refusal}
+use Rattle.records.specs.Records.{jackInfo, jackInfoValues, pcmInfo, pcmInfoValues, channelMap, channelMapValues, jackBytes, pcmBytes, mapBytes, jackInfoOf, pcmInfoOf, channelMapOf}
+use Rattle.records.specs.declared.info.JackInfo.{JackInfo}
+use Rattle.records.specs.declared.info.PcmInfo.{PcmInfo}
+use Rattle.records.specs.declared.info.ChannelMap.{ChannelMap}
+use Rattle.tables.specs.Tables.{judged, isGood, filled, jackAt, pcmAt, mapAt, jacksRead, streamsRead, mapsRead}
+use Rattle.tables.specs.TableLengthLaws.{jacks-length, streams-length, maps-length}
+use Rattle.tables.specs.declared.verdict.Verdict.{Verdict}
+use Rattle.turns.specs.Consistent as ring
+use Rattle.turns.specs.ConsistentLaws.{both}
+use Rattle.turns.specs.declared.ring.Track.{Track}
+use Rattle.turns.specs.declared.ring.Ring.{Ring}
+use Rattle.exchange.specs.State.{unset, newCore, newSound, paramsOf}
+use Rattle.exchange.specs.Consistent.{consistentOf, streamOk}
+use Rattle.exchange.specs.Plan.{effectOf, soundAfter}
+use Rattle.exchange.specs.Exchange.{stepOf, callOf, feedOf, failOf}
+use Rattle.exchange.specs.Feed.{Feed, paged, failed, planOf, pageOf}
+use Rattle.exchange.specs.Xfer.{xferBy, setUpPlan, startOf}
+use Rattle.exchange.specs.OwnLaws.{picked-by}
+use Rattle.exchange.specs.PlanLaws.{begun, Answered, short, idle, asks-streams, asks-maps, cuts, finishes, ends, fails, fed}
+use Rattle.exchange.specs.StayLaws.{called-quiet}
+use Rattle.exchange.specs.StepLaws.{startBy, started-by}
+use Rattle.exchange.specs.declared.state.Params.{Params}
+use Rattle.exchange.specs.declared.state.Call.{Call}
+use Rattle.exchange.specs.declared.state.Call.the-variants.{SetParams, Command, Remap, Streams, Supported, Xfer}
+use Rattle.exchange.specs.declared.state.Stage.the-variants.{Sent}
+use Rattle.exchange.specs.declared.state.Core.{Core}
+use Rattle.exchange.specs.declared.state.Sound.{Sound}
+use Rattle.exchange.specs.declared.plan.Effect.{Effect}
+use Rattle.exchange.specs.declared.plan.Effect.the-variants.{Nothing, FillJacks, FillStreams, FillMaps, Store}
+use Rattle.exchange.specs.declared.plan.Plan.{Plan}
+use Rattle.exchange.specs.declared.xfer.Gate.{Gate}
+use Rattle.exchange.specs.declared.xfer.Gate.the-variants.{Shut, SetUp, Open}
+use Rattle.exchange.specs.declared.xfer.XferStep.{XferStep}
+use Rattle.state_store.specs.Store.{whole, paramsRow, paramsAt, soundOf, soundBytes, stateAfter, headRow, headValues, headOf, paramsBytes}
+use Rattle.state_store.specs.Calls.{Told, told, tooShort, lengths, callIn, feedIn, failIn, Opened, openIn, Made, newIn}
+use Rattle.state_store.specs.StoreLaws.{paramsValues, Fits, store-back}
+use Rattle.state_store.specs.OpenLaws.{gateIn, openBy, opens, opened-by}
+use Rattle.state_store.specs.WholeLaws.{FitCall, FitCore, head-fits, store-fits, begun-fits, waits, answered-fits, set-up-fits, new-fits}
+use Rattle.state_store.specs.RefusedLaws.{Barred, begun-barred, answered-barred, not-whole}
+use Rattle.state_store.specs.FinishLaws.{long-state}
+
+-- ---- tables of records that fit
+
+-- a table that is read from a page, or not
+read-ok : {A : Type 0} (Ok : A → Type 0) (f : ℕ → List ℕ → A) (size : ℕ) → ((o : ℕ) (s : List ℕ) → Bytes s → Ok (f o s))
+    → (t : Bool) (page : List ℕ) (n : ℕ) (old : List A) → Bytes page → AllOk Ok old → AllOk Ok (pick t (filled f size page n old) old)
+read-ok Ok f size reads true page n old b p = append-ok Ok (rowsAt f size 4 n page) (drop n old) (rows-ok Ok f size reads 4 n page b) (drop-ok Ok n old p)
+read-ok Ok f size reads false page n old b p = p
+
+abbrev JackFits : JackInfo → Type 0
+JackFits x = Fit jackInfo (jackInfoValues x)
+
+abbrev PcmFits : PcmInfo → Type 0
+PcmFits x = Fit pcmInfo (pcmInfoValues x)
+
+abbrev MapFits : ChannelMap → Type 0
+MapFits x = Fit channelMap (channelMapValues x)
+
+abbrev ParamsFit : Params → Type 0
+ParamsFit x = Fit paramsRow (paramsValues x)
+
+jack-fits : (o : ℕ) (s : List ℕ) → Bytes s → JackFits (jackAt o s)
+unfolding jackAt
+jack-fits o s b = read-fits o jackInfo s b
+
+pcm-fits : (o : ℕ) (s : List ℕ) → Bytes s → PcmFits (pcmAt o s)
+unfolding pcmAt
+pcm-fits o s b = read-fits o pcmInfo s b
+
+map-fits : (o : ℕ) (s : List ℕ) → Bytes s → MapFits (mapAt o s)
+unfolding mapAt
+map-fits o s b = read-fits o channelMap s b
+
+params-fit : (o : ℕ) (s : List ℕ) → Bytes s → ParamsFit (paramsAt o s)
+unfolding paramsAt
+params-fit o s b =
+    (numAt-below o 1 s b, (numAt-below (o + 1) 1 s b, (numAt-below (o + 2) 1 s b, (numAt-below (o + 3) 1 s b, (numAt-below (o + 4) 4 s b, (numAt-below (o + 8) 4 s b, (numAt-below (o + 12) 4 s b, tt)))))))
+
+-- WHAT A WHOLE STORE HOLDS FITS
+pub sound-fits : (s : List ℕ) → Bytes s → whole s ≡ true → Fits (soundOf s)
+unfolding soundOf
+sound-fits s b w =
+    record {
+      core = head-fits (soundOf s .core) (store-fits s b w);
+      jacks = rows-ok JackFits jackAt 24 jack-fits 48 170 s b;
+      pcms = rows-ok PcmFits pcmAt 32 pcm-fits 4128 127 s b;
+      maps = rows-ok MapFits mapAt 24 map-fits 8192 170 s b;
+      params = rows-ok ParamsFit paramsAt 16 params-fit 12272 127 s b;
+      jacks-170 = length-rows jackAt 24 48 170 s;
+      pcms-127 = length-rows pcmAt 32 4128 127 s;
+      maps-170 = length-rows mapAt 24 8192 170 s;
+      params-127 = length-rows paramsAt 16 12272 127 s;
+    }
+
+-- ---- A PLAN THAT FITS leaves a state that fits
+
+abbrev EffectFits : Effect → Type 0
+EffectFits Nothing = Unit {0}
+EffectFits FillJacks = Unit {0}
+EffectFits FillStreams = Unit {0}
+EffectFits FillMaps = Unit {0}
+EffectFits (Store stream to) = ParamsFit to
+
+abbrev PlanFits : Plan → Type 0
+PlanFits p = FitCore (p .core) × EffectFits (p .effect)
+
+module _ (c : Core) (k : FitCore c) (x : Sound) (f : Fits x) (page : List ℕ) (b : Bytes page) where
+  -- a table, and its length
+  abbrev Table : {A : Type 0} → (A → Type 0) → ℕ → List A → Type 0
+  Table Ok n xs = AllOk Ok xs × (length xs ≡ n)
+
+  tables-fit : (js : List JackInfo) (ps : List PcmInfo) (ms : List ChannelMap) (qs : List Params) → Table JackFits 170 js → Table PcmFits 127 ps → Table MapFits 170 ms → Table ParamsFit 127 qs
+      → Fits (record { core = c; jacks = js; pcms = ps; maps = ms; params = qs })
+  tables-fit js ps ms qs j p m q =
+      record {
+        core = head-fits c k;
+        jacks = j .0;
+        pcms = p .0;
+        maps = m .0;
+        params = q .0;
+        jacks-170 = j .1;
+        pcms-127 = p .1;
+        maps-170 = m .1;
+        params-127 = q .1;
+      }
+
+  jacks : Table JackFits 170 (x .jacks)
+  jacks = (f .jacks, f .jacks-170)
+
+  pcms : Table PcmFits 127 (x .pcms)
+  pcms = (f .pcms, f .pcms-127)
+
+  maps : Table MapFits 170 (x .maps)
+  maps = (f .maps, f .maps-170)
+
+  params : Table ParamsFit 127 (x .params)
+  params = (f .params, f .params-127)
+
+  after-fits : (e : Effect) → EffectFits e → Fits (soundAfter e c x page)
+  unfolding jacksRead streamsRead mapsRead
+  after-fits Nothing h = tables-fit (x .jacks) (x .pcms) (x .maps) (x .params) jacks pcms maps params
+  after-fits FillJacks h =
+      let n = c .counts .jacks in
+      tables-fit _ (x .pcms) (x .maps) (x .params)
+      (read-ok JackFits jackAt 24 jack-fits (isGood (judged page n 24)) page n (x .jacks) b (f .jacks), jacks-length page n (x .jacks) (f .jacks-170)) pcms maps params
+  after-fits FillStreams h =
+      let n = c .counts .streams in
+      tables-fit (x .jacks) _ (x .maps) (x .params)
+      jacks (read-ok PcmFits pcmAt 32 pcm-fits (isGood (judged page n 32)) page n (x .pcms) b (f .pcms), streams-length page n (x .pcms) (f .pcms-127)) maps params
+  after-fits FillMaps h =
+      let n = c .counts .maps in
+      tables-fit (x .jacks) (x .pcms) _ (x .params)
+      jacks pcms (read-ok MapFits mapAt 24 map-fits (isGood (judged page n 24)) page n (x .maps) b (f .maps), maps-length page n (x .maps) (f .maps-170)) params
+  after-fits (Store stream to) h =
+      tables-fit (x .jacks) (x .pcms) (x .maps) (set (x .params) stream to)
+      jacks pcms maps (set-ok ParamsFit (x .params) stream to (f .params) h, length-set (x .params) stream to ∙ f .params-127)
+
+-- ---- the plans of a call and of an answer fit
+
+-- what is stored is what the call that waited asked for
+effect-fits : (call : Call) → FitCall call → EffectFits (effectOf call)
+effect-fits (SetParams stream to) k =
+    let v = k .1 .1 .1 in
+    let n = v .1 .1 .1 .1 in
+    (lit< tt, (n .0, (n .1 .0, (n .1 .1 .0, (v .0, (v .1 .0, (v .1 .1 .0, tt)))))))
+effect-fits (Command kind stream) k = tt
+effect-fits (Remap jack association sequence) k = tt
+effect-fits (Streams direction) k = tt
+effect-fits (Supported field stream) k = tt
+effect-fits (Xfer stream) k = tt
+
+answered-effect : {c : Core} {v : Verdict} {look : ℕ} {long : Bool} {p : Plan} → FitCore c → Answered c v look long p → EffectFits (p .effect)
+answered-effect f (short _) = tt
+answered-effect f (idle _) = tt
+answered-effect {v} f (asks-streams _ _) = picked-by EffectFits (isGood v) FillJacks Nothing (λ _. tt) (λ _. tt)
+answered-effect f (asks-maps _ _ _) = tt
+answered-effect f (cuts _ _ _ _ _) = tt
+answered-effect {v} f (finishes _ _ _) = picked-by EffectFits (isGood v) FillMaps Nothing (λ _. tt) (λ _. tt)
+answered-effect f (ends {call} _ g _) = effect-fits call (waits (Sent call) f g)
+answered-effect f (fails _ _ _) = tt
+
+no-page : Bytes []
+no-page k = lit< tt
+
+-- ---- a plan carried out on a store
+
+-- one that is barred changes nothing
+barred-keeps : (x : Sound) {p : Plan} (page : List ℕ) → Barred (x .core) p → stepOf p x page .sound ≡ x
+barred-keeps x page k = ap (λ (p : Plan). stepOf p x page .sound) (k .is)
+
+held : (s : List ℕ) → Bytes s → 14304 ≤ length s → (p : Plan) (page : List ℕ) → Bytes page → (whole s ≡ true → PlanFits p) → (whole s ≡ false → stepOf p (soundOf s) page .sound ≡ soundOf s)
+    → soundOf (stateAfter s (stepOf p (soundOf s) page .sound)) ≡ stepOf p (soundOf s) page .sound
+held s b h p page c f k =
+    let x = stepOf p (soundOf s) page .sound in
+    picked-by (λ (l : List ℕ). soundOf l ≡ x) (whole s) (sets s 0 (soundBytes x)) s
+    (λ w. store-back s x (after-fits (p .core) (f w .0) (soundOf s) (sound-fits s b w) page c (p .effect) (f w .1)) h) (λ w. sym (k w))
+
+-- ---- THE STATE THAT A CALL LEAVES IN A STORE is the one that the call by value leaves
+
+module _ (s m r : List ℕ) (b : Bytes s) (l : lengths s r ≡ true) where
+  told-holds : (p : Plan) (page : List ℕ) → Bytes page → (whole s ≡ true → PlanFits p) → (whole s ≡ false → Barred (soundOf s .core) p)
+      → soundOf (guard (lengths s r) (told s p page m r) (tooShort s m r) .state) ≡ stepOf p (soundOf s) page .sound
+  told-holds p page c f k =
+      guarded-by (λ (x : Told). soundOf (x .state) ≡ stepOf p (soundOf s) page .sound) _ _ _
+      (λ _. held s b (long-state s r l) p page c f (λ w. barred-keeps (soundOf s) page (k w))) (λ e. absurd (false≢true (sym e ∙ l)))
+
+  pub call-holds : (t : Track) (call : Call) → FitCall call → soundOf (callIn s t call m r .state) ≡ stepOf (callOf (soundOf s) t call (length m)) (soundOf s) [] .sound
+  unfolding callIn
+  call-holds t call k =
+      let x = soundOf s in
+      let o = begun x t call (length m) in
+      told-holds (callOf x t call (length m)) [] no-page
+      (λ w. (begun-fits (store-fits s b w) k o, subst EffectFits (sym (called-quiet x t call (length m))) tt)) (λ w. begun-barred (x .core) (not-whole s w) o)
+
+  fed-holds : (f : Feed) → Bytes (pageOf f) → soundOf (guard (lengths s r) (told s (planOf (soundOf s) f) (pageOf f) m r) (tooShort s m r) .state) ≡ stepOf (planOf (soundOf s) f) (soundOf s) (pageOf f) .sound
+  fed-holds f c =
+      let x = soundOf s in
+      let o = fed x f in
+      told-holds (planOf x f) (pageOf f) c (λ w. let k = store-fits s b w in (answered-fits k o, answered-effect k o)) (λ w. answered-barred (x .core) (not-whole s w) o)
+
+  pub feed-holds : (page : List ℕ) → Bytes page → soundOf (feedIn s page m r .state) ≡ stepOf (feedOf (soundOf s) page (length m)) (soundOf s) page .sound
+  unfolding feedIn
+  feed-holds page c = fed-holds (paged page (length m)) c
+
+  pub fail-holds : soundOf (failIn s m r .state) ≡ stepOf (failOf (soundOf s) (length m)) (soundOf s) [] .sound
+  unfolding failIn
+  fail-holds = fed-holds (failed (length m)) no-page
+
+-- ---- the start of a transfer
+
+-- set-up is begun only where state and ring passed the test
+set-up-passed : (a b : Bool) (rest : Gate) (x y : Refusal) → SetUp ≡ guard a (guard b rest (Shut x)) (Shut y) → b ≡ true
+unfolding guard
+set-up-passed true true rest x y e = refl
+set-up-passed true false rest x y e = let z : _≡_ {A = ℕ} 0 1 = cc in absurd (omega arith)
+set-up-passed false b rest x y e = let z : _≡_ {A = ℕ} 0 1 = cc in absurd (omega arith)
+
+module _ (s m : List ℕ) (b : Bytes s) (h : 14304 ≤ length s) (r : Ring) (stream : ℕ) (k : stream < 256 ^ 4) where
+  abbrev t : Track
+  t = r .track
+
+  abbrev x : Sound
+  x = soundOf s
+
+  consistent : SetUp ≡ gateIn s m t stream → consistentOf (x .core) ≡ true
+  consistent e = both (consistentOf (x .core)) (ring.consistentOf t && streamOk (x .core) (paramsOf x stream) stream) (set-up-passed _ _ _ _ _ e) .0
+
+  by : (len budget : ℕ) (g : Gate) → g ≡ gateIn s m t stream → soundOf (openBy s m t stream g .state) ≡ startBy x r stream len budget g .sound
+  by len budget (Shut y) e = refl
+  by len budget SetUp e =
+      held s b h (setUpPlan x stream) [] no-page (λ w. (set-up-fits (x .core) stream (store-fits s b w) k, tt)) (λ w. absurd (false≢true (sym (not-whole s w) ∙ consistent e)))
+  by len budget (Open period) e = refl
+
+  -- whatever the transfer's length and budget are
+  pub open-holds : (len budget : ℕ) → soundOf (openIn s (r .track) stream m .state) ≡ startOf (soundOf s) r stream len budget (length m) .sound
+  open-holds len budget =
+      let g = gateIn s m t stream in
+      let e : g ≡ xferBy (leb 24 (length m)) x t stream Shut SetUp Open = ap (λ (a : Bool). xferBy (a && leb 24 (length m)) x t stream Shut SetUp Open) (le-leb 14304 (length s) h) in
+      ap (λ (o : Opened). soundOf (o .state)) (sym (opens s m t stream g refl))
+      ∙ by len budget g refl
+      ∙ ap (λ (y : XferStep). y .sound) (started-by x r stream len budget (length m) g e)
+
+-- ---- a new state: its tables are of what is read where no byte stands
+
+pub new-holds : (s : List ℕ) (jacks streams maps : ℕ) → 14304 ≤ length s → jacks < 256 ^ 4 → streams < 256 ^ 4 → maps < 256 ^ 4 → soundOf (newIn s jacks streams maps .state) ≡ newSound jacks streams maps
+unfolding jackAt pcmAt mapAt paramsAt numAt un bytesAt
+new-holds s jacks streams maps h j k m =
+    guarded-by (λ (x : Made). soundOf (x .state) ≡ newSound jacks streams maps) _ _ _
+    (λ _. store-back s (newSound jacks streams maps) fits h) (λ e. absurd (false≢true (sym e ∙ le-leb 14304 (length s) h)))
+  where
+    fits : Fits (newSound jacks streams maps)
+    fits =
+        record {
+          core = head-fits (newCore jacks streams maps) (new-fits jacks streams maps j k m);
+          jacks = replicate-ok JackFits 170 (jackInfoOf []) (jack-fits 0 [] no-page);
+          pcms = replicate-ok PcmFits 127 (pcmInfoOf []) (pcm-fits 0 [] no-page);
+          maps = replicate-ok MapFits 170 (channelMapOf []) (map-fits 0 [] no-page);
+          params = replicate-ok ParamsFit 127 unset (params-fit 0 [] no-page);
+          jacks-170 = refl;
+          pcms-127 = refl;
+          maps-170 = refl;
+          params-127 = refl;
+        }
+
+-- ---- what a call leaves is a store again
+
+bytes-sound : (x : Sound) → Bytes (soundBytes x)
+unfolding soundBytes
+bytes-sound x =
+    bytes-append (write headRow (headValues (headOf (x .core)))) _ (bytes-write headRow (headValues (headOf (x .core))))
+    (bytes-append (rowsBytes jackBytes (x .jacks)) _ (bytes-rows jackBytes (λ r. bytes-write jackInfo (jackInfoValues r)) (x .jacks))
+    (bytes-append (rowsBytes pcmBytes (x .pcms)) _ (bytes-rows pcmBytes (λ r. bytes-write pcmInfo (pcmInfoValues r)) (x .pcms))
+    (bytes-append (rowsBytes mapBytes (x .maps)) _ (bytes-rows mapBytes (λ r. bytes-write channelMap (channelMapValues r)) (x .maps))
+    (bytes-rows paramsBytes (λ p. bytes-write paramsRow (paramsValues p)) (x .params)))))
+
+module _ (s m r : List ℕ) (b : Bytes s) where
+  after-again : (x : Sound) → Again s (stateAfter s x)
+  after-again x = by (whole s)
+    where
+      by : (w : Bool) → Again s (pick w (sets s 0 (soundBytes x)) s)
+      by true = over-again s (soundBytes x) b (bytes-sound x)
+      by false = (b, refl)
+
+  pub call-again : (t : Track) (call : Call) → Again s (callIn s t call m r .state)
+  unfolding callIn
+  call-again t call = guarded-by (λ (x : Told). Again s (x .state)) _ _ _ (λ _. after-again _) (λ _. (b, refl))
+
+  pub feed-again : (page : List ℕ) → Again s (feedIn s page m r .state)
+  unfolding feedIn
+  feed-again page = guarded-by (λ (x : Told). Again s (x .state)) _ _ _ (λ _. after-again _) (λ _. (b, refl))
+
+  pub fail-again : Again s (failIn s m r .state)
+  unfolding failIn
+  fail-again = guarded-by (λ (x : Told). Again s (x .state)) _ _ _ (λ _. after-again _) (λ _. (b, refl))
+
+  pub open-again : (t : Track) (stream : ℕ) → Again s (openIn s t stream m .state)
+  open-again t stream = opened-by s m t stream (λ (o : Opened). Again s (o .state)) by
+    where
+      by : (g : Gate) → g ≡ gateIn s m t stream → Again s (openBy s m t stream g .state)
+      by (Shut x) e = (b, refl)
+      by SetUp e = after-again _
+      by (Open period) e = (b, refl)
+
+pub new-again : (s : List ℕ) → Bytes s → (jacks streams maps : ℕ) → Again s (newIn s jacks streams maps .state)
+new-again s b jacks streams maps =
+    guarded-by (λ (x : Made). Again s (x .state)) _ _ _ (λ _. over-again s (soundBytes (newSound jacks streams maps)) b (bytes-sound (newSound jacks streams maps))) (λ _. (b, refl))

@@ -1,0 +1,54 @@
+-- What the private functions promise, where the public definitions have no name for it: the steps between them.
+-- Assumes nothing.
+use mathlib.Core.List.{List, [], _∷_}
+use Prim.Native.Nat.{ℕ, _+_}
+use lib.Seq.{sets}
+use Rattle.layout.specs.Bytes.{le}
+use Rattle.codes.specs.Says.{guard, pick}
+use Rattle.exchange.specs.Consistent.{consistentOf}
+use Rattle.exchange.specs.declared.state.Core.{Core}
+use Rattle.state_store.specs.Calls.{Shown, shown, Told, left, resultBytes, Opened, opened}
+use mathlib.Core.Path.{_≡_}
+use lib.ListN.{length, take}
+use Rattle.layout.specs.Rows.{rowsBytes}
+use Rattle.exchange.specs.Exchange.{idsFrom, saysReply, messageAfter, replyOf, listOf}
+use Rattle.state_store.specs.Store.{soundOf, soundBytes}
+use Rattle.exchange.specs.declared.state.Counts.{Counts}
+use mathlib.Core.Bool.{Bool}
+use Rattle.exchange.specs.Plan.{queryOf, sendOf, soundAfter}
+use Rattle.exchange.specs.declared.state.Call.the-variants.{Xfer}
+use Rattle.exchange.specs.declared.state.Stage.the-variants.{JacksAsked}
+use Rattle.exchange.specs.declared.plan.Effect.{Effect}
+use Rattle.exchange.specs.declared.plan.Effect.the-variants.{Nothing}
+use Rattle.exchange.specs.declared.plan.Plan.{Plan}
+use Rattle.state_store.specs.declared.calls.Opening.the-variants.{Says}
+
+abbrev pub countBy : Core → ℕ → List ℕ → Shown
+countBy c n r = guard (consistentOf c) (shown 0 (sets r 0 (le 8 n))) (shown 1 r)
+
+abbrev pub idsIn : List ℕ → ℕ → ℕ → List ℕ
+idsIn s d n = idsFrom d 0 (take n (soundOf s .pcms))
+
+pub record Listed (r ids : List ℕ) (count : ℕ) (now : List ℕ) : Type 0 where
+  pub counted : count ≡ length ids
+  pub stored : now ≡ sets r 4 (rowsBytes (le 4) ids)
+
+abbrev pub countsRow : List ℕ
+countsRow = 4 ∷ 4 ∷ 4 ∷ 4 ∷ 4 ∷ 4 ∷ []
+
+abbrev pub countsValues : Counts → Counts → List ℕ
+countsValues n r = n .jacks ∷ n .streams ∷ n .maps ∷ r .jacks ∷ r .streams ∷ r .maps ∷ []
+
+abbrev pub changed : Bool → List ℕ → Effect → Core → List ℕ → List ℕ
+changed w s e c page = pick w (sets s 0 (soundBytes (soundAfter e c (soundOf s) page))) s
+
+abbrev pub finished : Bool → List ℕ → Plan → List ℕ → List ℕ → List ℕ → Told
+finished w s p page m r =
+    left (saysReply (replyOf (p .say)) .number) (changed w s (p .effect) (p .core) page) (messageAfter (p .say) m)
+    (sets r 0 (resultBytes (replyOf (p .say)) (listOf (p .say) (p .core .read .streams) (soundOf s .pcms))))
+
+-- a transfer that waits for set-up, by the core at hand
+abbrev pub settingUpBy : Bool → Core → List ℕ → ℕ → List ℕ → Opened
+settingUpBy w c s stream m =
+    let p = sendOf c (JacksAsked (Xfer stream)) (queryOf 0x0001 (c .counts .jacks) 24) Nothing in
+    opened (Says (256 + 16)) (changed w s (p .effect) (p .core) []) (messageAfter (p .say) m)
