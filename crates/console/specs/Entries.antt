@@ -1,22 +1,20 @@
 -- What the C entries say where an entry puts stores together: a state with a ring, and an event. The others say what `state_store`, `ring_store` and
 -- `model_store` say.
 -- Assumes nothing.
-use mathlib.Core.Bool.{Bool, _&&_}
-use mathlib.Core.List.{List, [], _∷_}
-use Prim.Native.Nat.{ℕ, _+_}
+use mathlib.Core.Bool.{_&&_}
+use mathlib.Core.List.{List}
+use Prim.Native.Nat.{ℕ}
 use lib.Dec.{leb, eqb}
 use lib.ListN.{length}
 use lib.Seq.{sets}
 use Rattle.layout.specs.Bytes.{le}
 use Rattle.layout.specs.Layout.{read}
 use Rattle.layout.specs.Rows.{rowsBytes}
-use Rattle.codes.specs.Says.{pick, guard}
+use Rattle.codes.specs.Says.{guard}
 use Rattle.records.specs.Records.{event}
 use Rattle.records.specs.Notice.{eventSays}
-use Rattle.turns.specs.Ring.{saysSaid}
-use Rattle.exchange.specs.Xfer.{startOf, xferMessage}
+use Rattle.exchange.specs.Xfer.{startOf, xferMessage, saysXfer}
 use Rattle.exchange.specs.declared.state.Call.{Call}
-use Rattle.exchange.specs.declared.state.Sound.{Sound}
 use Rattle.exchange.specs.declared.xfer.XferReply.{XferReply}
 use Rattle.exchange.specs.declared.xfer.XferReply.the-variants.{Send, Says}
 use Rattle.exchange.specs.declared.xfer.XferStep.{XferStep}
@@ -42,10 +40,6 @@ pub record Begun : Type 0 where
 abbrev pub began : ℕ → List ℕ → List ℕ → List ℕ → Begun
 began answer s ring m = record { answer = answer; state = s; ring = ring; message = m }
 
-abbrev pub replyNumber : XferReply → ℕ
-replyNumber (Send n) = 256 + n
-replyNumber (Says x) = saysSaid x .number
-
 -- the ring changes only where a transfer begins
 abbrev pub ringThen : XferReply → List ℕ → List ℕ → List ℕ
 ringThen (Send n) old new = old
@@ -54,7 +48,7 @@ ringThen (Says x) old new = unlessRefused x old new
 abbrev pub begun : List ℕ → List ℕ → ℕ → List ℕ → XferStep → Begun
 begun s ring stream m x =
     record {
-      answer = replyNumber (x .reply);
+      answer = saysXfer (x .reply) .number;
       state = stateAfter s (x .sound);
       ring = ringThen (x .reply) ring (sets ring 0 (ringBytes (x .ring)));
       message = xferMessage (x .reply) (soundOf s) stream m;

@@ -3,7 +3,7 @@
 use mathlib.Core.Path.{_≡_, refl, sym, ap, _∙_}
 use mathlib.Core.Bool.{Bool, true, false, _&&_}
 use mathlib.Core.List.{List, [], _∷_, _++_, append-nil}
-use Prim.Native.Nat.{ℕ, _+_, _≤_}
+use Prim.Native.Nat.{ℕ, _+_}
 use native.Mathlib.Omega.{arith}
 use lib.Dec.{leb, eqb}
 use lib.ListN.{length}
@@ -26,7 +26,7 @@ use Rattle.records.specs.declared.event.Notice.the-variants as notice
 use Rattle.turns.specs.Calls.{startCall, startedOf}
 use Rattle.turns.specs.declared.ring.Track.{Track}
 use Rattle.exchange.specs.Xfer.{xferBy, refusedStep, setUpStep, startStep, startOf}
-use Rattle.exchange.specs.declared.state.Sound.{Sound}
+use Rattle.exchange.specs.StepLaws.{xfer-ap}
 use Rattle.ring_store.specs.Store.{trackAt, ringOf}
 use Rattle.ring_store.specs.Calls.{leftBy, startIn}
 use Rattle.state_store.specs.Store.{whole, soundOf, stateAfter}
@@ -82,16 +82,6 @@ no-room false b e = refl
 pub short-ring : (s ring : List ℕ) (stream len budget : ℕ) (m : List ℕ) → leb 592 (length ring) ≡ false → began 10 s ring m ≡ startEntry s ring stream len budget m
 unfolding startEntry
 short-ring s ring stream len budget m e = stops _ _ _ (no-room (leb 14304 (length s)) (leb 592 (length ring)) e) refl
-
-guard-ap : {A B : Type 0} (f : A → B) (t : Bool) (a b : A) → f (guard t a b) ≡ guard t (f a) (f b)
-unfolding guard
-guard-ap f true a b = refl
-guard-ap f false a b = refl
-
--- what is made of the outcome of the checks is made at each end of them
-xfer-ap : {A B : Type 0} (f : A → B) (lengths : Bool) (s : Sound) (t : Track) (stream : ℕ) (refuse : Refusal → A) (setUp : A) (go : ℕ → A)
-    → f (xferBy lengths s t stream refuse setUp go) ≡ xferBy lengths s t stream (λ x. f (refuse x)) (f setUp) (λ p. f (go p))
-xfer-ap f lengths s t stream refuse setUp go = simp (guard-ap f)
 
 -- a state that is written over the store that holds it
 unchanged : (s : List ℕ) → Bytes s → stateAfter s (soundOf s) ≡ s

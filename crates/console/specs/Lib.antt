@@ -1,3 +1,6 @@
--- The definitions of `console`.
+-- definitions
 pub mod Entries
+-- theorems
+pub mod Holds
+-- laws
 pub mod EntryLaws

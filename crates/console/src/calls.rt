@@ -1,7 +1,7 @@
 // The calls: state and ring as lent stores, a message to send, a result.
 ghost use mathlib.Core.Path.{_≡_};
 ghost use lib.ListN.{length};
-ghost use Rattle.exchange.specs.Asked.{askedParams};
+ghost use Rattle.exchange.specs.State.{askedParams};
 ghost use Rattle.exchange.specs.declared.state.Kind.the-variants.{Prepare, Release, Start, Stop};
 ghost use Rattle.exchange.specs.declared.state.Field.the-variants.{Rates, Formats, Channels, Features};
 ghost use Rattle.exchange.specs.declared.state.Call.the-variants as calls;

@@ -1,4 +1,6 @@
+-- definitions
 pub mod Listing
 pub mod Text
+-- laws
 pub mod TextLaws
 pub mod ListingLaws

@@ -2,6 +2,7 @@
 ghost use mathlib.Core.Path.{_≡_};
 ghost use Rattle.listing.specs.Listing.{lengthOk, listingOf};
 use codes::Refusal;
+use codes::StatusCode;
 
 // So many streams, at most the 127 that a page holds, or a refusal.
 pub enum Listing {
@@ -31,7 +32,7 @@ pub fn judge(n: usize, page: &[u8]) -> Listing
     if !fits {
         return Listing::Refused(Refusal::BadLength);
     }
-    if status != 0x8000 {
+    if status != StatusCode::OK {
         return Listing::Refused(Refusal::IoError);
     }
     Listing::Streams(((n - 4) / 32) as u8)

@@ -7,7 +7,7 @@ use lib.ListN.{length, getD}
 use denote.Ref.{now}
 use Rattle.codes.specs.Says.{Says, pick}
 use Rattle.codes.specs.SaysLaws.{same, one}
-use Rattle.records.specs.BackLaws.{setParametersOf}
+use Rattle.records.specs.Records.{setParametersOf}
 use Rattle.model.specs.Device.{saysHeld, saysCount}
 use Rattle.model.specs.declared.device.HeldRead.{HeldRead}
 use Rattle.model.specs.declared.device.HeldRead.the-variants as held

@@ -7,9 +7,10 @@ use Prim.Native.Nat.{ℕ, _+_}
 use lib.Dec.{leb, ltb, eqb}
 use lib.ListN.{length, getD, take, drop, set}
 use Rattle.layout.specs.Bytes.{le, numAt}
-use Rattle.layout.specs.Layout.{read, write}
+use Rattle.layout.specs.Layout.{read}
 use Rattle.layout.specs.Rows.{rowsBytes}
-use Rattle.codes.specs.Says.{pick, guard}
+use Rattle.codes.specs.Says.{Says, says, pick, guard}
+use Rattle.codes.specs.Answers.{saysRefusal}
 use Rattle.codes.specs.Codes.{among}
 use Rattle.codes.specs.Rates.{placeOf}
 use Rattle.codes.specs.Requests.{requestCodes}
@@ -18,14 +19,11 @@ use Rattle.codes.specs.declared.requests.RequestCode.{RequestCode}
 use Rattle.codes.specs.declared.requests.RequestCode.the-variants.{RJackInfo, RJackRemap, RPcmInfo, RPcmSetParams, RPcmPrepare, RPcmRelease, RPcmStart, RPcmStop, RChmapInfo}
 use Rattle.codes.specs.declared.requests.FoundRequest.{FoundRequest}
 use Rattle.codes.specs.declared.requests.FoundRequest.the-variants as found
-use Rattle.records.specs.Records.{query, setParameters, jackInfo, jackInfoValues, pcmInfo, pcmInfoValues, channelMap, channelMapValues}
-use Rattle.records.specs.BackLaws.{queryOf, setParametersOf}
-use Rattle.records.specs.declared.info.JackInfo.{JackInfo}
-use Rattle.records.specs.declared.info.PcmInfo.{PcmInfo}
-use Rattle.records.specs.declared.info.ChannelMap.{ChannelMap}
+use Rattle.records.specs.Records.{query, setParameters, queryOf, setParametersOf, jackBytes, pcmBytes, mapBytes}
 use Rattle.model.specs.Device.{withinOf}
 use Rattle.model.specs.declared.device.Held.{Held}
 use Rattle.model.specs.declared.device.Device.{Device}
+use Rattle.model.specs.declared.said.Control.{Control}
 use Rattle.model.specs.declared.said.Control.the-variants.{Answer, Refused}
 use Rattle.model.specs.declared.control.Answered.{Answered}
 use Rattle.model.specs.declared.control.Range.{Range}
@@ -78,15 +76,6 @@ table bytesOf request size n records d =
     pick (queryFits request size n)
     (record { device = d; bytes = rowsIn bytesOf (q .start) (q .count) records })
     (bad d)
-
-abbrev pub jackBytes : JackInfo → List ℕ
-jackBytes r = write jackInfo (jackInfoValues r)
-
-abbrev pub pcmBytes : PcmInfo → List ℕ
-pcmBytes r = write pcmInfo (pcmInfoValues r)
-
-abbrev pub mapBytes : ChannelMap → List ℕ
-mapBytes r = write channelMap (channelMapValues r)
 
 -- ---- set parameters: 24 bytes and a stream of the table; all 24 are kept, with no period rule
 
@@ -150,3 +139,9 @@ unfoldable pub pageAfter : Device → List ℕ → List ℕ → List ℕ
 pageAfter d request page =
     let b = outcomeOf request d .bytes in
     pick (takes d (length page)) (b ++ drop (length b) page) page
+
+-- ---- what a request or a transfer says: 0 and the length of the answer, or a refusal
+
+abbrev pub saysControl : Control → Says
+saysControl (Answer n) = says 0 (n ∷ [])
+saysControl (Refused x) = saysRefusal x

@@ -21,10 +21,9 @@ use Rattle.codes.specs.declared.requests.RequestCode.{RequestCode}
 use Rattle.codes.specs.declared.requests.RequestCode.the-variants.{RJackInfo, RJackRemap, RPcmInfo, RPcmSetParams, RPcmPrepare, RPcmRelease, RPcmStart, RPcmStop, RChmapInfo}
 use Rattle.codes.specs.declared.requests.FoundRequest.{FoundRequest}
 use Rattle.codes.specs.declared.requests.FoundRequest.the-variants as found
-use Rattle.records.specs.Records.{query, queryValues, setParameters, setParametersValues}
+use Rattle.records.specs.Records.{query, queryValues, setParameters, setParametersValues, queryOf, setParametersOf}
 use Rattle.records.specs.Slice.{readSays}
 use Rattle.records.specs.SliceLaws.{read-is}
-use Rattle.records.specs.BackLaws.{queryOf, setParametersOf}
 use Rattle.records.specs.declared.control.Query.{Query}
 use Rattle.records.specs.declared.control.SetParameters.{SetParameters}
 use Rattle.model.specs.DeviceLaws.{both}

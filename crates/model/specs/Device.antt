@@ -6,8 +6,7 @@ use Prim.Native.Nat.{ℕ}
 use lib.Dec.{leb, ltb, eqb}
 use lib.ListN.{getD, replicate}
 use Rattle.codes.specs.Says.{Says, says, pick}
-use Rattle.records.specs.Records.{setParametersValues}
-use Rattle.records.specs.BackLaws.{setParametersOf}
+use Rattle.records.specs.Records.{setParametersValues, setParametersOf}
 use Rattle.records.specs.declared.info.JackInfo.{JackInfo}
 use Rattle.records.specs.declared.info.PcmInfo.{PcmInfo}
 use Rattle.records.specs.declared.info.ChannelMap.{ChannelMap}

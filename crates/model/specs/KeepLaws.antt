@@ -13,9 +13,9 @@ use Rattle.codes.specs.declared.requests.RequestCode.{RequestCode}
 use Rattle.codes.specs.declared.requests.RequestCode.the-variants.{RJackInfo, RJackRemap, RPcmInfo, RPcmSetParams, RPcmPrepare, RPcmRelease, RPcmStart, RPcmStop, RChmapInfo}
 use Rattle.codes.specs.declared.requests.FoundRequest.{FoundRequest}
 use Rattle.codes.specs.declared.requests.FoundRequest.the-variants as found
-use Rattle.records.specs.Records.{query, setParameters}
-use Rattle.records.specs.BackLaws.{queryOf, setParametersOf}
-use Rattle.model.specs.Control.{Outcome, bad, ok, queryFits, rowsIn, table, jackBytes, pcmBytes, mapBytes, keptBy, settingOf, commandOf, answerBy, answerFound, requestBy, outcomeOf}
+use Rattle.records.specs.Records.{query, setParameters, queryOf, setParametersOf, jackBytes, pcmBytes, mapBytes}
+use Rattle.model.specs.Control.{Outcome, bad, ok, queryFits, rowsIn, table, keptBy, settingOf, commandOf, answerBy, answerFound, requestBy, outcomeOf}
+use Rattle.records.specs.declared.control.SetParameters.{SetParameters}
 use Rattle.model.specs.Transfer.{streamOf, plays, playedBy, deviceAfter}
 use Rattle.model.specs.declared.device.Device.{Device}
 
@@ -35,62 +35,65 @@ either P false a b p q = q
 stays : (d : Device) → Kept d d
 stays d = record { counts = refl; jacks = refl; pcms = refl; maps = refl; params = refl; played = refl }
 
--- an outcome of a control request
-record Still (d : Device) (o : Outcome) : Type 0 where
-  kept : Kept d (o .device)
-  unplayed : o .device .played ≡ d .played
+-- what holds of both ends of a request holds of what it leaves
+module _ (P : Device → Type 0) (s : List ℕ) (d : Device) (p : P d) where
+  abbrev asked : SetParameters
+  asked = setParametersOf (read setParameters s)
+
+  -- a control request leaves the device as it was, or with the parameters of one stream set
+  module _ (q : P (keptBy d (asked .stream) (record { known = 1; set = asked }))) where
+    abbrev Leaves : Outcome → Type 0
+    Leaves o = P (o .device)
+
+    table-leaves : {A : Type 0} (g : A → List ℕ) (size n : ℕ) (rows : List A) → Leaves (table g s size n rows d)
+    table-leaves g size n rows =
+        let x = queryOf (read query s) in
+        either Leaves (queryFits s size n) (record { device = d; bytes = rowsIn g (x .start) (x .count) rows }) (bad d) p p
+
+    setting-leaves : Leaves (settingOf s d)
+    setting-leaves = either Leaves (eqb (length s) 24 && ltb (asked .stream) (d .counts .streams)) (ok (keptBy d (asked .stream) (record { known = 1; set = asked }))) (bad d) q p
+
+    command-leaves : Leaves (commandOf s d)
+    command-leaves = either Leaves (eqb (length s) 8) (ok d) (bad d) p p
+
+    by-code : (c : RequestCode) → Leaves (answerBy c s d)
+    by-code RJackInfo = table-leaves jackBytes 24 (d .counts .jacks) (d .jacks)
+    by-code RJackRemap = p
+    by-code RPcmInfo = table-leaves pcmBytes 32 (d .counts .streams) (d .pcms)
+    by-code RPcmSetParams = setting-leaves
+    by-code RPcmPrepare = command-leaves
+    by-code RPcmRelease = command-leaves
+    by-code RPcmStart = command-leaves
+    by-code RPcmStop = command-leaves
+    by-code RChmapInfo = table-leaves mapBytes 24 (d .counts .maps) (d .maps)
+
+    by-found : (f : FoundRequest) → Leaves (answerFound f s d)
+    by-found (found.Is c) = by-code c
+    by-found found.InvalidParam = p
+
+    pub control-leaves : P (outcomeOf s d .device)
+    unfolding outcomeOf
+    control-leaves = either Leaves (leb 4 (length s)) (answerFound (requestBy (numAt 0 4 s)) s d) (bad d) (by-found (requestBy (numAt 0 4 s))) p
+
+  -- a transfer leaves the device as it was, or with the bytes of one stream counted
+  pub transfer-leaves : P (playedBy d (streamOf s) (length s - 4)) → P (deviceAfter d s)
+  transfer-leaves q = either P (plays d s) (playedBy d (streamOf s) (length s - 4)) d q p
 
 module _ (s : List ℕ) (d : Device) where
-  told-still : (b : List ℕ) → Still d (record { device = d; bytes = b })
-  told-still b = record { kept = stays d; unplayed = refl }
-
-  table-still : {A : Type 0} (g : A → List ℕ) (size n : ℕ) (rows : List A) → Still d (table g s size n rows d)
-  table-still g size n rows =
-      let q = queryOf (read query s) in
-      either (Still d) (queryFits s size n) (record { device = d; bytes = rowsIn g (q .start) (q .count) rows }) (bad d) (told-still _) (told-still _)
-
-  setting-still : Still d (settingOf s d)
-  setting-still =
-      let p = setParametersOf (read setParameters s) in
-      let n = length-set (d .params) (p .stream) (record { known = 1; set = p }) in
-      either (Still d) (eqb (length s) 24 && ltb (p .stream) (d .counts .streams)) (ok (keptBy d (p .stream) (record { known = 1; set = p }))) (bad d)
-      (record { kept = record { counts = refl; jacks = refl; pcms = refl; maps = refl; params = n; played = refl }; unplayed = refl })
-      (told-still _)
-
-  command-still : Still d (commandOf s d)
-  command-still = either (Still d) (eqb (length s) 8) (ok d) (bad d) (told-still _) (told-still _)
-
-  by-code : (c : RequestCode) → Still d (answerBy c s d)
-  by-code RJackInfo = table-still jackBytes 24 (d .counts .jacks) (d .jacks)
-  by-code RJackRemap = told-still _
-  by-code RPcmInfo = table-still pcmBytes 32 (d .counts .streams) (d .pcms)
-  by-code RPcmSetParams = setting-still
-  by-code RPcmPrepare = command-still
-  by-code RPcmRelease = command-still
-  by-code RPcmStart = command-still
-  by-code RPcmStop = command-still
-  by-code RChmapInfo = table-still mapBytes 24 (d .counts .maps) (d .maps)
-
-  by-found : (f : FoundRequest) → Still d (answerFound f s d)
-  by-found (found.Is c) = by-code c
-  by-found found.InvalidParam = told-still _
-
-  control-still : Still d (outcomeOf s d)
-  unfolding outcomeOf
-  control-still = either (Still d) (leb 4 (length s)) (answerFound (requestBy (numAt 0 4 s)) s d) (bad d) (by-found (requestBy (numAt 0 4 s))) (told-still _)
-
   pub control-keeps : Kept d (outcomeOf s d .device)
-  control-keeps = control-still .kept
+  control-keeps =
+      let p = setParametersOf (read setParameters s) in
+      control-leaves (Kept d) s d (stays d)
+      (record { counts = refl; jacks = refl; pcms = refl; maps = refl; params = length-set (d .params) (p .stream) (record { known = 1; set = p }); played = refl })
 
   pub control-plays-nothing : outcomeOf s d .device .played ≡ d .played
-  control-plays-nothing = control-still .unplayed
+  control-plays-nothing = control-leaves (λ (e : Device). e .played ≡ d .played) s d refl refl
 
   pub transfer-keeps : Kept d (deviceAfter d s)
   transfer-keeps =
       let i = streamOf s in
-      either (Kept d) (plays d s) (playedBy d i (length s - 4)) d
+      transfer-leaves (Kept d) s d (stays d)
       (record { counts = refl; jacks = refl; pcms = refl; maps = refl; params = refl; played = length-set (d .played) i ((getD (d .played) i 0 + (length s - 4)) % 2 ^ 64) })
-      (stays d)
 
   pub transfer-sets-nothing : deviceAfter d s .params ≡ d .params
-  transfer-sets-nothing = either (λ (e : Device). e .params ≡ d .params) (plays d s) (playedBy d (streamOf s) (length s - 4)) d refl refl
+  transfer-sets-nothing = transfer-leaves (λ (e : Device). e .params ≡ d .params) s d refl refl

@@ -1,6 +1,8 @@
+-- definitions
 pub mod Device
 pub mod Control
 pub mod Transfer
+-- laws
 pub mod DeviceLaws
 pub mod PageLaws
 pub mod ControlLaws

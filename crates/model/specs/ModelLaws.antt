@@ -22,9 +22,8 @@ use Rattle.codes.specs.SaysLaws.{picks, passes}
 use Rattle.codes.specs.Requests.{requestCode}
 use Rattle.codes.specs.declared.requests.RequestCode.{RequestCode}
 use Rattle.codes.specs.declared.requests.RequestCode.the-variants.{RJackInfo, RPcmInfo, RPcmSetParams, RChmapInfo}
-use Rattle.records.specs.Records.{query, pcmCommand, setParameters, setParametersValues, jackInfo, jackInfoValues, pcmInfo, pcmInfoValues, channelMap, channelMapValues, transfer}
+use Rattle.records.specs.Records.{query, pcmCommand, setParameters, setParametersValues, jackInfo, jackInfoValues, pcmInfo, pcmInfoValues, channelMap, channelMapValues, transfer, jackInfoOf, pcmInfoOf, channelMapOf}
 use Rattle.records.specs.SliceLaws.{read-long}
-use Rattle.records.specs.BackLaws.{jackInfoOf, pcmInfoOf, channelMapOf}
 use Rattle.records.specs.declared.control.SetParameters.{SetParameters}
 use Rattle.model.specs.Device.{withinOf, nothing, streamOk, heldSays, paramsSays, playedSays}
 use Rattle.model.specs.Control.{ok, rangeOf, rowsIn, table, keptBy, commandOf, answerBy, outcomeOf, controlOf, pageAfter}

@@ -8,8 +8,7 @@ use lib.ListN.{length, getD, drop, set}
 use Rattle.layout.specs.Layout.{read, write}
 use Rattle.codes.specs.Says.{pick, guard}
 use Rattle.codes.specs.declared.answers.Refusal.the-variants.{InvalidParam, BadLength}
-use Rattle.records.specs.Records.{transfer, transferStatus, transferStatusValues}
-use Rattle.records.specs.BackLaws.{transferOf}
+use Rattle.records.specs.Records.{transfer, transferStatus, transferStatusValues, transferOf}
 use Rattle.model.specs.Device.{withinOf}
 use Rattle.model.specs.declared.device.Device.{Device}
 use Rattle.model.specs.declared.said.Control.the-variants.{Answer, Refused}

@@ -4,7 +4,8 @@ ghost use mathlib.Core.Path.{_≡_};
 ghost use Prim.Native.Nat.{_+_, _≤_};
 ghost use lib.ListN.{length};
 ghost use Rattle.model.specs.Device.{withinOf};
-ghost use Rattle.model.specs.Control.{jackBytes, pcmBytes, mapBytes, rangeOf, rowsIn, Laid, Gives, told, settingOf, commandOf, table, answerBy, outcomeOf, controlOf, pageAfter};
+ghost use Rattle.model.specs.Control.{rangeOf, rowsIn, Laid, Gives, told, settingOf, commandOf, table, answerBy, outcomeOf, controlOf, pageAfter};
+ghost use Rattle.records.specs.Records.{jackBytes, pcmBytes, mapBytes};
 use crate::device::Counts;
 use crate::device::Device;
 use crate::device::Held;
@@ -13,6 +14,7 @@ use crate::said::Control;
 use codes::FoundRequest;
 use codes::Refusal;
 use codes::RequestCode;
+use codes::StatusCode;
 use records::ChannelMap;
 use records::JackInfo;
 use records::PcmCommand;
@@ -21,7 +23,6 @@ use records::Query;
 use records::ReadQuery;
 use records::ReadSetParameters;
 use records::SetParameters;
-use records::TransferStatus;
 
 // An answer page.
 const PAGE: usize = 4096;
@@ -40,7 +41,7 @@ pub enum Range {
     Bad,
 }
 
-// An answer that is a status alone. The statuses are those of a transfer.
+// An answer that is a status alone.
 fn tell(d: Device, status: u32, page: &mut [u8]) -> Answered
     requires { ⌜ length (now page) ≡ 4096 ⌝ }
     ensures { λ r. ⌜ Gives (told d status) (now (page .entry)) r (now (page .exit)) ⌝ }
@@ -77,7 +78,7 @@ fn put_jacks(rows: [JackInfo; 170], start: usize, count: usize, page: &mut [u8])
     requires { ⌜ (start + count ≤ 170) × (length (now page) ≡ 4096) ⌝ }
     ensures { λ r. ⌜ Laid (rowsIn jackBytes start count rows) (now (page .entry)) r (now (page .exit)) ⌝ }
 {
-    layout::put_u32(page, 0, TransferStatus::OK);
+    layout::put_u32(page, 0, StatusCode::OK);
     let mut i = 0;
     while i < count {
         let at = HEADER + i * JackInfo::SIZE;
@@ -92,7 +93,7 @@ fn put_pcms(rows: [PcmInfo; 127], start: usize, count: usize, page: &mut [u8]) -
     requires { ⌜ (start + count ≤ 127) × (length (now page) ≡ 4096) ⌝ }
     ensures { λ r. ⌜ Laid (rowsIn pcmBytes start count rows) (now (page .entry)) r (now (page .exit)) ⌝ }
 {
-    layout::put_u32(page, 0, TransferStatus::OK);
+    layout::put_u32(page, 0, StatusCode::OK);
     let mut i = 0;
     while i < count {
         let at = HEADER + i * PcmInfo::SIZE;
@@ -107,7 +108,7 @@ fn put_maps(rows: [ChannelMap; 170], start: usize, count: usize, page: &mut [u8]
     requires { ⌜ (start + count ≤ 170) × (length (now page) ≡ 4096) ⌝ }
     ensures { λ r. ⌜ Laid (rowsIn mapBytes start count rows) (now (page .entry)) r (now (page .exit)) ⌝ }
 {
-    layout::put_u32(page, 0, TransferStatus::OK);
+    layout::put_u32(page, 0, StatusCode::OK);
     let mut i = 0;
     while i < count {
         let at = HEADER + i * ChannelMap::SIZE;
@@ -125,7 +126,7 @@ fn jacks(d: Device, request: &[u8], page: &mut [u8]) -> Answered
 {
     let counts = d.counts;
     let Range::Of(start, count) = asked(request, JackInfo::SIZE, counts.jacks) else {
-        return tell(d, TransferStatus::BAD_MSG, page);
+        return tell(d, StatusCode::BAD_MSG, page);
     };
     let rows = d.jacks;
     let n = put_jacks(rows, start, count, page);
@@ -141,7 +142,7 @@ fn pcms(d: Device, request: &[u8], page: &mut [u8]) -> Answered
 {
     let counts = d.counts;
     let Range::Of(start, count) = asked(request, PcmInfo::SIZE, counts.streams) else {
-        return tell(d, TransferStatus::BAD_MSG, page);
+        return tell(d, StatusCode::BAD_MSG, page);
     };
     let rows = d.pcms;
     let n = put_pcms(rows, start, count, page);
@@ -157,7 +158,7 @@ fn maps(d: Device, request: &[u8], page: &mut [u8]) -> Answered
 {
     let counts = d.counts;
     let Range::Of(start, count) = asked(request, ChannelMap::SIZE, counts.maps) else {
-        return tell(d, TransferStatus::BAD_MSG, page);
+        return tell(d, StatusCode::BAD_MSG, page);
     };
     let rows = d.maps;
     let n = put_maps(rows, start, count, page);
@@ -173,19 +174,19 @@ fn setting(d: Device, request: &[u8], page: &mut [u8]) -> Answered
     ensures { λ r. ⌜ Gives (settingOf (now (request .entry)) d) (now (page .entry)) r (now (page .exit)) ⌝ }
 {
     if request.len() != SetParameters::SIZE {
-        return tell(d, TransferStatus::BAD_MSG, page);
+        return tell(d, StatusCode::BAD_MSG, page);
     }
     let ReadSetParameters::Is(set) = SetParameters::read(request) else {
-        return tell(d, TransferStatus::BAD_MSG, page);
+        return tell(d, StatusCode::BAD_MSG, page);
     };
     let counts = d.counts;
     if counts.streams <= set.stream {
-        return tell(d, TransferStatus::BAD_MSG, page);
+        return tell(d, StatusCode::BAD_MSG, page);
     }
     let i = set.stream as usize;
     let mut after = d;
     after.params[i] = Held { known: 1, set };
-    tell(after, TransferStatus::OK, page)
+    tell(after, StatusCode::OK, page)
 }
 
 // The stream of a command is not tested.
@@ -194,9 +195,9 @@ fn command(d: Device, request: &[u8], page: &mut [u8]) -> Answered
     ensures { λ r. ⌜ Gives (commandOf (now (request .entry)) d) (now (page .entry)) r (now (page .exit)) ⌝ }
 {
     if request.len() == PcmCommand::SIZE {
-        return tell(d, TransferStatus::OK, page);
+        return tell(d, StatusCode::OK, page);
     }
-    tell(d, TransferStatus::BAD_MSG, page)
+    tell(d, StatusCode::BAD_MSG, page)
 }
 
 // The device has no remap.
@@ -206,7 +207,7 @@ fn answer(code: RequestCode, d: Device, request: &[u8], page: &mut [u8]) -> Answ
 {
     match code {
         RequestCode::RJackInfo => jacks(d, request, page),
-        RequestCode::RJackRemap => tell(d, TransferStatus::BAD_MSG, page),
+        RequestCode::RJackRemap => tell(d, StatusCode::BAD_MSG, page),
         RequestCode::RPcmInfo => pcms(d, request, page),
         RequestCode::RPcmSetParams => setting(d, request, page),
         RequestCode::RPcmPrepare => command(d, request, page),
@@ -223,10 +224,10 @@ fn outcome(d: Device, request: &[u8], page: &mut [u8]) -> Answered
     ensures { λ r. ⌜ Gives (outcomeOf (now (request .entry)) d) (now (page .entry)) r (now (page .exit)) ⌝ }
 {
     if request.len() < HEADER {
-        return tell(d, TransferStatus::BAD_MSG, page);
+        return tell(d, StatusCode::BAD_MSG, page);
     }
     let FoundRequest::Is(code) = RequestCode::from_code(layout::get_u32(request, 0)) else {
-        return tell(d, TransferStatus::BAD_MSG, page);
+        return tell(d, StatusCode::BAD_MSG, page);
     };
     answer(code, d, request, page)
 }

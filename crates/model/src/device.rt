@@ -43,7 +43,8 @@ pub enum Count {
     InvalidParam,
 }
 
-// A device with larger tables than a page holds is refused everywhere.
+// A device with larger tables than a page holds is refused, but for `payload`, which only shows a
+// part of the request.
 pub fn within(n: Counts) -> bool
     ensures { λ r. ⌜ r ≡ withinOf n ⌝ }
 {

@@ -10,6 +10,7 @@ use crate::device::Device;
 use crate::device::within;
 use crate::said::Control;
 use codes::Refusal;
+use codes::StatusCode;
 use records::Transfer;
 use records::TransferStatus;
 use std::num::wrapping_add_u64;
@@ -52,9 +53,9 @@ fn done(d: Device, request: &[u8], answer: &mut [u8]) -> Transferred
         let n = request.len() - Transfer::SIZE;
         let mut after = d;
         after.played[i] = wrapping_add_u64(d.played[i], n as u64);
-        return tell(after, TransferStatus::OK, answer);
+        return tell(after, StatusCode::OK, answer);
     }
-    tell(d, TransferStatus::BAD_MSG, answer)
+    tell(d, StatusCode::BAD_MSG, answer)
 }
 
 // One transfer, one status. The stream's count grows by the payload's length.

@@ -18,7 +18,6 @@ use records::PcmCommand;
 use records::PcmInfo;
 use records::Remap;
 use records::SetParameters;
-use records::TransferStatus;
 
 fn request_codes() {
     show::number(b"R_JACK_INFO", RequestCode::RJackInfo.code() as u64);
@@ -71,10 +70,10 @@ pub(crate) fn answers() {
     show::number(b"S_BAD_MSG", StatusCode::SBadMsg.code() as u64);
     show::number(b"S_NOT_SUPP", StatusCode::SNotSupp.code() as u64);
     show::number(b"S_IO_ERR", StatusCode::SIoErr.code() as u64);
-    show::number(b"S_OK", TransferStatus::OK as u64);
-    show::number(b"S_BAD_MSG", TransferStatus::BAD_MSG as u64);
-    show::number(b"S_NOT_SUPP", TransferStatus::NOT_SUPP as u64);
-    show::number(b"S_IO_ERR", TransferStatus::IO_ERR as u64);
+    show::number(b"S_OK", StatusCode::OK as u64);
+    show::number(b"S_BAD_MSG", StatusCode::BAD_MSG as u64);
+    show::number(b"S_NOT_SUPP", StatusCode::NOT_SUPP as u64);
+    show::number(b"S_IO_ERR", StatusCode::IO_ERR as u64);
     show::number(b"D_OUTPUT", direction::OUTPUT as u64);
     show::number(b"D_INPUT", direction::INPUT as u64);
 }
@@ -165,7 +164,7 @@ pub(crate) fn flags() {
     feature(b"PCM_F_EVT_XRUNS", PcmFeature::EvtXruns);
 }
 
-fn positions_to_9() {
+fn positions_to_8() {
     show::number(b"CHMAP_MAX_SIZE", ChannelMap::POSITIONS as u64);
     show::number(b"CHMAP_NONE", position::NONE as u64);
     show::number(b"CHMAP_NA", position::NA as u64);
@@ -191,7 +190,7 @@ fn positions_to_18() {
     show::number(b"CHMAP_FLH", position::FLH as u64);
 }
 
-fn positions_to_27() {
+fn positions_to_28() {
     show::number(b"CHMAP_FCH", position::FCH as u64);
     show::number(b"CHMAP_FRH", position::FRH as u64);
     show::number(b"CHMAP_TC", position::TC as u64);
@@ -216,8 +215,8 @@ fn positions_to_36() {
 }
 
 pub(crate) fn positions() {
-    positions_to_9();
+    positions_to_8();
     positions_to_18();
-    positions_to_27();
+    positions_to_28();
     positions_to_36();
 }

@@ -114,6 +114,10 @@ fn parameters_fields() {
         b"pcm_set_params.features",
         SetParameters { features: ALL, ..z },
     );
+    parameters_bytes(z);
+}
+
+fn parameters_bytes(z: SetParameters) {
     parameters(
         b"pcm_set_params.channels",
         SetParameters {

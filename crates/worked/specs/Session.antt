@@ -11,8 +11,7 @@ use borrow.Author.Tests.{eqb-true}
 use Rattle.layout.specs.Layout.{Fit}
 use Rattle.codes.specs.Says.{says}
 use Rattle.codes.specs.declared.answers.Answer.the-variants.{Ok}
-use Rattle.records.specs.Records.{setParameters, setParametersValues, jackInfo, jackInfoValues, pcmInfo, pcmInfoValues, channelMap, channelMapValues}
-use Rattle.records.specs.BackLaws.{jackInfoOf, pcmInfoOf, channelMapOf}
+use Rattle.records.specs.Records.{setParameters, setParametersValues, jackInfo, jackInfoValues, pcmInfo, pcmInfoValues, channelMap, channelMapValues, jackInfoOf, pcmInfoOf, channelMapOf}
 use Rattle.records.specs.declared.info.JackInfo.{JackInfo}
 use Rattle.records.specs.declared.info.PcmInfo.{PcmInfo}
 use Rattle.records.specs.declared.info.ChannelMap.{ChannelMap}

@@ -6,8 +6,7 @@ use mathlib.Core.List.{List, []}
 use Prim.Native.Nat.{ℕ, _≤_}
 use lib.ListN.{length}
 use Rattle.codes.specs.declared.requests.RequestCode.the-variants.{RJackInfo, RPcmInfo, RChmapInfo}
-use Rattle.records.specs.Records.{jackInfo, jackInfoValues, pcmInfo, pcmInfoValues, channelMap, channelMapValues}
-use Rattle.records.specs.BackLaws.{jackInfoOf, pcmInfoOf, channelMapOf}
+use Rattle.records.specs.Records.{jackInfo, jackInfoValues, pcmInfo, pcmInfoValues, channelMap, channelMapValues, jackInfoOf, pcmInfoOf, channelMapOf, jackBytes, pcmBytes, mapBytes}
 use Rattle.tables.specs.Tables.{jackAt, pcmAt, mapAt}
 use Rattle.tables.specs.declared.verdict.Verdict.the-variants.{Good}
 use Rattle.turns.specs.declared.ring.Track.{Track}
@@ -24,7 +23,7 @@ use Rattle.exchange.specs.declared.state.Sound.{Sound}
 use Rattle.exchange.specs.declared.plan.Request.{Request}
 use Rattle.exchange.specs.declared.plan.Effect.the-variants.{Nothing, FillJacks, FillStreams, FillMaps}
 use Rattle.exchange.specs.declared.plan.Plan.{Plan}
-use Rattle.model.specs.Control.{jackBytes, pcmBytes, mapBytes, rowsIn}
+use Rattle.model.specs.Control.{rowsIn}
 use Rattle.model.specs.DeviceLaws.{few-jacks, few-streams, few-maps}
 use Rattle.model.specs.ModelLaws.{jacks-answers, pcms-answers, maps-answers}
 use Rattle.model.specs.declared.device.Device.{Device}

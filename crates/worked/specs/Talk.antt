@@ -7,8 +7,7 @@ use mathlib.Core.List.{List, []}
 use Prim.Native.Nat.{ℕ, _≤_, _<_, _^_}
 use lib.ListN.{length, take, getD}
 use Rattle.layout.specs.Layout.{Fit}
-use Rattle.records.specs.Records.{jackInfo, jackInfoValues, pcmInfo, pcmInfoValues, channelMap, channelMapValues}
-use Rattle.records.specs.BackLaws.{jackInfoOf, pcmInfoOf, channelMapOf}
+use Rattle.records.specs.Records.{jackInfo, jackInfoValues, pcmInfo, pcmInfoValues, channelMap, channelMapValues, jackInfoOf, pcmInfoOf, channelMapOf}
 use Rattle.turns.specs.Calls.{idleOf}
 use Rattle.turns.specs.Consistent as ring
 use Rattle.turns.specs.declared.ring.Track.{Track}

@@ -1,7 +1,7 @@
 -- One exchange of a conversation, whatever is asked; and the query of a table, one law for all three.
 -- Assumes nothing.
 use mathlib.Core.Path.{_≡_, refl, sym, ap, _∙_}
-use mathlib.Core.Bool.{true}
+use mathlib.Core.Bool.{true, not}
 use mathlib.Core.List.{List, [], _∷_, _++_, append-nil, append-assoc}
 use Prim.Native.Nat.{ℕ, _+_, _*_, _≤_, _<_}
 use native.Mathlib.Omega.{arith}
@@ -27,6 +27,8 @@ use Rattle.turns.specs.Consistent as ring
 use Rattle.turns.specs.declared.ring.Track.{Track}
 use Rattle.exchange.specs.Consistent.{callOk, consistentOf}
 use Rattle.exchange.specs.ConsistentLaws.{both-of}
+use Rattle.exchange.specs.Feed.{paged}
+use Rattle.exchange.specs.PlanLaws.{long-verdict}
 use Rattle.exchange.specs.Plan.{queryOf, lookOf, isIdle, setUpOf, beginOf, answerBy, answerOf, verdictBy, pendingLook}
 use Rattle.exchange.specs.Exchange.{requestBytes, messageAfter, stepOf, callOf, feedOf}
 use Rattle.exchange.specs.declared.state.Call.{Call}
@@ -66,7 +68,7 @@ after p s d page m = record { driver = stepOf p s page; device = d; page = page;
 pub feeds : (s : Sound) (page : List ℕ) (n : ℕ) → length page ≡ 4096 → 24 ≤ n → consistentOf (s .core) ≡ true
     → feedOf s page n ≡ answerBy (s .core .stage) (s .core) (verdictBy (s .core .stage) (s .core .counts) page) (pendingLook (s .core .stage) s)
 unfolding feedOf answerOf
-feeds s page n l m e = sym (passes _ _ _ (both-of (eqb (length page) 4096) (leb 24 n) (eq-eqb _ _ l) (le-leb _ _ m)) (passes _ _ _ e refl))
+feeds s page n l m e = sym (passes _ _ _ (both-of (eqb (length page) 4096) (leb 24 n) (eq-eqb _ _ l) (le-leb _ _ m)) (passes _ _ _ (ap not (long-verdict s (paged page n) (both-of (eqb (length page) 4096) (leb 24 n) (eq-eqb _ _ l) (le-leb _ _ m)))) (passes _ _ _ e refl)))
 
 -- THE LAW OF AN EXCHANGE: the device answers with bytes b, and the driver goes on as it decides on the page that begins with them
 module _ (s : Sound) (q : Request) (l : StreamList) (d e : Device) (page m b : List ℕ) (w : withinOf (d .counts) ≡ true) (whole : length page ≡ 4096)

@@ -6,10 +6,10 @@ use crate::host::Host;
 use crate::show;
 use crate::transfer;
 use codes::Answer;
+use codes::StatusCode;
 use exchange::Sound;
 use records::Event;
 use records::Notice;
-use records::TransferStatus;
 
 // A driver that is set up against the small device.
 pub(crate) fn ready() -> Host {
@@ -55,7 +55,7 @@ fn streams_told() -> Host {
 // has so many.
 fn streams_fed() -> Host {
     let mut page = [0u8; 4096];
-    layout::put_u32(&mut page, 0, TransferStatus::OK);
+    layout::put_u32(&mut page, 0, StatusCode::OK);
     let h = host::new(Sound::new(0, 128, 0), device::streams(0));
     let asked = host::carry(calls::output_streams(h));
     let mut message = [0u8; 24];

@@ -2,12 +2,12 @@
 use crate::host;
 use crate::host::Host;
 use crate::show;
+use codes::StatusCode;
 use exchange::XferReply;
 use exchange::XferStep;
 use model::Device;
 use model::Transferred;
 use records::Transfer;
-use records::TransferStatus;
 use std::num::wrapping_add_u64;
 use turns::Carried;
 use turns::Heard;
@@ -149,7 +149,7 @@ fn in_words(h: Host, mark: u8) -> Words {
     if mark < b'a' {
         return quiet();
     }
-    completed((mark - b'a') as u32, TransferStatus::IO_ERR)
+    completed((mark - b'a') as u32, StatusCode::IO_ERR)
 }
 
 fn advance(lent: bool, ring: Ring, frames: &[u8], w: Words) -> Turned {
@@ -165,7 +165,7 @@ fn accepted(before: u64, ring: Ring, heard: Heard) -> u64 {
     let Heard::Freed { slot, status } = heard else {
         return before;
     };
-    if status != TransferStatus::OK {
+    if status != StatusCode::OK {
         return before;
     }
     let carried = ring.carried(slot);

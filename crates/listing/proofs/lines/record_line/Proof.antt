@@ -4,8 +4,7 @@ use Prim.Native.Nat.{_≤_, _+_, _*_}
 use native.Mathlib.Omega.{arith}
 use lib.ListN.{length}
 use borrow.Author.Needs.{needs}
-use Rattle.records.specs.BackLaws.{pcmInfoOf}
-use Rattle.records.specs.Records.{pcmInfo, saysPcmInfo}
+use Rattle.records.specs.Records.{pcmInfo, saysPcmInfo, pcmInfoOf}
 use Rattle.tables.specs.Tables.{pcmAt}
 use Rattle.tables.specs.TablesLaws.{row-is, row-never}
 use Rattle.listing.specs.Listing.{streamLine}

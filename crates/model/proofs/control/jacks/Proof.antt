@@ -3,7 +3,7 @@ use mathlib.Core.Path.{sym, ap, _∙_}
 use Prim.Native.Nat.{ℕ}
 use native.Mathlib.Omega.{arith}
 use borrow.Author.Needs.{needs}
-use Rattle.model.specs.Control.{jackBytes}
+use Rattle.records.specs.Records.{jackBytes}
 use Rattle.model.specs.ControlLaws.{gives, range-fits, table-bad, table-rows}
 use Rattle.model.specs.declared.said.Control.the-variants.{Answer}
 use Rattle.model.proofs.control.jacks.Statement.{statement}

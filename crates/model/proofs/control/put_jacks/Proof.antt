@@ -6,8 +6,7 @@ use borrow.Author.Needs.{needs}
 use lib.ListN.{length, take, drop}
 use lib.Seq.{sets}
 use Rattle.layout.specs.Rows.{rowsBytes}
-use Rattle.records.specs.Records.{jackInfo, jackInfoValues}
-use Rattle.model.specs.Control.{jackBytes}
+use Rattle.records.specs.Records.{jackInfo, jackInfoValues, jackBytes}
 use Rattle.model.specs.PageLaws.{row-more, rows-laid}
 use Rattle.model.proofs.control.put_jacks.Statement.{statement}
 use Rattle.model.proofs.control.put_jacks.Tie as tie

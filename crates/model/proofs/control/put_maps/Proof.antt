@@ -6,8 +6,7 @@ use borrow.Author.Needs.{needs}
 use lib.ListN.{length, take, drop}
 use lib.Seq.{sets}
 use Rattle.layout.specs.Rows.{rowsBytes}
-use Rattle.records.specs.Records.{channelMap, channelMapValues}
-use Rattle.model.specs.Control.{mapBytes}
+use Rattle.records.specs.Records.{channelMap, channelMapValues, mapBytes}
 use Rattle.model.specs.PageLaws.{row-more, rows-laid}
 use Rattle.model.proofs.control.put_maps.Statement.{statement}
 use Rattle.model.proofs.control.put_maps.Tie as tie

@@ -6,8 +6,7 @@ use borrow.Author.Needs.{needs}
 use lib.ListN.{length, take, drop}
 use lib.Seq.{sets}
 use Rattle.layout.specs.Rows.{rowsBytes}
-use Rattle.records.specs.Records.{pcmInfo, pcmInfoValues}
-use Rattle.model.specs.Control.{pcmBytes}
+use Rattle.records.specs.Records.{pcmInfo, pcmInfoValues, pcmBytes}
 use Rattle.model.specs.PageLaws.{row-more, rows-laid}
 use Rattle.model.proofs.control.put_pcms.Statement.{statement}
 use Rattle.model.proofs.control.put_pcms.Tie as tie

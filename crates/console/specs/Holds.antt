@@ -1,0 +1,77 @@
+-- The start of a transfer through the C entry: the two stores, read again, hold the state and the ring of the start by value.
+-- Assumes nothing.
+use mathlib.Core.Path.{_≡_, refl, sym, ap, _∙_, subst}
+use mathlib.Core.Bool.{Bool, true, false}
+use mathlib.Core.List.{List}
+use Prim.Native.Nat.{ℕ, _+_, _*_, _<_, _≤_, _^_}
+use native.Mathlib.Omega.{arith}
+use lib.Dec.{lit<, leb}
+use lib.ListN.{length}
+use borrow.Author.Tests.{le-leb, leb-true, leb-false}
+use Rattle.layout.specs.Bytes.{Bytes}
+use Rattle.layout.specs.BytesLaws.{numAt-below}
+use Rattle.codes.specs.SaysLaws.{passes}
+use Rattle.turns.specs.Calls.{startCall, startedOf}
+use Rattle.exchange.specs.State.{paramsOf}
+use Rattle.exchange.specs.ConsistentLaws.{both-of}
+use Rattle.exchange.specs.Xfer.{startStep, startOf}
+use Rattle.exchange.specs.XferLaws.{start-by}
+use Rattle.exchange.specs.declared.state.Params.{Params}
+use Rattle.exchange.specs.declared.xfer.XferStep.{XferStep}
+use Rattle.ring_store.specs.Store.{trackAt, ringOf}
+use Rattle.ring_store.specs.Calls.{Left, leftBy, startIn}
+use Rattle.ring_store.specs.Holds.{start-holds}
+use Rattle.state_store.specs.Store.{paramsAt, soundOf}
+use Rattle.state_store.specs.Calls.{openIn}
+use Rattle.state_store.specs.PlaceLaws.{params-in, params-out}
+use Rattle.state_store.specs.Holds.{open-holds}
+use Rattle.state_store.specs.declared.calls.Opening.{Opening}
+use Rattle.state_store.specs.declared.calls.Opening.the-variants as opening
+use Rattle.console.specs.Entries.{Begun, begun, startEntry}
+use Rattle.console.specs.EntryLaws.{startOpening, start-is}
+
+-- a period that a store holds fits 4 bytes
+period-below : (s : List ℕ) (i : ℕ) → Bytes s → paramsOf (soundOf s) i .period < 256 ^ 4
+unfolding paramsAt
+period-below s i b = by (leb 127 i) refl
+  where
+    by : (t : Bool) → leb 127 i ≡ t → paramsOf (soundOf s) i .period < 256 ^ 4
+    by true e = subst (λ (p : Params). p .period < 256 ^ 4) (sym (params-out s i (leb-true 127 i e))) (lit< tt)
+    by false e =
+        subst (λ (p : Params). p .period < 256 ^ 4) (params-in s i (paramsAt (12272 + i * 16) s) (omega (arith, leb-false 127 i e)) refl) (numAt-below (12272 + i * 16 + 8) 4 s b)
+
+module _ (s ring m : List ℕ) (b : Bytes s) (c : Bytes ring) (h : 14304 ≤ length s) (k : 592 ≤ length ring) (stream len budget : ℕ) where
+  -- the stores are long enough
+  entry-is : startEntry s ring stream len budget m ≡ begun s ring stream m (startOf (soundOf s) (ringOf ring) stream len budget (length m))
+  unfolding startEntry
+  entry-is = sym (passes _ _ _ (both-of (leb 14304 (length s)) (leb 592 (length ring)) (le-leb 14304 (length s) h) (le-leb 592 (length ring) k)) refl)
+
+  abbrev Holds : XferStep → Type 0
+  Holds x = ringOf (begun s ring stream m x .ring) ≡ x .ring
+
+  module _ (p : stream < 256 ^ 4) (q : len < 256 ^ 8) (r : budget < 256 ^ 8) where
+    -- where a transfer begins, the ring's own start
+    goes : Holds (startStep (soundOf s) (ringOf ring) (startedOf (ringOf ring) (startCall (ringOf ring .track) stream len (paramsOf (soundOf s) stream .period) budget)))
+    unfolding ringOf startIn
+    goes =
+        let period = paramsOf (soundOf s) stream .period in
+        let below : period < 256 ^ 8 = omega (arith, period-below s stream b) in
+        let own : leftBy ring (startedOf (ringOf ring) (startCall (trackAt ring) stream len period budget)) ≡ startIn ring stream len period budget = passes _ _ _ (le-leb 592 (length ring) k) refl in
+        ap (λ (l : Left). ringOf (l .ring)) own ∙ start-holds ring stream len period budget c k p q below r
+
+    -- THE RING THAT THE ENTRY LEAVES IN ITS STORE is the one that the start by value leaves
+    pub start-entry-holds : ringOf (startEntry s ring stream len budget m .ring) ≡ startOf (soundOf s) (ringOf ring) stream len budget (length m) .ring
+    start-entry-holds = ap (λ (x : Begun). ringOf (x .ring)) entry-is ∙ start-by Holds (soundOf s) (ringOf ring) stream len budget (length m) (λ _. refl) (λ _ _ _. refl) goes
+
+  -- THE STATE likewise
+  opening-state : (o : Opening) (st after : List ℕ) → startOpening s ring stream len budget o st after .state ≡ st
+  opening-state (opening.Says n) st after = refl
+  opening-state (opening.Open period) st after = refl
+
+  pub start-entry-state-holds : stream < 256 ^ 4 → soundOf (startEntry s ring stream len budget m .state) ≡ startOf (soundOf s) (ringOf ring) stream len budget (length m) .sound
+  unfolding ringOf
+  start-entry-state-holds p =
+      let o = openIn s (trackAt ring) stream m in
+      ap (λ (x : Begun). soundOf (x .state)) (sym (start-is s ring stream len budget m b (le-leb 592 (length ring) k)))
+      ∙ ap soundOf (opening-state (o .opening) (o .state) (o .message))
+      ∙ open-holds s m b h (ringOf ring) stream p len budget
