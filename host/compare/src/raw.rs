@@ -100,18 +100,6 @@ fn enter<E: Entries>(e: &mut E, op: &Op) -> Left {
     Left { number, message, result, other }
 }
 
-/// Left open: what stands behind "not there" in the result's own bytes.
-fn settle(what: &What, left: &mut Left) {
-    let extent = match what {
-        What::Offered { .. } | What::ModelParams(_) => 32,
-        What::Read(Asked::Oldest) => 16,
-        _ => return,
-    };
-    if left.number == 0 && left.result[..8] == [0; 8] {
-        left.result[8..extent].fill(0);
-    }
-}
-
 /// An answer by which the entry must have left its stores as they were, given whether an exchange was open.
 fn keeps(what: &What, number: u64, left: &Left, open: bool) -> bool {
     match what {
@@ -176,8 +164,8 @@ impl Pair {
     pub fn step(&mut self, op: &Op) -> Result<(), String> {
         let (before, open) = (self.port.clone(), self.rules.sound.open.is_some());
         let rules_before = self.rules.clone();
-        let mut port = enter(&mut self.port, op);
-        let mut rules = enter(&mut self.rules, op);
+        let port = enter(&mut self.port, op);
+        let rules = enter(&mut self.rules, op);
         if let Some(wrong) = stores(&op.what, &port, open, &before, &self.port) {
             return Err(format!("{op:?}\n  port: {wrong}"));
         }
@@ -185,8 +173,6 @@ impl Pair {
         if keeps(&op.what, rules.number, &rules, open) && !unchanged {
             return Err(format!("{op:?}\n  rules: the state changed with answer {}", rules.number));
         }
-        settle(&op.what, &mut port);
-        settle(&op.what, &mut rules);
         if port != rules {
             return Err(format!("{op:?}\n  port  {}\n  rules {}", left_text(&port), left_text(&rules)));
         }

@@ -68,11 +68,11 @@ fn log_digest(seen: &Seen) -> u64 {
 const HEAD: &str = "\
 # What the Rust driver itself did, case by case, as run by `compare --record` over its text; `compare --replay` holds the port to it
 # with no text at hand, and `compare --check` fails where recording again gives other bytes. Made of the short cases named in
-# src/record.rs and of random ones from the seeds below. The form of a case stands in src/text.rs. Beneath a case, one line a step:
+# src/record.rs and of random ones from the seeds named there. The form of a case stands in src/text.rs. Beneath a case, one line a step:
 # what the Rust did, `-` where it has no counterpart or is not asked (outside document 01's domain), `!` where it differs as intended.
 ";
 
-/// Random cases that are recorded: seeds 0 to this.
+/// Random cases that are recorded: the seeds below this.
 const SEEDS: u64 = 120;
 /// Of the short cases of a group every so many-th is recorded.
 const SHORT: [(&str, usize); 12] = [

@@ -1,4 +1,4 @@
-//! Calls every function of the crate `snd`, on anything at all. A panic would call a function that is nowhere defined, so the test that builds
+//! Calls every call, feed, turn and read of the crate `snd`, and of its model device, on anything at all. A panic would call a function that is nowhere defined, so the test that builds
 //! this only has to look whether that function is asked for.
 #![no_std]
 use snd::{

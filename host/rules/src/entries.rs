@@ -205,7 +205,7 @@ pub fn model_params(model: Store<&Model>, stream: u32, result: &mut [u8]) -> Ans
     lengths(model.len >= MODEL_SIZE && result.len() >= RESULT_SIZE)?;
     match model.known()?.params.get(stream as usize) {
         None => return Err(INVALID_PARAM as u64),
-        Some(None) => result[..32].fill(0),
+        Some(None) => put(result, &[0]),
         Some(Some(all)) => {
             put(result, &[1]);
             result[8..32].copy_from_slice(all);

@@ -5,7 +5,7 @@ use crate::wire::{self, u32_at, u64_at};
 use crate::*;
 use std::collections::BTreeMap;
 
-/// The seven values of a stream.
+/// The values set for a stream.
 #[derive(Copy, Clone, Debug, PartialEq, Eq)]
 pub struct Params {
     pub buffer: u32,

@@ -45,7 +45,10 @@ fn drain(ring: &mut Ring, queues: &mut impl Queues, turns: u64) -> Result<bool, 
         if ring.in_flight()? == 0 {
             return Ok(true);
         }
-        ring.drain_turn(queues.poll())?;
+        match ring.drain_turn(queues.poll()) {
+            Ok(()) | Err(Refusal::WrongToken) => {} // a wrong slot frees none
+            Err(other) => return Err(other),
+        }
     }
     Ok(ring.in_flight()? == 0)
 }

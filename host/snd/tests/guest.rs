@@ -1,4 +1,4 @@
-//! The crate needs no operating system and has no panic in it: a guest that calls every function, built as one unit, asks for no panic.
+//! The crate needs no operating system and has no panic in it: a guest that makes every call, feed, turn and read, built as one unit, asks for no panic.
 use std::path::Path;
 use std::process::Command;
 
