@@ -1,9 +1,10 @@
 -- The calls on a store, by what their code does.
 -- Assumes nothing.
 use mathlib.Core.Path.{_≡_, refl, ap, _∙_}
+use mathlib.Core.Bool.{Bool, true, false, not, _||_}
 use mathlib.Core.List.{List}
 use Prim.Native.Nat.{ℕ, _≤_, _<_}
-use lib.Dec.{leb}
+use lib.Dec.{leb, eqb}
 use lib.ListN.{length}
 use lib.Seq.{sets}
 use borrow.Author.Tests.{le-leb, lt-leb}
@@ -11,7 +12,11 @@ use Rattle.layout.specs.Bytes.{Bytes}
 use Rattle.codes.specs.Says.{pick, guard}
 use Rattle.codes.specs.SaysLaws.{passes, stops}
 use Rattle.turns.specs.Ring.{newTrack, newRing, saysSaid}
-use Rattle.turns.specs.Calls.{ringAfter, turnedOf}
+use Rattle.turns.specs.Calls.{refusedOf, turnCall, ringAfter, turnedOf}
+use Rattle.turns.specs.Rules.{turnOf, countedOf}
+use Rattle.turns.specs.Consistent.{consistentOf}
+use Rattle.turns.specs.declared.reading.Reading.{Reading}
+use Rattle.codes.specs.declared.answers.Refusal.the-variants.{InvalidParam}
 use Rattle.turns.specs.declared.ring.Track.{Track}
 use Rattle.turns.specs.declared.ring.Step.{Step}
 use Rattle.turns.specs.declared.ring.Said.{Said}
@@ -53,6 +58,16 @@ pub stepped : (s : List ℕ) (x y : Step) (n : ℕ) (l : List ℕ) → Bytes s �
 stepped s x y n l b h e p =
     let q = long s (leftBy s (turnedOf (ringOf s) y)) h in
     (p .0 ∙ ap (λ (z : Step). saysSaid (z .said) .number) e ∙ q .0, p .1 ∙ step-over s x b ∙ ap (λ (z : Step). leftBy s (turnedOf (ringOf s) z) .ring) e ∙ q .1)
+
+-- where no transfer runs a turn is refused, whatever else holds
+same-ends : {A : Type 0} (b c : Bool) (x r : A) → c ≡ false → r ≡ guard b (guard c x r) r
+same-ends true c x r e = passes true _ _ refl (stops c x r e refl)
+same-ends false c x r e = stops false _ _ refl refl
+
+pub turn-idle : (t : Track) (len : ℕ) (reading : Reading) → t .running ≡ false → refusedOf InvalidParam t ≡ turnCall 3 t len reading
+unfolding turnCall
+turn-idle t len reading e =
+    passes _ _ _ (ap (λ (b : Bool). not b || eqb len (t .total)) e) (same-ends (consistentOf t) (t .running) (countedOf (turnOf 3 t reading)) (refusedOf InvalidParam t) e)
 
 pub made : (s : List ℕ) (t : Track) (l : List ℕ) → 592 ≤ length s → t ≡ newTrack 3 → l ≡ blankOver (sets s 0 (trackBytes t)) → Is 0 l (newIn s)
 made s t l h e p =

@@ -19,6 +19,9 @@ pub(crate) const BAD_LENGTH: u64 = 10;
 // What a turn says that goes on.
 const GOING: u64 = 512;
 
+// What a turn says where no transfer runs.
+const INVALID_PARAM: u64 = 1;
+
 fn number(said: Said) -> u64
     ensures { λ r. ⌜ r ≡ saysSaid said .number ⌝ }
 {
@@ -78,6 +81,9 @@ pub fn turn(ring: &mut [u8], len: usize, kind: u32, slot: u32, status: u32) -> u
         return BAD_LENGTH;
     }
     let t = store::get_track(ring);
+    if !t.running {
+        return INVALID_PARAM;
+    }
     let reading = Reading::from_words(kind, slot, status);
     let step = turns::turn_track(t, len, reading);
     leave(ring, step)

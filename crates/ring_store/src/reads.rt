@@ -104,7 +104,10 @@ fn tell_sent(ring: &[u8], sent: Sent, result: &mut [u8]) -> u64
 pub fn offered(ring: &[u8], len: usize, result: &mut [u8]) -> u64
     ensures { λ r. ⌜ (r ≡ offerIn (now (ring .entry)) len (now (result .entry)) .answer) × (now (result .exit) ≡ offerIn (now (ring .entry)) len (now (result .entry)) .result) ⌝ }
 {
-    let t = store::track(ring);
+    if !roomy(ring, result) {
+        return BAD_LENGTH;
+    }
+    let t = store::get_track(ring);
     let offer = turns::offer_track(t, len);
     match offer {
         Offer::Is(sent) => tell_sent(ring, sent, result),
@@ -167,7 +170,8 @@ fn is_slot(ring: &[u8], slot: usize) -> bool
     if 32 <= slot {
         return false;
     }
-    let t = store::track(ring);
+    // a second call of the long form keeps it out of line, and `track` small enough to be inlined
+    let t = store::short_track(ring);
     turns::is_consistent(t)
 }
 

@@ -121,8 +121,8 @@ fn track_of(
     }
 }
 
-// The track that a store holds; bytes past the end of a short one are 0.
-pub fn track(ring: &[u8]) -> Track
+// The track of a store that may be short: bytes past its end are 0.
+pub(crate) fn short_track(ring: &[u8]) -> Track
     ensures { λ r. ⌜ r ≡ trackAt (now (ring .entry)) ⌝ }
 {
     track_of(
@@ -160,6 +160,16 @@ pub(crate) fn get_track(ring: &[u8]) -> Track
     )
 }
 
+// The track that a store holds; bytes past the end of a short one are 0. Its length is tested once.
+pub fn track(ring: &[u8]) -> Track
+    ensures { λ r. ⌜ r ≡ trackAt (now (ring .entry)) ⌝ }
+{
+    if ring.len() < SIZE {
+        return short_track(ring);
+    }
+    get_track(ring)
+}
+
 // A track written over a store's.
 pub(crate) fn put_track(ring: &mut [u8], t: Track)
     requires { ⌜ 592 ≤ length (now ring) ⌝ }
@@ -181,18 +191,20 @@ pub(crate) fn put_track(ring: &mut [u8], t: Track)
 
 // A slot written over a store's. There are 32: no other is stored.
 fn put_slot(ring: &mut [u8], slot: usize, carried: Slot)
+    requires { ⌜ 592 ≤ length (now ring) ⌝ }
     ensures { λ _. ⌜ now (ring .exit) ≡ slotOver (now (ring .entry)) slot carried ⌝ }
 {
     if SLOTS <= slot {
         return;
     }
     let at = TRACK + slot * SLOT;
-    layout::put_u64(ring, at, carried.offset as u64);
-    layout::put_u64(ring, at + 8, carried.len as u64);
+    put_word(ring, at, carried.offset as u64);
+    put_word(ring, at + 8, carried.len as u64);
 }
 
 // What a turn submitted, written in its slot.
 pub(crate) fn put_sent(ring: &mut [u8], sent: Sent)
+    requires { ⌜ 592 ≤ length (now ring) ⌝ }
     ensures { λ _. ⌜ now (ring .exit) ≡ sentOver (now (ring .entry)) sent ⌝ }
 {
     match sent {
@@ -203,6 +215,7 @@ pub(crate) fn put_sent(ring: &mut [u8], sent: Sent)
 
 // Every slot blank.
 pub(crate) fn put_blanks(ring: &mut [u8])
+    requires { ⌜ 592 ≤ length (now ring) ⌝ }
     ensures { λ _. ⌜ now (ring .exit) ≡ blankOver (now (ring .entry)) ⌝ }
 {
     let mut i = 0;

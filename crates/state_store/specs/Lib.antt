@@ -4,11 +4,13 @@ pub mod Store
 pub mod Calls
 pub mod Effect
 pub mod Steps
+pub mod FlatTests
 -- theorems
 pub mod Holds
 -- laws
 pub mod HeadLaws
 pub mod FlatLaws
+pub mod FlatTestLaws
 pub mod TableLaws
 pub mod OverLaws
 pub mod PlaceLaws

@@ -1,12 +1,15 @@
 -- The start of a transfer goes by what its checks come to: a refusal, set-up first, or a transfer by periods.
 -- Assumes nothing.
 use mathlib.Core.Path.{_≡_, refl, sym, ap, _∙_, subst}
-use mathlib.Core.Bool.{Bool, _&&_}
+use mathlib.Core.Bool.{Bool, true, false, _&&_}
 use mathlib.Core.List.{List}
 use Prim.Native.Nat.{ℕ, _≤_}
+use native.Mathlib.Omega.{arith}
 use lib.Dec.{leb}
 use lib.ListN.{length}
 use borrow.Author.Tests.{leb-true}
+use Rattle.codes.specs.SaysLaws.{stops}
+use Rattle.codes.specs.declared.answers.Refusal.the-variants.{BadLength}
 use Rattle.turns.specs.ConsistentLaws.{both}
 use Rattle.turns.specs.declared.ring.Track.{Track}
 use Rattle.exchange.specs.State.{paramsOf}
@@ -31,6 +34,13 @@ module _ (s m : List ℕ) (t : Track) (stream : ℕ) where
 
   pub gated : {b : Bool} {c : Core} {p : Params} {g : Gate} → b ≡ long → c ≡ coreOf (headAt s) → p ≡ paramsOf (soundOf s) stream → g ≡ gateBy b c p t stream Shut SetUp gate.Open → g ≡ gateIn
   gated b c p g = g ∙ (λ i. gateBy (b i) ((c ∙ sym (core-at s)) i) (p i) t stream Shut SetUp gate.Open)
+
+  -- where they are not, the gate is shut
+  pub shut-short : long ≡ false → Shut BadLength ≡ gateIn
+  shut-short e = stops _ _ _ e refl
+
+  pub long-head : long ≡ true → 48 ≤ length s
+  long-head e = omega (arith, leb-true 14304 (length s) (both (leb 14304 (length s)) (leb 24 (length m)) e .0))
 
   -- set-up is begun only where the lengths are right
   pub set-up-long : SetUp ≡ gateIn → (14304 ≤ length s) × (24 ≤ length m)

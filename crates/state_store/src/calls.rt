@@ -1,15 +1,17 @@
 // The calls on a state in a byte store: the call by value on the state that the store holds, with
 // what it leaves written over it. Only what changes is written.
 ghost use mathlib.Core.Path.{_≡_};
+ghost use mathlib.Core.List.{[]};
 ghost use Prim.Native.Nat.{_≤_};
 ghost use lib.ListN.{length};
 ghost use Rattle.exchange.specs.Exchange.{saysReply};
+ghost use Rattle.exchange.specs.declared.plan.Effect.the-variants.{Nothing};
 ghost use Rattle.state_store.specs.Calls.{left, callIn, feedIn, failIn, opened, openIn};
 ghost use Rattle.state_store.specs.Steps.{changed, finished, settingUpBy};
 use crate::effect::apply;
 use crate::flat::both;
 use crate::flat::is_whole;
-use crate::head::core_of;
+use crate::head::core_by;
 use crate::head::get_head;
 use crate::head::put_core;
 use crate::place::look;
@@ -76,6 +78,17 @@ fn change(state: &mut [u8], whole: bool, effect: Effect, core: Core, page: &[u8]
     apply(&mut *state, effect, core.counts, page);
 }
 
+// The new core alone.
+fn change_core(state: &mut [u8], whole: bool, core: Core)
+    requires { ⌜ 14304 ≤ length (now state) ⌝ }
+    ensures { λ _. ⌜ now (state .exit) ≡ changed whole (now (state .entry)) Nothing core [] ⌝ }
+{
+    if !whole {
+        return;
+    }
+    put_core(&mut *state, core);
+}
+
 // The result is put first: it lists the table that the state had.
 fn finish(
     state: &mut [u8],
@@ -109,9 +122,10 @@ pub fn call(state: &mut [u8], t: Track, asked: Call, message: &mut [u8], result:
         return 10;
     }
     let h = get_head(&state[..]);
+    let whole = is_whole(h.flat);
     let found = look(&state[..], asked);
-    let plan = exchange::begin(core_of(h), t, asked, found);
-    finish(state, is_whole(h.flat), plan, &[], message, result)
+    let plan = exchange::begin(core_by(whole, h), t, asked, found);
+    finish(state, whole, plan, &[], message, result)
 }
 
 // The answer page to the request that is out.
@@ -125,12 +139,13 @@ pub fn feed(state: &mut [u8], page: &[u8], message: &mut [u8], result: &mut [u8]
         return 10;
     }
     let h = get_head(&state[..]);
-    let c = core_of(h);
+    let whole = is_whole(h.flat);
+    let c = core_by(whole, h);
     let stage = c.stage;
     let verdict = verdict_by(stage, c.counts, page);
     let found = pending_look(&state[..], stage);
     let plan = exchange::answer(c, verdict, found);
-    finish(state, is_whole(h.flat), plan, page, message, result)
+    finish(state, whole, plan, page, message, result)
 }
 
 // The queue reports that the request that is out has failed: there is no page.
@@ -144,11 +159,12 @@ pub fn feed_failure(state: &mut [u8], message: &mut [u8], result: &mut [u8]) -> 
         return 10;
     }
     let h = get_head(&state[..]);
-    let c = core_of(h);
+    let whole = is_whole(h.flat);
+    let c = core_by(whole, h);
     let stage = c.stage;
     let found = pending_look(&state[..], stage);
     let plan = exchange::answer(c, Verdict::Failed, found);
-    finish(state, is_whole(h.flat), plan, &[], message, result)
+    finish(state, whole, plan, &[], message, result)
 }
 
 // The transfer waits for set-up, and its first query goes out.
@@ -159,7 +175,7 @@ fn set_up(state: &mut [u8], whole: bool, c: Core, stream: u32, message: &mut [u8
     let plan = ask_jacks(c, Call::Xfer { stream });
     let core = plan.core;
     let say = plan.say;
-    change(&mut *state, whole, Effect::Nothing, core, &[]);
+    change_core(&mut *state, whole, core);
     tell(say, &mut *message);
     Opening::Says(272)
 }
@@ -168,11 +184,14 @@ fn set_up(state: &mut [u8], whole: bool, c: Core, stream: u32, message: &mut [u8
 pub fn open(state: &mut [u8], t: Track, stream: u32, message: &mut [u8]) -> Opening
     ensures { λ r. ⌜ opened r (now (state .exit)) (now (message .exit)) ≡ openIn (now (state .entry)) t stream (now (message .entry)) ⌝ }
 {
-    let h = get_head(&state[..]);
-    let c = core_of(h);
-    let whole = is_whole(h.flat);
-    let params = params_at(&state[..], stream);
     let lengths = both(SIZE <= state.len(), MESSAGE <= message.len());
+    if !lengths {
+        return Opening::Says(10);
+    }
+    let h = get_head(&state[..]);
+    let whole = is_whole(h.flat);
+    let c = core_by(whole, h);
+    let params = params_at(&state[..], stream);
     let gate = xfer_gate(lengths, c, params, t, stream);
     match gate {
         Gate::Shut(refusal) => Opening::Says(refusal.number() as u64),

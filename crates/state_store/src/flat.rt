@@ -2,7 +2,8 @@
 ghost use mathlib.Core.Path.{_≡_};
 ghost use mathlib.Core.Bool.{_&&_};
 ghost use Rattle.codes.specs.Says.{pick};
-ghost use Rattle.state_store.specs.Flat.{kindNumber, fieldNumber, numbered, setFlat, callFlat, staged, flatOf, kindOf, flatField, flatParams, flatCall, flatStage, sameFlat, wholeFlat};
+ghost use Rattle.state_store.specs.Flat.{kindNumber, fieldNumber, numbered, setFlat, callFlat, staged, flatOf, kindOf, flatField, flatParams, flatCall, flatStage, wholeFlat};
+ghost use Rattle.state_store.specs.FlatTests.{plainOf, shortOf, sameCall};
 use exchange::Call;
 use exchange::Counts;
 use exchange::Field;
@@ -225,10 +226,10 @@ pub(crate) fn stage_of(f: Flat) -> Stage
     ensures { λ r. ⌜ r ≡ flatStage f ⌝ }
 {
     let n = f.stage;
-    let call = call_of(f);
     if n == 0 {
         return Stage::Idle;
     }
+    let call = call_of(f);
     if n == 1 {
         return Stage::JacksAsked(call);
     }
@@ -249,20 +250,54 @@ pub(crate) fn both(a: bool, b: bool) -> bool
     if a { b } else { false }
 }
 
-fn same_flat(f: Flat, g: Flat) -> bool
-    ensures { λ r. ⌜ r ≡ sameFlat f g ⌝ }
+// The fields that only parameters use are 0.
+fn is_plain(f: Flat) -> bool
+    ensures { λ r. ⌜ r ≡ plainOf f ⌝ }
 {
-    let t = both(f.format == g.format, f.rate == g.rate);
-    let t = both(f.channels == g.channels, t);
-    let t = both(f.known == g.known, t);
-    let t = both(f.third == g.third, t);
-    let t = both(f.second == g.second, t);
-    let t = both(f.first == g.first, t);
-    let t = both(f.id == g.id, t);
-    let t = both(f.part == g.part, t);
-    let t = both(f.call == g.call, t);
-    let t = both(f.stage == g.stage, t);
-    both(f.ready == g.ready, t)
+    let t = both(f.format == 0, f.rate == 0);
+    let t = both(f.channels == 0, t);
+    let t = both(f.known == 0, t);
+    both(f.third == 0, t)
+}
+
+// So are the two before them.
+fn is_short(f: Flat) -> bool
+    ensures { λ r. ⌜ r ≡ shortOf f ⌝ }
+{
+    both(f.first == 0, both(f.second == 0, is_plain(f)))
+}
+
+// The fields of a call: its number is one of six, and what it has no use for is 0.
+fn is_call(f: Flat) -> bool
+    ensures { λ r. ⌜ r ≡ sameCall f (callFlat (flatCall f)) ⌝ }
+{
+    let n = f.call;
+    if n == 1 {
+        return f.part == 0;
+    }
+    if n == 2 {
+        return both(f.part <= 3, is_short(f));
+    }
+    if n == 3 {
+        return both(f.part == 0, is_plain(f));
+    }
+    if n == 4 {
+        return both(f.id == 0, is_short(f));
+    }
+    if n == 5 {
+        return both(f.part <= 3, is_short(f));
+    }
+    if n == 6 {
+        return both(f.part == 0, is_short(f));
+    }
+    false
+}
+
+// No call waits.
+fn is_blank(f: Flat) -> bool
+    ensures { λ r. ⌜ r ≡ sameCall f (numbered 0 0 0 0 0) ⌝ }
+{
+    both(f.call == 0, both(f.part == 0, both(f.id == 0, is_short(f))))
 }
 
 // Fields that are what their stage is written as: an unknown number, a flag of 2 and an unused
@@ -270,7 +305,10 @@ fn same_flat(f: Flat, g: Flat) -> bool
 pub(crate) fn is_whole(f: Flat) -> bool
     ensures { λ r. ⌜ r ≡ wholeFlat f ⌝ }
 {
-    let ready = f.ready != 0;
-    let stage = stage_of(f);
-    same_flat(f, flat_of(ready, stage))
+    let n = f.stage;
+    let ready = f.ready <= 1;
+    if n == 0 {
+        return both(ready, is_blank(f));
+    }
+    both(ready, both(n <= 4, is_call(f)))
 }

@@ -1,8 +1,11 @@
 // The head of a store: the core, read and written in place.
 ghost use mathlib.Core.Path.{_≡_};
+ghost use Prim.Native.Nat.{_+_, _≤_};
+ghost use lib.ListN.{length};
 ghost use lib.Seq.{sets};
+ghost use Rattle.layout.specs.Bytes.{le, numAt};
 ghost use Rattle.layout.specs.Layout.{write};
-ghost use Rattle.state_store.specs.Flat.{flatRow, flatValues};
+ghost use Rattle.state_store.specs.Flat.{flatRow, flatValues, wholeFlat};
 ghost use Rattle.state_store.specs.Store.{headRow, headValues, headAt, headOf, coreOf};
 ghost use Rattle.state_store.specs.Steps.{countsRow, countsValues};
 use crate::flat::Flat;
@@ -15,46 +18,82 @@ use exchange::Core;
 use exchange::Counts;
 use exchange::Stage;
 
+// A number that lies within the store.
+fn half(s: &[u8], at: usize) -> u32
+    requires { ⌜ at + 4 ≤ length (now s) ⌝ }
+    ensures { λ r. ⌜ r ≡ numAt at 4 (now (s .entry)) ⌝ }
+{
+    layout::u32_of([s[at], s[at + 1], s[at + 2], s[at + 3]])
+}
+
+fn put_half(s: &mut [u8], at: usize, v: u32)
+    requires { ⌜ at + 4 ≤ length (now s) ⌝ }
+    ensures { λ _. ⌜ now (s .exit) ≡ sets (now (s .entry)) at (le 4 v) ⌝ }
+{
+    let bytes = layout::u32_bytes(v);
+    s[at] = bytes[0];
+    s[at + 1] = bytes[1];
+    s[at + 2] = bytes[2];
+    s[at + 3] = bytes[3];
+}
+
+fn byte(s: &[u8], at: usize) -> u8
+    requires { ⌜ at + 1 ≤ length (now s) ⌝ }
+    ensures { λ r. ⌜ r ≡ numAt at 1 (now (s .entry)) ⌝ }
+{
+    s[at]
+}
+
+fn put_byte(s: &mut [u8], at: usize, v: u8)
+    requires { ⌜ at + 1 ≤ length (now s) ⌝ }
+    ensures { λ _. ⌜ now (s .exit) ≡ sets (now (s .entry)) at (le 1 v) ⌝ }
+{
+    s[at] = v;
+}
+
+// The same of a store that is long enough, with no test at each field.
 pub(crate) fn get_head(s: &[u8]) -> Head
+    requires { ⌜ 48 ≤ length (now s) ⌝ }
     ensures { λ r. ⌜ r ≡ headAt (now (s .entry)) ⌝ }
 {
     Head {
         counts: Counts {
-            jacks: layout::get_u32(s, 0),
-            streams: layout::get_u32(s, 4),
-            maps: layout::get_u32(s, 8),
+            jacks: half(s, 0),
+            streams: half(s, 4),
+            maps: half(s, 8),
         },
         read: Counts {
-            jacks: layout::get_u32(s, 12),
-            streams: layout::get_u32(s, 16),
-            maps: layout::get_u32(s, 20),
+            jacks: half(s, 12),
+            streams: half(s, 16),
+            maps: half(s, 20),
         },
         flat: Flat {
-            ready: layout::get_u8(s, 24),
-            stage: layout::get_u8(s, 25),
-            call: layout::get_u8(s, 26),
-            part: layout::get_u8(s, 27),
-            id: layout::get_u32(s, 28),
-            first: layout::get_u32(s, 32),
-            second: layout::get_u32(s, 36),
-            third: layout::get_u32(s, 40),
-            known: layout::get_u8(s, 44),
-            channels: layout::get_u8(s, 45),
-            format: layout::get_u8(s, 46),
-            rate: layout::get_u8(s, 47),
+            ready: byte(s, 24),
+            stage: byte(s, 25),
+            call: byte(s, 26),
+            part: byte(s, 27),
+            id: half(s, 28),
+            first: half(s, 32),
+            second: half(s, 36),
+            third: half(s, 40),
+            known: byte(s, 44),
+            channels: byte(s, 45),
+            format: byte(s, 46),
+            rate: byte(s, 47),
         },
     }
 }
 
 // A head that is not whole stands for no core: it gives one that fails the consistency test, so
 // that every call refuses it in its turn.
-pub(crate) fn core_of(h: Head) -> Core
+pub(crate) fn core_by(whole: bool, h: Head) -> Core
+    requires { ⌜ whole ≡ wholeFlat (h .flat) ⌝ }
     ensures { λ r. ⌜ r ≡ coreOf h ⌝ }
 {
     let flat = h.flat;
     let counts = h.counts;
     let read = h.read;
-    if is_whole(flat) {
+    if whole {
         let stage = stage_of(flat);
         let ready = flat.ready != 0;
         return Core {
@@ -72,36 +111,46 @@ pub(crate) fn core_of(h: Head) -> Core
     }
 }
 
+// The same, with the test made here.
+pub(crate) fn core_of(h: Head) -> Core
+    ensures { λ r. ⌜ r ≡ coreOf h ⌝ }
+{
+    core_by(is_whole(h.flat), h)
+}
+
 fn put_counts(s: &mut [u8], counts: Counts, read: Counts)
+    requires { ⌜ 48 ≤ length (now s) ⌝ }
     ensures { λ _. ⌜ now (s .exit) ≡ sets (now (s .entry)) 0 (write countsRow (countsValues counts read)) ⌝ }
 {
-    layout::put_u32(s, 0, counts.jacks);
-    layout::put_u32(s, 4, counts.streams);
-    layout::put_u32(s, 8, counts.maps);
-    layout::put_u32(s, 12, read.jacks);
-    layout::put_u32(s, 16, read.streams);
-    layout::put_u32(s, 20, read.maps);
+    put_half(s, 0, counts.jacks);
+    put_half(s, 4, counts.streams);
+    put_half(s, 8, counts.maps);
+    put_half(s, 12, read.jacks);
+    put_half(s, 16, read.streams);
+    put_half(s, 20, read.maps);
 }
 
 fn put_flat(s: &mut [u8], f: Flat)
+    requires { ⌜ 48 ≤ length (now s) ⌝ }
     ensures { λ _. ⌜ now (s .exit) ≡ sets (now (s .entry)) 24 (write flatRow (flatValues f)) ⌝ }
 {
-    layout::put_u8(s, 24, f.ready);
-    layout::put_u8(s, 25, f.stage);
-    layout::put_u8(s, 26, f.call);
-    layout::put_u8(s, 27, f.part);
-    layout::put_u32(s, 28, f.id);
-    layout::put_u32(s, 32, f.first);
-    layout::put_u32(s, 36, f.second);
-    layout::put_u32(s, 40, f.third);
-    layout::put_u8(s, 44, f.known);
-    layout::put_u8(s, 45, f.channels);
-    layout::put_u8(s, 46, f.format);
-    layout::put_u8(s, 47, f.rate);
+    put_byte(s, 24, f.ready);
+    put_byte(s, 25, f.stage);
+    put_byte(s, 26, f.call);
+    put_byte(s, 27, f.part);
+    put_half(s, 28, f.id);
+    put_half(s, 32, f.first);
+    put_half(s, 36, f.second);
+    put_half(s, 40, f.third);
+    put_byte(s, 44, f.known);
+    put_byte(s, 45, f.channels);
+    put_byte(s, 46, f.format);
+    put_byte(s, 47, f.rate);
 }
 
 // The core over the one that stands there; no table is touched.
 pub(crate) fn put_core(s: &mut [u8], c: Core)
+    requires { ⌜ 48 ≤ length (now s) ⌝ }
     ensures { λ _. ⌜ now (s .exit) ≡ sets (now (s .entry)) 0 (write headRow (headValues (headOf c))) ⌝ }
 {
     let stage = c.stage;

@@ -2,10 +2,10 @@
 -- Assumes nothing.
 use Prim.Native.Nat.{_+_, _*_, _%_, _≤_, _<_}
 use native.Mathlib.Omega.{arith}
-use mathlib.Core.Path.{_≡_, refl, sym}
+use mathlib.Core.Path.{_≡_, refl, sym, _∙_}
 use mathlib.Core.Bool.{Bool, true, false, _&&_, _||_, not, false≢true}
 use lib.Dec.{ltb, eqb}
-use borrow.Author.Tests.{lt-ltb, ltb-true, le-leb, leb-true, eq-eqb, eqb-true}
+use borrow.Author.Tests.{lt-ltb, ltb-true, ltb-false, le-leb, leb-true, eq-eqb, ne-eqb, eqb-true}
 use Rattle.turns.specs.Consistent.{placedOf, pacedOf, consistentOf}
 use Rattle.turns.specs.declared.ring.Track.{Track}
 use Rattle.turns.specs.Steps.{Placed}
@@ -69,12 +69,18 @@ paced-true t p = rw (le-leb _ _ (p .within)) (paced-by (t .running) _ _ (λ h. l
 pub few : (t : Track) → Placed t → t .held ≤ 10
 few t p = let room : t .held * 3 ≤ 32 = rw (← (p .direct)) (p .room) in omega arith
 
--- the last test of each is what the whole comes to once the others passed
-pub placed-last : (t : Track) (b : Bool) → t .per ≡ 3 → t .head < 32 → t .tail < 32 → t .held ≤ 10 → b ≡ eqb ((t .tail + t .held) % 32) (t .head) → b ≡ placedOf t
+-- the last test of each is what the whole comes to once the others passed; that head is a slot follows from it
+placed-by : (t : Track) (b small : Bool) → ltb (t .head) 32 ≡ small → t .per ≡ 3 → t .tail < 32 → t .held ≤ 10 → b ≡ eqb ((t .tail + t .held) % 32) (t .head) → b ≡ placedOf t
 unfolding placedOf
-placed-last t b p h l m e =
+placed-by t b true s p l m e =
     let room : t .held * t .per ≤ 32 = rw p (omega arith) in
-    simp (eq-eqb _ _ p, lt-ltb _ _ h, lt-ltb _ _ l, le-leb _ _ room) e
+    simp (eq-eqb _ _ p, s, lt-ltb _ _ l, le-leb _ _ room) e
+placed-by t b false s p l m e =
+    let h : 32 ≤ t .head = ltb-false (t .head) 32 s in
+    simp (eq-eqb _ _ p, s) (e ∙ ne-eqb ((t .tail + t .held) % 32) (t .head) (λ z. omega arith))
+
+pub placed-last : (t : Track) (b : Bool) → t .per ≡ 3 → t .tail < 32 → t .held ≤ 10 → b ≡ eqb ((t .tail + t .held) % 32) (t .head) → b ≡ placedOf t
+placed-last t b p l m e = placed-by t b (ltb (t .head) 32) refl p l m e
 
 pub paced-idle : (t : Track) → t .next ≤ t .total → t .running ≡ false → true ≡ pacedOf t
 unfolding pacedOf

@@ -11,9 +11,6 @@ fn placed(t: Track) -> bool
     if t.per != 3 {
         return false;
     }
-    if 32 <= t.head {
-        return false;
-    }
     if 32 <= t.tail {
         return false;
     }
@@ -21,6 +18,7 @@ fn placed(t: Track) -> bool
     if 10 < held {
         return false;
     }
+    // which head below 32 follows from
     (t.tail + held) % 32 == t.head
 }
 

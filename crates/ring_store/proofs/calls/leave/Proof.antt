@@ -25,4 +25,4 @@ returns-2 c =
     )
 
 pub leave-spec : {M : Type 1} → statement M
-leave-spec = tie.close (tie.spec (λ c κs. tt) (λ c κs. tt) returns (λ c κs. search needs) (λ c κs. tt) (λ c. search needs) returns-2)
+leave-spec = tie.close (tie.spec (λ c κs. tt) (λ c κs. tt) returns (λ c κs. search needs) (λ c κs. search needs) (λ c. search needs) returns-2)

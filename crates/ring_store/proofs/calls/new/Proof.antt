@@ -19,4 +19,4 @@ returns-2 c =
     made (i .before .before .args .ring .now) _ _ (i .if1 .left) (ap (λ (r : Ring). r .track) (n .new .ensures)) (p .put-blanks .ensures ∙ ap blankOver (t .put-track .ensures))
 
 pub new-spec : {M : Type 1} → statement M
-new-spec = tie.close (tie.spec returns (λ c κs. tt) (λ c κs. search needs) (λ c κs. tt) (λ c. search needs) returns-2)
+new-spec = tie.close (tie.spec returns (λ c κs. tt) (λ c κs. search needs) (λ c κs. search needs) (λ c. search needs) returns-2)

@@ -28,4 +28,4 @@ returns : tie.Need-returns Inv-loop μ-loop
 returns c = let l = c .before .loop in blank-all _ _ (l .i) (omega arith) (l .inv .1 .1)
 
 pub put-blanks-spec : {M : Type 1} → statement M
-put-blanks-spec = tie.close (tie.spec Inv-loop μ-loop loop-holds (λ c κs. tt) (λ c. omega arith) (λ c. omega arith) loop-again (λ c. omega arith) returns)
+put-blanks-spec = tie.close (tie.spec Inv-loop μ-loop loop-holds (λ c κs. omega arith) (λ c. omega arith) (λ c. omega arith) loop-again (λ c. omega arith) returns)

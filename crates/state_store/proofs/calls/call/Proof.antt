@@ -5,6 +5,7 @@ use Rattle.state_store.specs.Flat.{wholeFlat}
 use Rattle.state_store.specs.Store.{coreOf}
 use Rattle.state_store.specs.declared.flat.Head.{Head}
 use Rattle.state_store.specs.FinishLaws.{long-state, call-unread, call-short, called}
+use native.Mathlib.Omega.{arith}
 use borrow.Author.Needs.{needs}
 use Rattle.state_store.proofs.calls.call.Statement.{statement}
 use Rattle.state_store.proofs.calls.call.Tie as tie
@@ -21,6 +22,12 @@ returns-2 c =
     call-short (a .state .now) (a .message .now) (a .result .now) (sym (d .before .both .ensures) ∙ not-false _ (d .if1 .left)) (a .t) (a .asked)
     (λ k. (d .before .before .before .before .slice-known .given k) .fits) (lt-leb 24 _ (c .if2 .taken))
 
+get-head-requires : tie.Need-get-head-requires
+get-head-requires c κs =
+    let d = c .before .before in
+    let a = d .before .before .before .before .before .args in
+    omega (arith, long-state (a .state .now) (a .result .now) (sym (d .before .both .ensures) ∙ not-false _ (d .if1 .left)))
+
 finish-requires : tie.Need-finish-requires
 finish-requires c κs =
     let d = c .before .before .before .before .before .before .before .before .before .before .before .before in
@@ -30,14 +37,18 @@ finish-requires c κs =
 returns-3 : tie.Need-returns-3
 returns-3 c =
     let f = c .before .before .before .before .before .before in
-    let w = f .before .before .before .before in
-    let h = w .before .before .before .before .before .before in
-    let d = h .before .before .before in
+    let g = f .before .before .before .before .before in
+    let k = g .before in
+    let o = k .before in
+    let w = o .before .before in
+    let h = w .before in
+    let e = h .before .before in
+    let d = e .before in
     let a = d .before .before .before .before .before .args in
     f .finish .ensures
     ∙ called (a .state .now) (a .message .now) (a .result .now) (sym (d .before .both .ensures) ∙ not-false _ (d .if1 .left))
-    (w .is-whole .ensures ∙ ap (λ (h : Head). wholeFlat (h .flat)) (h .get-head .ensures)) (w .before .before .before .core-of .ensures ∙ ap coreOf (h .get-head .ensures)) (a .t) (a .asked)
-    (le-leb 24 _ (h .before .before .if2 .left)) (w .before .before .before .before .look .ensures) (w .before .before .begin .ensures)
+    (w .is-whole .ensures ∙ ap (λ (h : Head). wholeFlat (h .flat)) (h .get-head .ensures)) (k .core-by .ensures ∙ ap coreOf (h .get-head .ensures)) (a .t) (a .asked)
+    (le-leb 24 _ (e .if2 .left)) (o .look .ensures) (g .begin .ensures)
 
 pub call-spec : {M : Type 1} → statement M
 call-spec =
@@ -46,10 +57,10 @@ call-spec =
     (λ c κs. tt)
     returns
     returns-2
+    get-head-requires
     (λ c κs. tt)
     (λ c κs. tt)
-    (λ c κs. tt)
-    (λ c κs. tt)
+    (λ c κs. c .before .before .is-whole .ensures)
     (λ c κs. tt)
     (λ c. search needs)
     finish-requires

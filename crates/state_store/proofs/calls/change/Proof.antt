@@ -22,4 +22,4 @@ returns-2 c =
     ∙ effect-over (a .state .now) (a .page .now) (a .core) (a .effect) (λ k. (t .before .before .slice-known .given k) .fits) (λ k. (t .before .shared-slice-known .given k) .fits))
 
 pub change-spec : {M : Type 1} → statement M
-change-spec = tie.close (tie.spec returns (λ c κs. tt) (λ c κs. search needs) (λ c. search needs) returns-2)
+change-spec = tie.close (tie.spec returns (λ c κs. search needs) (λ c κs. search needs) (λ c. search needs) returns-2)

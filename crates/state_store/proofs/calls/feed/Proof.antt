@@ -5,6 +5,7 @@ use Rattle.state_store.specs.Flat.{wholeFlat}
 use Rattle.state_store.specs.Store.{coreOf}
 use Rattle.state_store.specs.declared.flat.Head.{Head}
 use Rattle.state_store.specs.FinishLaws.{long-state, long-message, feed-unread, feed-short, fed}
+use native.Mathlib.Omega.{arith}
 use borrow.Author.Needs.{needs}
 use Rattle.state_store.proofs.calls.feed.Statement.{statement}
 use Rattle.state_store.proofs.calls.feed.Tie as tie
@@ -21,6 +22,12 @@ returns-2 c =
     feed-short (a .state .now) (a .message .now) (a .result .now) (sym (d .before .both .ensures) ∙ not-false _ (d .if1 .left)) (a .page .now)
     (λ k. (d .before .before .before .before .before .slice-known .given k) .fits) (sym (c .before .both2 .ensures) ∙ not-true _ (c .if2 .taken))
 
+get-head-requires : tie.Need-get-head-requires
+get-head-requires c κs =
+    let d = c .before .before .before in
+    let a = d .before .before .before .before .before .before .args in
+    omega (arith, long-state (a .state .now) (a .result .now) (sym (d .before .both .ensures) ∙ not-false _ (d .if1 .left)))
+
 finish-requires : tie.Need-finish-requires
 finish-requires c κs =
     let d = c .before .before .before .before .before .before .before .before .before .before .before in
@@ -33,15 +40,19 @@ finish-requires c κs =
 returns-3 : tie.Need-returns-3
 returns-3 c =
     let f = c .before .before .before .before .before .before in
-    let w = f .before .before .before in
-    let h = w .before .before .before .before .before .before .before in
+    let g = f .before .before .before .before in
+    let o = g .before in
+    let v = o .before .before in
+    let k = v .before in
+    let w = k .before in
+    let h = w .before in
     let e = h .before .before in
     let d = e .before .before in
     let a = d .before .before .before .before .before .before .args in
     f .finish .ensures
     ∙ fed (a .state .now) (a .message .now) (a .result .now) (sym (d .before .both .ensures) ∙ not-false _ (d .if1 .left))
-    (w .is-whole .ensures ∙ ap (λ (h : Head). wholeFlat (h .flat)) (h .get-head .ensures)) (w .before .before .before .before .before .before .core-of .ensures ∙ ap coreOf (h .get-head .ensures)) (a .page .now)
-    (sym (e .before .both2 .ensures) ∙ not-false _ (e .if2 .left)) (w .before .before .before .before .before .verdict-by .ensures) (w .before .before .before .pending-look .ensures) (w .before .before .answer .ensures)
+    (w .is-whole .ensures ∙ ap (λ (h : Head). wholeFlat (h .flat)) (h .get-head .ensures)) (k .core-by .ensures ∙ ap coreOf (h .get-head .ensures)) (a .page .now)
+    (sym (e .before .both2 .ensures) ∙ not-false _ (e .if2 .left)) (v .verdict-by .ensures) (o .pending-look .ensures) (g .answer .ensures)
 
 pub feed-spec : {M : Type 1} → statement M
 feed-spec =
@@ -51,9 +62,9 @@ feed-spec =
     returns
     (λ c κs. tt)
     returns-2
+    get-head-requires
     (λ c κs. tt)
-    (λ c κs. tt)
-    (λ c κs. tt)
+    (λ c κs. c .is-whole .ensures)
     (λ c κs. tt)
     (λ c κs. tt)
     (λ c κs. tt)

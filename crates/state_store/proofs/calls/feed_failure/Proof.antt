@@ -5,6 +5,7 @@ use Rattle.state_store.specs.Flat.{wholeFlat}
 use Rattle.state_store.specs.Store.{coreOf}
 use Rattle.state_store.specs.declared.flat.Head.{Head}
 use Rattle.state_store.specs.FinishLaws.{long-state, fail-unread, fail-short, failed}
+use native.Mathlib.Omega.{arith}
 use borrow.Author.Needs.{needs}
 use Rattle.state_store.proofs.calls.feed_failure.Statement.{statement}
 use Rattle.state_store.proofs.calls.feed_failure.Tie as tie
@@ -21,6 +22,12 @@ returns-2 c =
     fail-short (a .state .now) (a .message .now) (a .result .now) (sym (d .before .both .ensures) ∙ not-false _ (d .if1 .left))
     (λ k. (d .before .before .before .before .slice-known .given k) .fits) (lt-leb 24 _ (c .if2 .taken))
 
+get-head-requires : tie.Need-get-head-requires
+get-head-requires c κs =
+    let d = c .before .before in
+    let a = d .before .before .before .before .before .args in
+    omega (arith, long-state (a .state .now) (a .result .now) (sym (d .before .both .ensures) ∙ not-false _ (d .if1 .left)))
+
 finish-requires : tie.Need-finish-requires
 finish-requires c κs =
     let d = c .before .before .before .before .before .before .before .before .before .before .before .before in
@@ -30,14 +37,18 @@ finish-requires c κs =
 returns-3 : tie.Need-returns-3
 returns-3 c =
     let f = c .before .before .before .before .before .before in
-    let w = f .before .before .before .before in
-    let h = w .before .before .before .before .before .before in
-    let d = h .before .before .before in
+    let g = f .before .before .before .before .before in
+    let o = g .before in
+    let k = o .before .before in
+    let w = k .before in
+    let h = w .before in
+    let e = h .before .before in
+    let d = e .before in
     let a = d .before .before .before .before .before .args in
     f .finish .ensures
     ∙ failed (a .state .now) (a .message .now) (a .result .now) (sym (d .before .both .ensures) ∙ not-false _ (d .if1 .left))
-    (w .is-whole .ensures ∙ ap (λ (h : Head). wholeFlat (h .flat)) (h .get-head .ensures)) (w .before .before .before .before .before .core-of .ensures ∙ ap coreOf (h .get-head .ensures))
-    (le-leb 24 _ (h .before .before .if2 .left)) (w .before .before .before .pending-look .ensures) (w .before .before .answer .ensures)
+    (w .is-whole .ensures ∙ ap (λ (h : Head). wholeFlat (h .flat)) (h .get-head .ensures)) (k .core-by .ensures ∙ ap coreOf (h .get-head .ensures))
+    (le-leb 24 _ (e .if2 .left)) (o .pending-look .ensures) (g .answer .ensures)
 
 pub feed-failure-spec : {M : Type 1} → statement M
 feed-failure-spec =
@@ -46,9 +57,9 @@ feed-failure-spec =
     (λ c κs. tt)
     returns
     returns-2
+    get-head-requires
     (λ c κs. tt)
-    (λ c κs. tt)
-    (λ c κs. tt)
+    (λ c κs. c .is-whole .ensures)
     (λ c κs. tt)
     (λ c κs. tt)
     (λ c. search needs)

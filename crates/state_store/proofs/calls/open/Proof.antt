@@ -5,59 +5,73 @@ use Rattle.state_store.specs.Store.{coreOf}
 use Rattle.state_store.specs.declared.flat.Head.{Head}
 use Rattle.state_store.specs.Calls.{opened}
 use Rattle.state_store.specs.Steps.{settingUpBy}
-use Rattle.state_store.specs.OpenLaws.{gated, set-up-long, opens}
+use Rattle.state_store.specs.OpenLaws.{gated, shut-short, long-head, set-up-long, opens}
 use Rattle.state_store.specs.declared.calls.Opening.the-variants.{Says, Open}
 use Rattle.exchange.specs.declared.xfer.Gate.the-variants as gate
 use Rattle.state_store.specs.StoreLaws.{core-at}
 use Prim.Native.Nat.{ℕ}
+use borrow.Author.Tests.{not-true, not-false}
+use Rattle.codes.specs.declared.answers.Refusal.the-variants.{BadLength}
 use borrow.Author.Needs.{needs}
 use Rattle.state_store.proofs.calls.open.Statement.{statement}
 use Rattle.state_store.proofs.calls.open.Tie as tie
 
+returns : tie.Need-returns
+returns c =
+    let a = c .before .before .before .before .args in
+    opens (a .state .now) (a .message .now) (a .t) (a .stream) (gate.Shut BadLength)
+    (shut-short (a .state .now) (a .message .now) (a .t) (a .stream) (sym (c .before .both .ensures) ∙ not-true _ (c .if1 .taken)))
+
+get-head-requires : tie.Need-get-head-requires
+get-head-requires c κs =
+    let d = c .before in
+    let a = d .before .before .before .before .args in
+    long-head (a .state .now) (a .message .now) (a .t) (a .stream) (sym (d .before .both .ensures) ∙ not-false _ (d .if1 .left))
+
 set-up-requires : tie.Need-set-up-requires
 set-up-requires c κs =
     let x = c .before .before .before .before in
-    let a = x .before .before .before .before .before .before .before .before .before .before .args in
+    let a = x .before .before .before .before .before .before .before .before .before .before .before .args in
     let s = a .state .now in
     let m = a .message .now in
     let t = a .t in
     let stream = a .stream in
-    let g = gated s m t stream (x .before .both .ensures) (x .before .before .before .before .before .core-of .ensures ∙ ap coreOf (x .before .before .before .before .before .before .get-head .ensures)) (x .before .before .params-at .ensures) (x .xfer-gate .ensures) in
+    let g = gated s m t stream (x .before .before .before .before .before .before .before .before .both .ensures) (x .before .before .before .core-by .ensures ∙ ap coreOf (x .before .before .before .before .before .get-head .ensures)) (x .before .params-at .ensures) (x .xfer-gate .ensures) in
     set-up-long s m t stream (sym (c .before .before .enum-told .given .1) ∙ g)
-
-returns : tie.Need-returns
-returns c =
-    let x = c .before .before .before .before in
-    let a = x .before .before .before .before .before .before .before .before .before .before .args in
-    let s = a .state .now in
-    let m = a .message .now in
-    let t = a .t in
-    let stream = a .stream in
-    let g = gated s m t stream (x .before .both .ensures) (x .before .before .before .before .before .core-of .ensures ∙ ap coreOf (x .before .before .before .before .before .before .get-head .ensures)) (x .before .before .params-at .ensures) (x .xfer-gate .ensures) in
-    ap (λ (n : ℕ). opened (Says n) s m) (c .number .ensures) ∙ opens s m t stream (gate.Shut _) (sym (c .before .before .gate .given .1) ∙ g)
 
 returns-2 : tie.Need-returns-2
 returns-2 c =
-    let x = c .before .before .before .before .before .before .before .before .before in
-    let a = x .before .before .before .before .before .before .before .before .before .before .args in
+    let x = c .before .before .before .before in
+    let a = x .before .before .before .before .before .before .before .before .before .before .before .args in
     let s = a .state .now in
     let m = a .message .now in
     let t = a .t in
     let stream = a .stream in
-    let g = gated s m t stream (x .before .both .ensures) (x .before .before .before .before .before .core-of .ensures ∙ ap coreOf (x .before .before .before .before .before .before .get-head .ensures)) (x .before .before .params-at .ensures) (x .xfer-gate .ensures) in
-    c .before .before .before .before .set-up .ensures
-    ∙ (λ i. settingUpBy ((x .before .before .before .before .is-whole .ensures ∙ ap (λ (h : Head). wholeFlat (h .flat)) (x .before .before .before .before .before .before .get-head .ensures)) i) ((x .before .before .before .before .before .core-of .ensures ∙ ap coreOf (x .before .before .before .before .before .before .get-head .ensures) ∙ sym (core-at s)) i) s stream m)
-    ∙ opens s m t stream gate.SetUp (sym (c .before .before .before .before .before .before .before .enum-told .given .1) ∙ g)
+    let g = gated s m t stream (x .before .before .before .before .before .before .before .before .both .ensures) (x .before .before .before .core-by .ensures ∙ ap coreOf (x .before .before .before .before .before .get-head .ensures)) (x .before .params-at .ensures) (x .xfer-gate .ensures) in
+    ap (λ (n : ℕ). opened (Says n) s m) (c .number .ensures) ∙ opens s m t stream (gate.Shut _) (sym (c .before .before .gate .given .1) ∙ g)
 
 returns-3 : tie.Need-returns-3
 returns-3 c =
-    let x = c .before .before .before in
-    let a = x .before .before .before .before .before .before .before .before .before .before .args in
+    let x = c .before .before .before .before .before .before .before .before .before in
+    let a = x .before .before .before .before .before .before .before .before .before .before .before .args in
     let s = a .state .now in
     let m = a .message .now in
     let t = a .t in
     let stream = a .stream in
-    let g = gated s m t stream (x .before .both .ensures) (x .before .before .before .before .before .core-of .ensures ∙ ap coreOf (x .before .before .before .before .before .before .get-head .ensures)) (x .before .before .params-at .ensures) (x .xfer-gate .ensures) in
+    let g = gated s m t stream (x .before .before .before .before .before .before .before .before .both .ensures) (x .before .before .before .core-by .ensures ∙ ap coreOf (x .before .before .before .before .before .get-head .ensures)) (x .before .params-at .ensures) (x .xfer-gate .ensures) in
+    c .before .before .before .before .set-up .ensures
+    ∙ (λ i. settingUpBy ((x .before .before .before .before .is-whole .ensures ∙ ap (λ (h : Head). wholeFlat (h .flat)) (x .before .before .before .before .before .get-head .ensures)) i) ((x .before .before .before .core-by .ensures ∙ ap coreOf (x .before .before .before .before .before .get-head .ensures) ∙ sym (core-at s)) i) s stream m)
+    ∙ opens s m t stream gate.SetUp (sym (c .before .before .before .before .before .before .before .enum-told .given .1) ∙ g)
+
+returns-4 : tie.Need-returns-4
+returns-4 c =
+    let x = c .before .before .before in
+    let a = x .before .before .before .before .before .before .before .before .before .before .before .args in
+    let s = a .state .now in
+    let m = a .message .now in
+    let t = a .t in
+    let stream = a .stream in
+    let g = gated s m t stream (x .before .before .before .before .before .before .before .before .both .ensures) (x .before .before .before .core-by .ensures ∙ ap coreOf (x .before .before .before .before .before .get-head .ensures)) (x .before .params-at .ensures) (x .xfer-gate .ensures) in
     opens s m t stream (gate.Open _) (sym (c .before .gate2 .given .1) ∙ g)
 
 pub open-spec : {M : Type 1} → statement M
@@ -65,9 +79,10 @@ open-spec =
     tie.close
     (tie.spec
     (λ c κs. tt)
+    returns
+    get-head-requires
     (λ c κs. tt)
-    (λ c κs. tt)
-    (λ c κs. tt)
+    (λ c κs. c .is-whole .ensures)
     (λ c κs. tt)
     (λ c κs. tt)
     (λ c. search needs)
@@ -77,9 +92,9 @@ open-spec =
     set-up-requires
     (λ c. search needs)
     (λ c. search needs)
-    returns
-    (λ c. search needs)
-    (λ c. search needs)
     returns-2
     (λ c. search needs)
-    returns-3)
+    (λ c. search needs)
+    returns-3
+    (λ c. search needs)
+    returns-4)

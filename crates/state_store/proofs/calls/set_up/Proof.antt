@@ -16,11 +16,11 @@ returns : tie.Need-returns
 returns c =
     let t = c .before .before in
     let d = t .before .before .before .before in
-    let j = d .before .before .before .before in
+    let j = d .before .before .before in
     let a = j .before .before .before in
     let p = j .ask-jacks .ensures in
     λ i. opened (Says 272)
-    ((d .change .ensures ∙ ap (λ (q : Plan). changed (a .args .whole) (a .args .state .now) Nothing (q .core) []) p) i)
+    ((d .change-core .ensures ∙ ap (λ (q : Plan). changed (a .args .whole) (a .args .state .now) Nothing (q .core) []) p) i)
     ((t .tell .ensures .1 ∙ says-in (j .ask-jacks .result .say) (a .args .message .now) (a .pre .1) ∙ ap (λ (q : Plan). messageAfter (q .say) (a .args .message .now)) p) i)
 
 pub set-up-spec : {M : Type 1} → statement M
@@ -28,7 +28,6 @@ set-up-spec =
     tie.close
     (tie.spec
     (λ c κs. tt)
-    (λ c. search needs)
     (λ c κs. search needs)
     (λ c κs. tt)
     (λ c. search needs)

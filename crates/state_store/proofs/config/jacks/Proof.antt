@@ -4,6 +4,8 @@ use borrow.Author.Tests.{not-true, not-false}
 use Rattle.state_store.specs.Store.{coreOf}
 use Rattle.state_store.specs.Calls.{jackCount}
 use Rattle.state_store.specs.NewLaws.{count-unread, counted}
+use Rattle.state_store.specs.FinishLaws.{long-state}
+use native.Mathlib.Omega.{arith}
 use borrow.Author.Needs.{needs}
 use Rattle.state_store.proofs.config.jacks.Statement.{statement}
 use Rattle.state_store.proofs.config.jacks.Tie as tie
@@ -12,6 +14,11 @@ returns : tie.Need-returns
 returns c =
     let a = c .before .before .before .before .args in
     count-unread (a .state .now) (a .result .now) jackCount (sym (c .before .both .ensures) ∙ not-true _ (c .if1 .taken))
+
+get-head-requires : tie.Need-get-head-requires
+get-head-requires c κs =
+    let a = c .before .before .before .before .args in
+    omega (arith, long-state (a .state .now) (a .result .now) (sym (c .before .both .ensures) ∙ not-false _ (c .if1 .left)))
 
 returns-2 : tie.Need-returns-2
 returns-2 c =
@@ -27,7 +34,7 @@ jacks-spec =
     (tie.spec
     (λ c κs. tt)
     returns
-    (λ c κs. tt)
+    get-head-requires
     (λ c κs. tt)
     (λ c κs. tt)
     (λ c. search needs)

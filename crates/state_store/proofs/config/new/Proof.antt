@@ -15,4 +15,4 @@ returns-2 c =
     new-made (a .state .now) (a .jacks) (a .streams) (a .chmaps) (t .if1 .left) (d .put-core .ensures) (c .before .before .clear .ensures)
 
 pub new-spec : {M : Type 1} → statement M
-new-spec = tie.close (tie.spec returns (λ c κs. tt) (λ c κs. search needs) (λ c. search needs) returns-2)
+new-spec = tie.close (tie.spec returns (λ c κs. search needs) (λ c κs. search needs) (λ c. search needs) returns-2)

@@ -1,5 +1,6 @@
 -- `state_store::head::get_head` meets its contract: the list of its reads, in the layout's order. Assumes nothing.
 use mathlib.Core.Path.{ap}
+use borrow.Author.Needs.{needs}
 use Rattle.layout.specs.ChainLaws.{got}
 use Rattle.layout.specs.ChainLaws.Got.{get, end}
 use Rattle.state_store.specs.Store.{headRow, headFrom, headAt}
@@ -27,28 +28,28 @@ returns c =
     let c2 = c3 .before in
     let c1 = c2 .before in
     ap headFrom (got (c1 .before .before .args .s .now) 0 headRow _
-    (get (c1 .get-u32 .ensures) (get (c2 .get-u322 .ensures) (get (c3 .get-u323 .ensures) (get (c4 .get-u324 .ensures) (get (c5 .get-u325 .ensures) (get (c6 .get-u326 .ensures) (get (c7 .get-u8 .ensures) (get (c8 .get-u82 .ensures) (get (c9 .get-u83 .ensures) (get (c10 .get-u84 .ensures) (get (c11 .get-u327 .ensures) (get (c12 .get-u328 .ensures) (get (c13 .get-u329 .ensures) (get (c14 .get-u3210 .ensures) (get (c15 .get-u85 .ensures) (get (c16 .get-u86 .ensures) (get (c17 .get-u87 .ensures) (get (c .get-u88 .ensures) end)))))))))))))))))))
+    (get (c1 .half .ensures) (get (c2 .half2 .ensures) (get (c3 .half3 .ensures) (get (c4 .half4 .ensures) (get (c5 .half5 .ensures) (get (c6 .half6 .ensures) (get (c7 .byte .ensures) (get (c8 .byte2 .ensures) (get (c9 .byte3 .ensures) (get (c10 .byte4 .ensures) (get (c11 .half7 .ensures) (get (c12 .half8 .ensures) (get (c13 .half9 .ensures) (get (c14 .half10 .ensures) (get (c15 .byte5 .ensures) (get (c16 .byte6 .ensures) (get (c17 .byte7 .ensures) (get (c .byte8 .ensures) end)))))))))))))))))))
 
 pub get-head-spec : {M : Type 1} → statement M
 get-head-spec =
     tie.close
     (tie.spec
-    (λ c κs. tt)
-    (λ c κs. tt)
-    (λ c κs. tt)
-    (λ c κs. tt)
-    (λ c κs. tt)
-    (λ c κs. tt)
-    (λ c κs. tt)
-    (λ c κs. tt)
-    (λ c κs. tt)
-    (λ c κs. tt)
-    (λ c κs. tt)
-    (λ c κs. tt)
-    (λ c κs. tt)
-    (λ c κs. tt)
-    (λ c κs. tt)
-    (λ c κs. tt)
-    (λ c κs. tt)
-    (λ c κs. tt)
+    (λ c κs. search needs)
+    (λ c κs. search needs)
+    (λ c κs. search needs)
+    (λ c κs. search needs)
+    (λ c κs. search needs)
+    (λ c κs. search needs)
+    (λ c κs. search needs)
+    (λ c κs. search needs)
+    (λ c κs. search needs)
+    (λ c κs. search needs)
+    (λ c κs. search needs)
+    (λ c κs. search needs)
+    (λ c κs. search needs)
+    (λ c κs. search needs)
+    (λ c κs. search needs)
+    (λ c κs. search needs)
+    (λ c κs. search needs)
+    (λ c κs. search needs)
     returns)

@@ -11,4 +11,4 @@ returns c =
     core-runs (a .s .now) (a .c) (d .before .before .flat-of .ensures) (d .put-counts .ensures) (c .before .before .put-flat .ensures)
 
 pub put-core-spec : {M : Type 1} → statement M
-put-core-spec = tie.close (tie.spec (λ c κs. tt) (λ c κs. tt) (λ c κs. tt) (λ c. search needs) returns)
+put-core-spec = tie.close (tie.spec (λ c κs. tt) (λ c κs. search needs) (λ c κs. search needs) (λ c. search needs) returns)

@@ -16,17 +16,17 @@ returns c =
     let c1 = c2 .before .before .before .before in
     let a = c1 .before .before .before .args in
     stored _ (a .s .now) 0 countsRow (countsValues (a .counts) (a .read))
-    (put (c1 .put-u32 .ensures) (put (c2 .put-u322 .ensures) (put (c3 .put-u323 .ensures) (put (c4 .put-u324 .ensures) (put (c5 .put-u325 .ensures) (put (c6 .put-u326 .ensures) end))))))
+    (put (c1 .put-half .ensures) (put (c2 .put-half2 .ensures) (put (c3 .put-half3 .ensures) (put (c4 .put-half4 .ensures) (put (c5 .put-half5 .ensures) (put (c6 .put-half6 .ensures) end))))))
 
 pub put-counts-spec : {M : Type 1} → statement M
 put-counts-spec =
     tie.close
     (tie.spec
-    (λ c κs. tt)
-    (λ c κs. tt)
-    (λ c κs. tt)
-    (λ c κs. tt)
-    (λ c κs. tt)
-    (λ c κs. tt)
+    (λ c κs. search needs)
+    (λ c κs. search needs)
+    (λ c κs. search needs)
+    (λ c κs. search needs)
+    (λ c κs. search needs)
+    (λ c κs. search needs)
     (λ c. search needs)
     returns)

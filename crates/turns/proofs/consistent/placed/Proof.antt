@@ -12,13 +12,10 @@ returns-2 : tie.Need-returns-2
 returns-2 c = refuted _ (λ e. let p = placed-facts _ e in omega arith)
 
 returns-3 : tie.Need-returns-3
-returns-3 c = refuted _ (λ e. let p = placed-facts _ e in omega arith)
+returns-3 c = refuted _ (λ e. let p = few _ (placed-facts _ e) in omega arith)
 
 returns-4 : tie.Need-returns-4
-returns-4 c = refuted _ (λ e. let p = few _ (placed-facts _ e) in omega arith)
-
-returns-5 : tie.Need-returns-5
-returns-5 c = placed-last _ _ (search needs) (search needs) (search needs) (search needs) (search needs)
+returns-4 c = placed-last _ _ (search needs) (search needs) (search needs) (search needs)
 
 pub placed-spec : {M : Type 1} → statement M
-placed-spec = tie.close (tie.spec returns returns-2 returns-3 returns-4 (λ c. search needs) returns-5)
+placed-spec = tie.close (tie.spec returns returns-2 returns-3 (λ c. search needs) returns-4)
