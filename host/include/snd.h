@@ -8,7 +8,11 @@
  * written must not overlap any other. Any bytes at all are safe to pass: a store that is too short
  * is refused with 10, one that is inconsistent with 1, and a refusal leaves every lent byte as it
  * was, but for what document 01 names: 2, 6 and 9 end a transfer, and a feed ends its exchange.
- * Numbers in results are least byte first. */
+ * Numbers in results are least byte first.
+ *
+ * In a guest: nothing below the stack pointer is in use (no red zone), so interrupts may run on the
+ * stack that they meet. On x86-64 SSE must be on, and an interrupt that uses its registers saves
+ * them; tools/staticlib --no-sse makes an archive that uses none. */
 #ifndef SND_H
 #define SND_H
 
