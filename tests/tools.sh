@@ -1,6 +1,8 @@
-# Each tool of tools/ tells how it is used and stands in tools/README.md; those that cost little are run: repeats and wrap on the tree, skel and paths on a
-# crate of one function.
+# Each tool of tools/ tells how it is used and stands in tools/README.md; those that cost little are run: repeats, wrap and rests on the tree, rests on a crate
+# of three small files, skel and paths on a crate of one function.
 cd "$(dirname "$0")/.." || exit 2
+made=$(mktemp -d) || exit 2
+trap 'rm -rf "$made"' EXIT
 faults=0
 
 fault() {
@@ -35,13 +37,61 @@ walk drain_in_place drain_words drainWords kind:32,slot:32,status:32
 walk turn_in_place turn_words turnWords frames:slice,kind:32,slot:32,status:32
 tools/wrap turns a b c d E.f kind:33 unit >/dev/null 2>&1 && fault "tools/wrap takes a number of 33 bits"
 
+# What a theorem rests on: 4 lines of a type, 4 of two definitions, and a record of 2 in a file of laws. A comment, a proof and what only the proof mentions
+# do not count, nor does a field or a variable that has a definition's name; a type that another file hands on counts where it stands.
+mkdir -p "$made/rests/tools" "$made/rests/crates/small/src" "$made/rests/crates/small/specs"
+cp tools/rests "$made/rests/tools"
+cat >"$made/rests/crates/small/src/lib.rt" <<'RT'
+// Two numbers.
+pub struct Pair {
+    // the first
+    pub a: u64,
+    pub b: u64,
+}
+RT
+cat >"$made/rests/crates/small/specs/Sums.antt" <<'ANTT'
+use Prim.Native.Nat.{ℕ, _+_}
+use Rattle.small.specs.SumLaws.{Even, even-sum}
+use Rattle.small.specs.Types.{Pair}
+
+-- twice a number
+abbrev pub twice : ℕ → ℕ
+twice a = a + a
+
+abbrev pub sum : Pair → ℕ
+sum p = twice (p .a) + p .b
+
+abbrev pub a : ℕ → ℕ
+a n = n
+
+pub even : (p : Pair)
+    → Even (sum p)
+even p = even-sum (a (p .a))
+ANTT
+echo 'pub use Rattle.small.specs.declared.Pair.{Pair}' >"$made/rests/crates/small/specs/Types.antt"
+cat >"$made/rests/crates/small/specs/SumLaws.antt" <<'ANTT'
+use mathlib.Core.Path.{_≡_}
+use Prim.Native.Nat.{ℕ, _+_}
+
+pub record Even (n : ℕ) : Type 0 where
+  pub half : (m : ℕ) × (m + m ≡ n)
+ANTT
+said=$("$made/rests/tools/rests" small:even)
+for line in "    4        2  crates/small/src/lib.rt  Pair" "    4        1  crates/small/specs/Sums.antt  sum twice" "    2        0* crates/small/specs/SumLaws.antt  Even" \
+    "10 lines of definitions in 3 files, with 3 lines of comment; what was asked for has 2 lines itself" "* Even (crates/small/specs/SumLaws.antt) is reached by even (crates/small/specs/Sums.antt)"; do
+    grep -qxF "$line" <<<"$said" || fault "tools/rests does not say '$line' of a small theorem: $said"
+done
+"$made/rests/tools/rests" small:odd >/dev/null 2>&1 && fault "tools/rests takes a name that is not there"
+said=$(tools/rests --unknown) || fault "tools/rests cannot place every name of the tree: $said"
+for path in $(tools/rests --demand | grep -oE 'crates/\w+/specs/\w+\.antt' | sort -u); do
+    grep -q "$(basename "$path")" README.md || fault "README.md, an hour's reading, does not name $path, on which demand 3 rests"
+done
+
 for tool in skel paths; do
     tools/$tool no_such_crate f >/dev/null 2>&1 && fault "tools/$tool takes a crate that is not there"
 done
 
 if command -v rt >/dev/null; then
-    made=$(mktemp -d) || exit 2
-    trap 'rm -rf "$made"' EXIT
     mkdir -p "$made/tools" "$made/crates/small/src"
     cp tools/skel tools/paths "$made/tools"
     echo "small:" >"$made/crates.txt"

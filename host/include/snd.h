@@ -39,8 +39,8 @@ extern "C" {
 #define SND_NOTHING 513u
 
 /* Sizes of the stores and buffers, the same as the entries below hand out. */
-#define SND_STATE_SIZE 14304u
-#define SND_RING_SIZE 592u
+#define SND_STATE_SIZE 14320u
+#define SND_RING_SIZE 608u
 #define SND_MESSAGE_SIZE 24u
 #define SND_RESULT_SIZE 512u
 #define SND_PAGE_SIZE 4096u

@@ -52,6 +52,8 @@ use Rattle.codes.proofs.requests.RequestCode.code.Reads as request-code
 use Rattle.codes.proofs.requests.RequestCode.from_code.Reads as request-from-code
 use Rattle.codes.proofs.statuses.StatusCode.code.Reads as status-code
 use Rattle.codes.proofs.statuses.StatusCode.from_code.Reads as status-from-code
+use Rattle.codes.proofs.statuses.FoundStatus.is_ok.Reads as status-is-ok
+use Rattle.codes.proofs.tests.both.Reads as both
 use Rattle.codes.proofs.flags.JackFeatures.from_bits_retain.Reads as jack-features-from-bits-retain
 use Rattle.codes.proofs.flags.JackFeatures.has_remap.Reads as jack-features-has-remap
 use Rattle.codes.proofs.flags.PcmFeatures.from_bits_retain.Reads as features-from-bits-retain
@@ -65,8 +67,6 @@ use Rattle.codes.proofs.flags.PcmRates.from_bits_retain.Reads as rates-
 use Rattle.codes.proofs.flags.PcmRates.from_rate.Reads as rates-from-rate
 use Rattle.codes.proofs.flags.PcmRates.from_number.Reads as rates-from-number
 use Rattle.codes.proofs.flags.PcmRates.contains.Reads as rates-contains
-use Rattle.codes.proofs.answers.Answer.number.Reads as answer-number
-use Rattle.codes.proofs.answers.Refusal.answer.Reads as refusal-answer
 use Rattle.codes.proofs.answers.Refusal.number.Reads as refusal-number
 
 -- ---- the way back from what is said to what was returned: number 0 is the case found by its value; any other is the refusal
@@ -261,11 +261,11 @@ rates-from-number-one κs a r₁ r₂ e₁ e₂ p q = one saysBit (answer foundB
 pub rates-contains-one : (κs : _) (a : _) (r₁ r₂ : _) (e₁ e₂ : _) → rates-contains.Post κs a r₁ e₁ → rates-contains.Post κs a r₂ e₂ → r₁ ≡ r₂
 rates-contains-one κs a r₁ r₂ e₁ e₂ p q = same p q
 
-pub answer-number-one : (κs : _) (a : _) (r₁ r₂ : _) (e₁ e₂ : _) → answer-number.Post κs a r₁ e₁ → answer-number.Post κs a r₂ e₂ → r₁ ≡ r₂
-answer-number-one κs a r₁ r₂ e₁ e₂ p q = same p q
-
-pub refusal-answer-one : (κs : _) (a : _) (r₁ r₂ : _) (e₁ e₂ : _) → refusal-answer.Post κs a r₁ e₁ → refusal-answer.Post κs a r₂ e₂ → r₁ ≡ r₂
-refusal-answer-one κs a r₁ r₂ e₁ e₂ p q = same p q
-
 pub refusal-number-one : (κs : _) (a : _) (r₁ r₂ : _) (e₁ e₂ : _) → refusal-number.Post κs a r₁ e₁ → refusal-number.Post κs a r₂ e₂ → r₁ ≡ r₂
 refusal-number-one κs a r₁ r₂ e₁ e₂ p q = same p q
+
+pub status-is-ok-one : (κs : _) (a : _) (r₁ r₂ : _) (e₁ e₂ : _) → status-is-ok.Post κs a r₁ e₁ → status-is-ok.Post κs a r₂ e₂ → r₁ ≡ r₂
+status-is-ok-one κs a r₁ r₂ e₁ e₂ p q = same p q
+
+pub both-one : (κs : _) (a : _) (r₁ r₂ : _) (e₁ e₂ : _) → both.Post κs a r₁ e₁ → both.Post κs a r₂ e₂ → r₁ ≡ r₂
+both-one κs a r₁ r₂ e₁ e₂ p q = same p q

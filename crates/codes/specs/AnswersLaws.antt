@@ -1,20 +1,23 @@
--- Answers have numbers up to 10: what has a number above them is no answer.
+-- A refusal's number is at least 1, so no refusal is Ok, and below 256, where the C boundary's other answers begin.
 -- Assumes nothing.
-use Prim.Native.Nat.{_≤_}
+use Prim.Native.Nat.{_≤_, _<_}
 use native.Mathlib.Omega.{arith}
-use Rattle.codes.specs.Answers.{saysAnswer}
-use Rattle.codes.specs.declared.answers.Answer.{Answer}
-use Rattle.codes.specs.declared.answers.Answer.the-variants as answer
+use Rattle.codes.specs.Answers.{saysRefusal}
+use Rattle.codes.specs.declared.answers.Refusal.{Refusal}
+use Rattle.codes.specs.declared.answers.Refusal.the-variants as refusal
 
-pub answer-small : (a : Answer) → saysAnswer a .number ≤ 10
-answer-small answer.Ok = omega arith
-answer-small answer.InvalidParam = omega arith
-answer-small answer.IoError = omega arith
-answer-small answer.Unsupported = omega arith
-answer-small answer.NoInfo = omega arith
-answer-small answer.TooMany = omega arith
-answer-small answer.WrongToken = omega arith
-answer-small answer.QueueFailed = omega arith
-answer-small answer.Busy = omega arith
-answer-small answer.OutOfTurns = omega arith
-answer-small answer.BadLength = omega arith
+pub record Numbered (r : Refusal) : Type 0 where
+  pub least : 1 ≤ saysRefusal r .number
+  pub small : saysRefusal r .number < 256
+
+pub numbered : (r : Refusal) → Numbered r
+numbered refusal.InvalidParam = record { least = omega arith; small = omega arith }
+numbered refusal.IoError = record { least = omega arith; small = omega arith }
+numbered refusal.Unsupported = record { least = omega arith; small = omega arith }
+numbered refusal.NoInfo = record { least = omega arith; small = omega arith }
+numbered refusal.TooMany = record { least = omega arith; small = omega arith }
+numbered refusal.WrongToken = record { least = omega arith; small = omega arith }
+numbered refusal.QueueFailed = record { least = omega arith; small = omega arith }
+numbered refusal.Busy = record { least = omega arith; small = omega arith }
+numbered refusal.OutOfTurns = record { least = omega arith; small = omega arith }
+numbered refusal.BadLength = record { least = omega arith; small = omega arith }

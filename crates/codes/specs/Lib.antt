@@ -15,3 +15,4 @@ pub mod FlagsLaws
 pub mod TableLaws
 pub mod RatesLaws
 pub mod AnswersLaws
+pub mod StatusesLaws

@@ -1,10 +1,11 @@
 -- From what a function says back to what held, and the law of uniqueness.
 -- Assumes nothing.
 use mathlib.Core.Path.{_≡_, refl, sym, ap, _∙_}
-use mathlib.Core.Bool.{Bool, true, false}
+use mathlib.Core.Bool.{Bool, true, false, not}
 use mathlib.Core.List.{List, []}
 use Prim.Native.Nat.{ℕ, suc}
 use native.Mathlib.Omega.{arith}
+use borrow.Author.Tests.{not-true, not-false}
 use Rattle.codes.specs.Says.{Says, says, pick, guard}
 
 -- ---- UNIQUENESS: any two outcomes of which an equation says the same are equal.
@@ -35,13 +36,13 @@ refused false n us e = refl
 
 -- ---- a chain of refusals: each test is passed, or stops
 
-pub passes : {A : Type 0} {x : A} (t : Bool) (a b : A) → t ≡ true → x ≡ a → x ≡ guard t a b
+pub passes : {A : Type 0} {x : A} (t : Bool) (a b : A) → t ≡ true → x ≡ b → x ≡ guard t a b
 unfolding guard
-passes t a b e p = p ∙ sym (picks t a b e)
+passes t a b e p = p ∙ sym (picks t b a e)
 
-pub stops : {A : Type 0} {x : A} (t : Bool) (a b : A) → t ≡ false → x ≡ b → x ≡ guard t a b
+pub stops : {A : Type 0} {x : A} (t : Bool) (a b : A) → t ≡ false → x ≡ a → x ≡ guard t a b
 unfolding guard
-stops t a b e p = p ∙ sym (skips t a b e)
+stops t a b e p = p ∙ sym (skips t b a e)
 
 -- what is made of a guard's outcome is made at each of its ends
 pub guard-ap : {A B : Type 0} (f : A → B) (t : Bool) (a b : A) → f (guard t a b) ≡ guard t (f a) (f b)
@@ -50,7 +51,14 @@ guard-ap f true a b = refl
 guard-ap f false a b = refl
 
 -- what holds of both ends of a guard holds of it
-pub guarded-by : {A : Type 0} (P : A → Type 0) (t : Bool) (a b : A) → (t ≡ true → P a) → (t ≡ false → P b) → P (guard t a b)
+pub guarded-by : {A : Type 0} (P : A → Type 0) (t : Bool) (a b : A) → (t ≡ true → P b) → (t ≡ false → P a) → P (guard t a b)
 unfolding guard
 guarded-by P true a b f g = f refl
 guarded-by P false a b f g = g refl
+
+-- what the code knows that went by `if !r`, where r is what a callee said of the test t
+pub failed : {r t : Bool} → r ≡ t → not r ≡ true → t ≡ false
+failed {r} e h = sym e ∙ not-true r h
+
+pub passed : {r t : Bool} → r ≡ t → not r ≡ false → t ≡ true
+passed {r} e h = sym e ∙ not-false r h

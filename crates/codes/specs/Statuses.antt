@@ -1,7 +1,9 @@
 -- "Status 0x8000 ok, 0x8001 bad message, 0x8002 not supported, 0x8003 I/O error."
 -- Assumes nothing.
+use mathlib.Core.Bool.{Bool, false}
 use mathlib.Core.List.{List, [], _∷_}
 use Prim.Native.Nat.{ℕ}
+use lib.Dec.{eqb}
 use Rattle.codes.specs.Says.{Says, says}
 use Rattle.codes.specs.declared.statuses.StatusCode.{StatusCode}
 use Rattle.codes.specs.declared.statuses.StatusCode.the-variants.{SOk, SBadMsg, SNotSupp, SIoErr}
@@ -21,3 +23,7 @@ statusCode SIoErr = 0x8003
 abbrev pub saysStatus : FoundStatus → Says
 saysStatus (found.Is c) = says 0 (statusCode c ∷ [])
 saysStatus found.IoError = says 2 []
+
+abbrev pub isOk : FoundStatus → Bool
+isOk (found.Is c) = eqb (statusCode c) 0x8000
+isOk found.IoError = false

@@ -9,8 +9,8 @@ pub mod position;
 mod rates;
 mod requests;
 mod statuses;
+mod tests;
 
-pub use answers::Answer;
 pub use answers::Refusal;
 pub use events::FoundNotification;
 pub use events::NotificationType;
@@ -28,3 +28,4 @@ pub use requests::FoundRequest;
 pub use requests::RequestCode;
 pub use statuses::FoundStatus;
 pub use statuses::StatusCode;
+pub use tests::both;

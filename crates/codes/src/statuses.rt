@@ -1,7 +1,7 @@
 // Status codes of an answer.
 ghost use mathlib.Core.Path.{_≡_};
 ghost use Rattle.codes.specs.Codes.{codeSays};
-ghost use Rattle.codes.specs.Statuses.{statusCodes, statusCode, saysStatus};
+ghost use Rattle.codes.specs.Statuses.{statusCodes, statusCode, saysStatus, isOk};
 
 pub enum StatusCode {
     SOk,
@@ -45,6 +45,17 @@ impl StatusCode {
             0x8002 => FoundStatus::Is(StatusCode::SNotSupp),
             0x8003 => FoundStatus::Is(StatusCode::SIoErr),
             _ => FoundStatus::IoError,
+        }
+    }
+}
+
+impl FoundStatus {
+    pub fn is_ok(self) -> bool
+        ensures { λ r. ⌜ r ≡ isOk self ⌝ }
+    {
+        match self {
+            FoundStatus::Is(code) => code.code() == StatusCode::OK,
+            FoundStatus::IoError => false,
         }
     }
 }

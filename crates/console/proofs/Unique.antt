@@ -6,8 +6,9 @@ use mathlib.Core.List.{List}
 use Prim.Native.Nat.{ℕ}
 use denote.Ref.{now}
 use Rattle.codes.specs.SaysLaws.{same}
-use Rattle.state_store.specs.Calls.{Told, left, Made, made, Shown, shown}
-use Rattle.console.specs.Entries as entries
+use Rattle.layout.specs.Lent.{Made, made, Shown, shown}
+use Rattle.model_store.specs.Calls as device
+use Rattle.state_store.specs.Calls.{Told, left}
 use Rattle.console.specs.Entries.{Begun, began}
 use Rattle.console.proofs.sizes.snd_state_size.Reads as state-size
 use Rattle.console.proofs.sizes.snd_ring_size.Reads as ring-size
@@ -53,10 +54,6 @@ use Rattle.console.proofs.device.snd_model_payload.Reads as model-paylo
 use Rattle.console.proofs.device.snd_model_params.Reads as model-params
 use Rattle.console.proofs.device.snd_model_played.Reads as model-played
 
--- what is answered, and what the lent slice then holds
-both : {m n answer : ℕ} {x y bytes : List ℕ} → (m ≡ answer) × (x ≡ bytes) → (n ≡ answer) × (y ≡ bytes) → (m ≡ n) × (x ≡ y)
-both p q = (same (p .0) (q .0), same (p .1) (q .1))
-
 left-one : {x : Told} {a b : ℕ} {s t m n r u : List ℕ} → left a s m r ≡ x → left b t n u ≡ x → (a ≡ b) × (s ≡ t) × (m ≡ n) × (r ≡ u)
 left-one p q = let e = same p q in (ap (λ (y : Told). y .answer) e, ap (λ (y : Told). y .state) e, ap (λ (y : Told). y .message) e, ap (λ (y : Told). y .result) e)
 
@@ -64,13 +61,10 @@ began-one : {x : Begun} {a b : ℕ} {s t k l m n : List ℕ} → began a s k m �
 began-one p q = let e = same p q in (ap (λ (y : Begun). y .answer) e, ap (λ (y : Begun). y .state) e, ap (λ (y : Begun). y .ring) e, ap (λ (y : Begun). y .message) e)
 
 made-one : {x : Made} {a b : ℕ} {s t : List ℕ} → made a s ≡ x → made b t ≡ x → (a ≡ b) × (s ≡ t)
-made-one p q = let e = same p q in (ap (λ (y : Made). y .answer) e, ap (λ (y : Made). y .state) e)
+made-one p q = let e = same p q in (ap (λ (y : Made). y .answer) e, ap (λ (y : Made). y .store) e)
 
 shown-one : {x : Shown} {a b : ℕ} {r u : List ℕ} → shown a r ≡ x → shown b u ≡ x → (a ≡ b) × (r ≡ u)
 shown-one p q = let e = same p q in (ap (λ (y : Shown). y .answer) e, ap (λ (y : Shown). y .result) e)
-
-event-one : {x : entries.Shown} {a b : ℕ} {r u : List ℕ} → entries.shown a r ≡ x → entries.shown b u ≡ x → (a ≡ b) × (r ≡ u)
-event-one p q = let e = same p q in (ap (λ (y : entries.Shown). y .answer) e, ap (λ (y : entries.Shown). y .result) e)
 
 pub state-size-one : (κs : _) (a : _) (r₁ r₂ : _) (e₁ e₂ : _) → state-size.Post κs a r₁ e₁ → state-size.Post κs a r₂ e₂ → r₁ ≡ r₂
 state-size-one κs a r₁ r₂ e₁ e₂ p q = same p q
@@ -168,64 +162,64 @@ pcm-xfer-start-one κs a r₁ r₂ e₁ e₂ p q = began-one p q
 
 -- lent: ring
 pub ring-new-one : (κs : _) (a : _) (r₁ r₂ : _) (e₁ e₂ : _) → ring-new.Post κs a r₁ e₁ → ring-new.Post κs a r₂ e₂ → (r₁ ≡ r₂) × (now (e₁ .0) ≡ now (e₂ .0))
-ring-new-one κs a r₁ r₂ e₁ e₂ p q = both p q
+ring-new-one κs a r₁ r₂ e₁ e₂ p q = made-one p q
 
 -- lent: result
 pub offered-one : (κs : _) (a : _) (r₁ r₂ : _) (e₁ e₂ : _) → offered.Post κs a r₁ e₁ → offered.Post κs a r₂ e₂ → (r₁ ≡ r₂) × (now (e₁ .1 .1 .0) ≡ now (e₂ .1 .1 .0))
-offered-one κs a r₁ r₂ e₁ e₂ p q = both p q
+offered-one κs a r₁ r₂ e₁ e₂ p q = shown-one p q
 
 -- lent: ring
 pub turn-one : (κs : _) (a : _) (r₁ r₂ : _) (e₁ e₂ : _) → turn.Post κs a r₁ e₁ → turn.Post κs a r₂ e₂ → (r₁ ≡ r₂) × (now (e₁ .0) ≡ now (e₂ .0))
-turn-one κs a r₁ r₂ e₁ e₂ p q = both p q
+turn-one κs a r₁ r₂ e₁ e₂ p q = made-one p q
 
 pub drain-turn-one : (κs : _) (a : _) (r₁ r₂ : _) (e₁ e₂ : _) → drain-turn.Post κs a r₁ e₁ → drain-turn.Post κs a r₂ e₂ → (r₁ ≡ r₂) × (now (e₁ .0) ≡ now (e₂ .0))
-drain-turn-one κs a r₁ r₂ e₁ e₂ p q = both p q
+drain-turn-one κs a r₁ r₂ e₁ e₂ p q = made-one p q
 
 -- lent: result
 pub ring-running-one : (κs : _) (a : _) (r₁ r₂ : _) (e₁ e₂ : _) → ring-running.Post κs a r₁ e₁ → ring-running.Post κs a r₂ e₂ → (r₁ ≡ r₂) × (now (e₁ .1 .0) ≡ now (e₂ .1 .0))
-ring-running-one κs a r₁ r₂ e₁ e₂ p q = both p q
+ring-running-one κs a r₁ r₂ e₁ e₂ p q = shown-one p q
 
 pub ring-in-flight-one : (κs : _) (a : _) (r₁ r₂ : _) (e₁ e₂ : _) → ring-in-flight.Post κs a r₁ e₁ → ring-in-flight.Post κs a r₂ e₂ → (r₁ ≡ r₂) × (now (e₁ .1 .0) ≡ now (e₂ .1 .0))
-ring-in-flight-one κs a r₁ r₂ e₁ e₂ p q = both p q
+ring-in-flight-one κs a r₁ r₂ e₁ e₂ p q = shown-one p q
 
 pub ring-free-descriptors-one : (κs : _) (a : _) (r₁ r₂ : _) (e₁ e₂ : _) → ring-free-descriptors.Post κs a r₁ e₁ → ring-free-descriptors.Post κs a r₂ e₂ → (r₁ ≡ r₂) × (now (e₁ .1 .0) ≡ now (e₂ .1 .0))
-ring-free-descriptors-one κs a r₁ r₂ e₁ e₂ p q = both p q
+ring-free-descriptors-one κs a r₁ r₂ e₁ e₂ p q = shown-one p q
 
 pub ring-turns-run-one : (κs : _) (a : _) (r₁ r₂ : _) (e₁ e₂ : _) → ring-turns-run.Post κs a r₁ e₁ → ring-turns-run.Post κs a r₂ e₂ → (r₁ ≡ r₂) × (now (e₁ .1 .0) ≡ now (e₂ .1 .0))
-ring-turns-run-one κs a r₁ r₂ e₁ e₂ p q = both p q
+ring-turns-run-one κs a r₁ r₂ e₁ e₂ p q = shown-one p q
 
 pub ring-stream-one : (κs : _) (a : _) (r₁ r₂ : _) (e₁ e₂ : _) → ring-stream.Post κs a r₁ e₁ → ring-stream.Post κs a r₂ e₂ → (r₁ ≡ r₂) × (now (e₁ .1 .0) ≡ now (e₂ .1 .0))
-ring-stream-one κs a r₁ r₂ e₁ e₂ p q = both p q
+ring-stream-one κs a r₁ r₂ e₁ e₂ p q = shown-one p q
 
 pub ring-carried-one : (κs : _) (a : _) (r₁ r₂ : _) (e₁ e₂ : _) → ring-carried.Post κs a r₁ e₁ → ring-carried.Post κs a r₂ e₂ → (r₁ ≡ r₂) × (now (e₁ .1 .1 .0) ≡ now (e₂ .1 .1 .0))
-ring-carried-one κs a r₁ r₂ e₁ e₂ p q = both p q
+ring-carried-one κs a r₁ r₂ e₁ e₂ p q = shown-one p q
 
 pub ring-oldest-one : (κs : _) (a : _) (r₁ r₂ : _) (e₁ e₂ : _) → ring-oldest.Post κs a r₁ e₁ → ring-oldest.Post κs a r₂ e₂ → (r₁ ≡ r₂) × (now (e₁ .1 .0) ≡ now (e₂ .1 .0))
-ring-oldest-one κs a r₁ r₂ e₁ e₂ p q = both p q
+ring-oldest-one κs a r₁ r₂ e₁ e₂ p q = shown-one p q
 
 -- lent: result
 pub latest-notification-one : (κs : _) (a : _) (r₁ r₂ : _) (e₁ e₂ : _) → latest-notification.Post κs a r₁ e₁ → latest-notification.Post κs a r₂ e₂ → (r₁ ≡ r₂) × (now (e₁ .1 .0) ≡ now (e₂ .1 .0))
-latest-notification-one κs a r₁ r₂ e₁ e₂ p q = event-one p q
+latest-notification-one κs a r₁ r₂ e₁ e₂ p q = shown-one p q
 
 -- lent: model
 pub model-new-one : (κs : _) (a : _) (r₁ r₂ : _) (e₁ e₂ : _) → model-new.Post κs a r₁ e₁ → model-new.Post κs a r₂ e₂ → (r₁ ≡ r₂) × (now (e₁ .0) ≡ now (e₂ .0))
-model-new-one κs a r₁ r₂ e₁ e₂ p q = both p q
+model-new-one κs a r₁ r₂ e₁ e₂ p q = made-one p q
 
 -- lent: model, page, result
 pub model-control-one : (κs : _) (a : _) (r₁ r₂ : _) (e₁ e₂ : _) → model-control.Post κs a r₁ e₁ → model-control.Post κs a r₂ e₂
     → (r₁ ≡ r₂) × (now (e₁ .0) ≡ now (e₂ .0)) × (now (e₁ .1 .1 .0) ≡ now (e₂ .1 .1 .0)) × (now (e₁ .1 .1 .1 .0) ≡ now (e₂ .1 .1 .1 .0))
-model-control-one κs a r₁ r₂ e₁ e₂ p q = (same (p .0) (q .0), same (p .1 .0) (q .1 .0), same (p .1 .1 .0) (q .1 .1 .0), same (p .1 .1 .1) (q .1 .1 .1))
+model-control-one κs a r₁ r₂ e₁ e₂ p q = let e = same p q in (ap (λ (y : device.Told). y .answer) e, ap (λ (y : device.Told). y .store) e, ap (λ (y : device.Told). y .page) e, ap (λ (y : device.Told). y .result) e)
 
 -- lent: model, answer
 pub model-transfer-one : (κs : _) (a : _) (r₁ r₂ : _) (e₁ e₂ : _) → model-transfer.Post κs a r₁ e₁ → model-transfer.Post κs a r₂ e₂ → (r₁ ≡ r₂) × (now (e₁ .0) ≡ now (e₂ .0)) × (now (e₁ .1 .1 .0) ≡ now (e₂ .1 .1 .0))
-model-transfer-one κs a r₁ r₂ e₁ e₂ p q = (same (p .0) (q .0), same (p .1 .0) (q .1 .0), same (p .1 .1) (q .1 .1))
+model-transfer-one κs a r₁ r₂ e₁ e₂ p q = let e = same p q in (ap (λ (y : device.Transferred). y .answer) e, ap (λ (y : device.Transferred). y .store) e, ap (λ (y : device.Transferred). y .status) e)
 
 -- lent: result
 pub model-payload-one : (κs : _) (a : _) (r₁ r₂ : _) (e₁ e₂ : _) → model-payload.Post κs a r₁ e₁ → model-payload.Post κs a r₂ e₂ → (r₁ ≡ r₂) × (now (e₁ .1 .1 .0) ≡ now (e₂ .1 .1 .0))
-model-payload-one κs a r₁ r₂ e₁ e₂ p q = both p q
+model-payload-one κs a r₁ r₂ e₁ e₂ p q = shown-one p q
 
 pub model-params-one : (κs : _) (a : _) (r₁ r₂ : _) (e₁ e₂ : _) → model-params.Post κs a r₁ e₁ → model-params.Post κs a r₂ e₂ → (r₁ ≡ r₂) × (now (e₁ .1 .1 .0) ≡ now (e₂ .1 .1 .0))
-model-params-one κs a r₁ r₂ e₁ e₂ p q = both p q
+model-params-one κs a r₁ r₂ e₁ e₂ p q = shown-one p q
 
 pub model-played-one : (κs : _) (a : _) (r₁ r₂ : _) (e₁ e₂ : _) → model-played.Post κs a r₁ e₁ → model-played.Post κs a r₂ e₂ → (r₁ ≡ r₂) × (now (e₁ .1 .1 .0) ≡ now (e₂ .1 .1 .0))
-model-played-one κs a r₁ r₂ e₁ e₂ p q = both p q
+model-played-one κs a r₁ r₂ e₁ e₂ p q = shown-one p q

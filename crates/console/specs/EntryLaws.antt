@@ -27,6 +27,9 @@ use Rattle.turns.specs.Calls.{startCall, startedOf}
 use Rattle.turns.specs.declared.ring.Track.{Track}
 use Rattle.exchange.specs.Xfer.{xferBy, refusedStep, setUpStep, startStep, startOf}
 use Rattle.exchange.specs.StepLaws.{xfer-ap}
+use Rattle.ring_store.specs.Store.{ringSize}
+use Rattle.state_store.specs.Places.{stateSize}
+use Rattle.layout.specs.Lent.{Shown, shown, resultSize}
 use Rattle.ring_store.specs.Store.{trackAt, ringOf}
 use Rattle.ring_store.specs.Calls.{leftBy, startIn}
 use Rattle.state_store.specs.Store.{whole, soundOf, stateAfter}
@@ -34,7 +37,7 @@ use Rattle.state_store.specs.RefusedLaws.{state-kept}
 use Rattle.state_store.specs.Calls.{Opened, opened, shut, settingUp, openIn}
 use Rattle.state_store.specs.declared.calls.Opening.{Opening}
 use Rattle.state_store.specs.declared.calls.Opening.the-variants as opening
-use Rattle.console.specs.Entries.{Begun, began, begun, startEntry, Shown, shown, noticeEntry}
+use Rattle.console.specs.Entries.{Begun, began, begun, startEntry, noticeEntry}
 
 -- ---- an event
 
@@ -45,7 +48,7 @@ noticed notice.IoError r = shown 2 r
 noticed notice.Nothing r = shown 513 r
 
 notice-by : (t : Bool) (x : Says) (r : List ℕ) (n : Notice) → saysNotice n ≡ pick t x (says 0 []) → (says 0 [] ≡ x → ⊥)
-    → noticed n r ≡ guard t (record { answer = x .number; result = sets r 0 (rowsBytes (le 4) (x .values)) }) (shown 513 r)
+    → noticed n r ≡ guard t (shown 513 r) (shown (x .number) (sets r 0 (rowsBytes (le 4) (x .values))))
 unfolding guard rowsBytes
 notice-by true x r (notice.Is k d) e h = ap (λ (y : Says). shown (y .number) (sets r 0 (rowsBytes (le 4) (y .values)))) e
 notice-by true x r notice.IoError e h = ap (λ (y : Says). shown (y .number) (sets r 0 (rowsBytes (le 4) (y .values)))) e
@@ -59,7 +62,7 @@ says-something : (t : Bool) (a b : ℕ) → says 0 [] ≡ pick t (says 0 (a ∷ 
 says-something true a b e = let z : _≡_ {A = ℕ} 0 2 = ap (λ (y : Says). length (y .values)) e in omega arith
 says-something false a b e = let z : _≡_ {A = ℕ} 0 2 = ap (λ (y : Says). y .number) e in omega arith
 
-pub noticed-is : (e r : List ℕ) (n : Notice) → leb 512 (length r) ≡ true → saysNotice n ≡ noticeSays e → noticed n r ≡ noticeEntry e r
+pub noticed-is : (e r : List ℕ) (n : Notice) → leb resultSize (length r) ≡ true → saysNotice n ≡ noticeSays e → noticed n r ≡ noticeEntry e r
 unfolding noticeEntry
 noticed-is e r n long h = passes _ _ _ long (notice-by (eqb (length e) 8) (eventSays (read event e)) r n h (says-something (among (numAt 0 4 e) eventCodes) (numAt 0 4 e) (numAt 4 4 e)))
 
@@ -79,9 +82,9 @@ no-room true b e = e
 no-room false b e = refl
 
 -- a ring that is too short
-pub short-ring : (s ring : List ℕ) (stream len budget : ℕ) (m : List ℕ) → leb 592 (length ring) ≡ false → began 10 s ring m ≡ startEntry s ring stream len budget m
+pub short-ring : (s ring : List ℕ) (stream len budget : ℕ) (m : List ℕ) → leb ringSize (length ring) ≡ false → began 10 s ring m ≡ startEntry s ring stream len budget m
 unfolding startEntry
-short-ring s ring stream len budget m e = stops _ _ _ (no-room (leb 14304 (length s)) (leb 592 (length ring)) e) refl
+short-ring s ring stream len budget m e = stops _ _ _ (no-room (leb stateSize (length s)) (leb ringSize (length ring)) e) refl
 
 -- a state that is written over the store that holds it
 unchanged : (s : List ℕ) → Bytes s → stateAfter s (soundOf s) ≡ s
@@ -91,12 +94,12 @@ module _ (s ring : List ℕ) (stream len budget : ℕ) where
   -- what an opening comes to, with the ring's own start where a transfer begins
   abbrev pub startOpening : Opening → List ℕ → List ℕ → Begun
   startOpening (opening.Says n) st m = began n st ring m
-  startOpening (opening.Open period) st m = let l = startIn ring stream len period budget in began (l .answer) st (l .ring) m
+  startOpening (opening.Open period) st m = let l = startIn ring stream len period budget in began (l .answer) st (l .store) m
 
   abbrev pub startBy : Opened → Begun
   startBy o = startOpening (o .opening) (o .state) (o .message)
 
-  module _ (m : List ℕ) (bytes : Bytes s) (room : leb 592 (length ring) ≡ true) where
+  module _ (m : List ℕ) (bytes : Bytes s) (room : leb ringSize (length ring) ≡ true) where
     -- each end of the checks
     refused-end : (x : Refusal) → startBy (shut s m x) ≡ begun s ring stream m (refusedStep (soundOf s) (ringOf ring) x)
     refused-end x = ap (λ (l : List ℕ). began (saysRefusal x .number) l ring m) (sym (unchanged s bytes))
@@ -110,10 +113,11 @@ module _ (s ring : List ℕ) (stream len budget : ℕ) where
     open-end period =
         let u = startedOf (ringOf ring) (startCall (trackAt ring) stream len period budget) in
         let p : startIn ring stream len period budget ≡ leftBy ring u = sym (passes _ _ _ room refl) in
-        λ i. began (p i .answer) (sym (unchanged s bytes) i) (p i .ring) m
+        λ i. began (p i .answer) (sym (unchanged s bytes) i) (p i .store) m
 
     ends : (a b : Bool) → startBy (xferBy (a && b) (soundOf s) (trackAt ring) stream (shut s m) (settingUp s stream m) (λ period. record { opening = opening.Open period; state = s; message = m }))
-        ≡ guard (a && leb 592 (length ring)) (begun s ring stream m (xferBy b (soundOf s) (trackAt ring) stream (refusedStep (soundOf s) (ringOf ring)) (setUpStep (soundOf s) (ringOf ring) stream) (λ period. startStep (soundOf s) (ringOf ring) (startedOf (ringOf ring) (startCall (trackAt ring) stream len period budget))))) (began 10 s ring m)
+        ≡ guard (a && leb ringSize (length ring)) (began 10 s ring m)
+        (begun s ring stream m (xferBy b (soundOf s) (trackAt ring) stream (refusedStep (soundOf s) (ringOf ring)) (setUpStep (soundOf s) (ringOf ring) stream) (λ period. startStep (soundOf s) (ringOf ring) (startedOf (ringOf ring) (startCall (trackAt ring) stream len period budget)))))
     unfolding guard
     ends true b =
         passes _ _ _ room
@@ -124,7 +128,7 @@ module _ (s ring : List ℕ) (stream len budget : ℕ) where
 
     pub start-is : startBy (openIn s (trackAt ring) stream m) ≡ startEntry s ring stream len budget m
     unfolding openIn startEntry startOf ringOf
-    start-is = ends (leb 14304 (length s)) (leb 24 (length m))
+    start-is = ends (leb stateSize (length s)) (leb 24 (length m))
 
     pub started : (o q : Opening) (st after : List ℕ) (t : Track) → q ≡ o → t ≡ trackAt ring → opened q st after ≡ openIn s t stream m → startOpening o st after ≡ startEntry s ring stream len budget m
     started o q st after t d e p = ap (λ (x : Opening). startOpening x st after) (sym d) ∙ ap startBy (p ∙ ap (λ (x : Track). openIn s x stream m) e) ∙ start-is

@@ -9,6 +9,7 @@ use lib.Dec.{lit<, leb}
 use lib.ListN.{length}
 use borrow.Author.Tests.{le-leb, leb-true, leb-false}
 use Rattle.layout.specs.Bytes.{Bytes}
+use Rattle.layout.specs.Lent.{Made}
 use Rattle.layout.specs.BytesLaws.{numAt-below}
 use Rattle.codes.specs.SaysLaws.{passes}
 use Rattle.turns.specs.Calls.{startCall, startedOf}
@@ -16,10 +17,12 @@ use Rattle.exchange.specs.State.{paramsOf}
 use Rattle.exchange.specs.ConsistentLaws.{both-of}
 use Rattle.exchange.specs.Xfer.{startStep, startOf}
 use Rattle.exchange.specs.XferLaws.{start-by}
-use Rattle.exchange.specs.declared.state.Params.{Params}
+use Rattle.core.specs.declared.state.Params.{Params}
 use Rattle.exchange.specs.declared.xfer.XferStep.{XferStep}
+use Rattle.ring_store.specs.Store.{ringSize}
+use Rattle.state_store.specs.Places.{stateSize, paramsPlace}
 use Rattle.ring_store.specs.Store.{trackAt, ringOf}
-use Rattle.ring_store.specs.Calls.{Left, leftBy, startIn}
+use Rattle.ring_store.specs.Calls.{leftBy, startIn}
 use Rattle.ring_store.specs.Holds.{start-holds}
 use Rattle.state_store.specs.Store.{paramsAt, soundOf}
 use Rattle.state_store.specs.Calls.{openIn}
@@ -38,13 +41,13 @@ period-below s i b = by (leb 127 i) refl
     by : (t : Bool) → leb 127 i ≡ t → paramsOf (soundOf s) i .period < 256 ^ 4
     by true e = subst (λ (p : Params). p .period < 256 ^ 4) (sym (params-out s i (leb-true 127 i e))) (lit< tt)
     by false e =
-        subst (λ (p : Params). p .period < 256 ^ 4) (params-in s i (paramsAt (12272 + i * 16) s) (omega (arith, leb-false 127 i e)) refl) (numAt-below (12272 + i * 16 + 8) 4 s b)
+        subst (λ (p : Params). p .period < 256 ^ 4) (params-in s i (paramsAt (paramsPlace + i * 16) s) (omega (arith, leb-false 127 i e)) refl) (numAt-below (paramsPlace + i * 16 + 8) 4 s b)
 
-module _ (s ring m : List ℕ) (b : Bytes s) (c : Bytes ring) (h : 14304 ≤ length s) (k : 592 ≤ length ring) (stream len budget : ℕ) where
+module _ (s ring m : List ℕ) (b : Bytes s) (c : Bytes ring) (h : stateSize ≤ length s) (k : ringSize ≤ length ring) (stream len budget : ℕ) where
   -- the stores are long enough
-  entry-is : startEntry s ring stream len budget m ≡ begun s ring stream m (startOf (soundOf s) (ringOf ring) stream len budget (length m))
+  pub entry-is : startEntry s ring stream len budget m ≡ begun s ring stream m (startOf (soundOf s) (ringOf ring) stream len budget (length m))
   unfolding startEntry
-  entry-is = sym (passes _ _ _ (both-of (leb 14304 (length s)) (leb 592 (length ring)) (le-leb 14304 (length s) h) (le-leb 592 (length ring) k)) refl)
+  entry-is = sym (passes _ _ _ (both-of (leb stateSize (length s)) (leb ringSize (length ring)) (le-leb stateSize (length s) h) (le-leb ringSize (length ring) k)) refl)
 
   abbrev Holds : XferStep → Type 0
   Holds x = ringOf (begun s ring stream m x .ring) ≡ x .ring
@@ -56,8 +59,8 @@ module _ (s ring m : List ℕ) (b : Bytes s) (c : Bytes ring) (h : 14304 ≤ len
     goes =
         let period = paramsOf (soundOf s) stream .period in
         let below : period < 256 ^ 8 = omega (arith, period-below s stream b) in
-        let own : leftBy ring (startedOf (ringOf ring) (startCall (trackAt ring) stream len period budget)) ≡ startIn ring stream len period budget = passes _ _ _ (le-leb 592 (length ring) k) refl in
-        ap (λ (l : Left). ringOf (l .ring)) own ∙ start-holds ring stream len period budget c k p q below r
+        let own : leftBy ring (startedOf (ringOf ring) (startCall (trackAt ring) stream len period budget)) ≡ startIn ring stream len period budget = passes _ _ _ (le-leb ringSize (length ring) k) refl in
+        ap (λ (l : Made). ringOf (l .store)) own ∙ start-holds ring stream len period budget c k p q below r
 
     -- THE RING THAT THE ENTRY LEAVES IN ITS STORE is the one that the start by value leaves
     pub start-entry-holds : ringOf (startEntry s ring stream len budget m .ring) ≡ startOf (soundOf s) (ringOf ring) stream len budget (length m) .ring
@@ -72,6 +75,6 @@ module _ (s ring m : List ℕ) (b : Bytes s) (c : Bytes ring) (h : 14304 ≤ len
   unfolding ringOf
   start-entry-state-holds p =
       let o = openIn s (trackAt ring) stream m in
-      ap (λ (x : Begun). soundOf (x .state)) (sym (start-is s ring stream len budget m b (le-leb 592 (length ring) k)))
+      ap (λ (x : Begun). soundOf (x .state)) (sym (start-is s ring stream len budget m b (le-leb ringSize (length ring) k)))
       ∙ ap soundOf (opening-state (o .opening) (o .state) (o .message))
       ∙ open-holds s m b h (ringOf ring) stream p len budget

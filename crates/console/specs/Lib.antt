@@ -2,5 +2,6 @@
 pub mod Entries
 -- theorems
 pub mod Holds
+pub mod Demand
 -- laws
 pub mod EntryLaws

@@ -1,17 +1,17 @@
 // The calls: state and ring as lent stores, a message to send, a result.
 ghost use mathlib.Core.Path.{_≡_};
 ghost use lib.ListN.{length};
-ghost use Rattle.exchange.specs.State.{askedParams};
-ghost use Rattle.exchange.specs.declared.state.Kind.the-variants.{Prepare, Release, Start, Stop};
-ghost use Rattle.exchange.specs.declared.state.Field.the-variants.{Rates, Formats, Channels, Features};
-ghost use Rattle.exchange.specs.declared.state.Call.the-variants as calls;
+ghost use Rattle.core.specs.State.{askedParams};
+ghost use Rattle.core.specs.declared.state.Kind.the-variants.{Prepare, Release, Start, Stop};
+ghost use Rattle.core.specs.declared.state.Field.the-variants.{Rates, Formats, Channels, Features};
+ghost use Rattle.core.specs.declared.state.Call.the-variants as calls;
 ghost use Rattle.state_store.specs.Calls.{left, feedIn, failIn};
 ghost use Rattle.console.specs.Entries.{callEntry};
 use codes::direction;
-use exchange::Call;
-use exchange::Field;
-use exchange::Kind;
-use exchange::Params;
+use core::Call;
+use core::Field;
+use core::Kind;
+use core::Params;
 
 // The answer to a slice that is too short.
 pub(crate) const BAD_LENGTH: u64 = 10;

@@ -1,6 +1,7 @@
 // An event.
 ghost use mathlib.Core.Path.{_≡_};
-ghost use Rattle.console.specs.Entries.{shown, noticeEntry};
+ghost use Rattle.layout.specs.Lent.{shown};
+ghost use Rattle.console.specs.Entries.{noticeEntry};
 use crate::calls::BAD_LENGTH;
 use records::Notice;
 use records::latest_notification;
@@ -12,7 +13,7 @@ const NOTHING: u64 = 513;
 pub extern "C" fn snd_latest_notification(event: &[u8], result: &mut [u8]) -> u64
     ensures { λ r. ⌜ shown r (now (result .exit)) ≡ noticeEntry (now (event .entry)) (now (result .entry)) ⌝ }
 {
-    if result.len() < 512 {
+    if result.len() < state_store::RESULT {
         return BAD_LENGTH;
     }
     match latest_notification(event) {

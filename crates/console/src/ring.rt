@@ -3,11 +3,12 @@ ghost use mathlib.Core.Path.{_≡_};
 ghost use lib.ListN.{length};
 ghost use Rattle.turns.specs.Reads.{runningOf, inFlightOf, freeOf, turnsOf, streamOf, carriedOf};
 ghost use Rattle.ring_store.specs.Store.{trackAt, ringOf};
-ghost use Rattle.ring_store.specs.Calls.{newIn, turnIn, drainIn, offerIn, shown, oldestSays};
+ghost use Rattle.ring_store.specs.Calls.{newIn, turnIn, drainIn, offerIn, toldIn, oldestSays};
+ghost use Rattle.layout.specs.Lent.{made, shown};
 
 #[no_mangle]
 pub extern "C" fn snd_ring_new(ring: &mut [u8]) -> u64
-    ensures { λ r. ⌜ (r ≡ newIn (now (ring .entry)) .answer) × (now (ring .exit) ≡ newIn (now (ring .entry)) .ring) ⌝ }
+    ensures { λ r. ⌜ made r (now (ring .exit)) ≡ newIn (now (ring .entry)) ⌝ }
 {
     ring_store::new(ring)
 }
@@ -15,70 +16,70 @@ pub extern "C" fn snd_ring_new(ring: &mut [u8]) -> u64
 // What the next turn submits: submit it to the device, poll, then call `snd_turn`.
 #[no_mangle]
 pub extern "C" fn snd_offered(ring: &[u8], frames: &[u8], result: &mut [u8]) -> u64
-    ensures { λ r. ⌜ (r ≡ offerIn (now (ring .entry)) (length (now (frames .entry))) (now (result .entry)) .answer) × (now (result .exit) ≡ offerIn (now (ring .entry)) (length (now (frames .entry))) (now (result .entry)) .result) ⌝ }
+    ensures { λ r. ⌜ shown r (now (result .exit)) ≡ offerIn (now (ring .entry)) (length (now (frames .entry))) (now (result .entry)) ⌝ }
 {
     ring_store::offered(ring, frames.len(), result)
 }
 
 #[no_mangle]
 pub extern "C" fn snd_turn(ring: &mut [u8], frames: &[u8], kind: u32, slot: u32, status: u32) -> u64
-    ensures { λ r. ⌜ (r ≡ turnIn (now (ring .entry)) (length (now (frames .entry))) kind slot status .answer) × (now (ring .exit) ≡ turnIn (now (ring .entry)) (length (now (frames .entry))) kind slot status .ring) ⌝ }
+    ensures { λ r. ⌜ made r (now (ring .exit)) ≡ turnIn (now (ring .entry)) (length (now (frames .entry))) kind slot status ⌝ }
 {
     ring_store::turn(ring, frames.len(), kind, slot, status)
 }
 
 #[no_mangle]
 pub extern "C" fn snd_drain_turn(ring: &mut [u8], kind: u32, slot: u32, status: u32) -> u64
-    ensures { λ r. ⌜ (r ≡ drainIn (now (ring .entry)) kind slot status .answer) × (now (ring .exit) ≡ drainIn (now (ring .entry)) kind slot status .ring) ⌝ }
+    ensures { λ r. ⌜ made r (now (ring .exit)) ≡ drainIn (now (ring .entry)) kind slot status ⌝ }
 {
     ring_store::drain_turn(ring, kind, slot, status)
 }
 
 #[no_mangle]
 pub extern "C" fn snd_ring_running(ring: &[u8], result: &mut [u8]) -> u64
-    ensures { λ r. ⌜ (r ≡ shown (now (ring .entry)) (now (result .entry)) (runningOf (trackAt (now (ring .entry)))) .answer) × (now (result .exit) ≡ shown (now (ring .entry)) (now (result .entry)) (runningOf (trackAt (now (ring .entry)))) .result) ⌝ }
+    ensures { λ r. ⌜ shown r (now (result .exit)) ≡ toldIn (now (ring .entry)) (now (result .entry)) (runningOf (trackAt (now (ring .entry)))) ⌝ }
 {
     ring_store::running(ring, result)
 }
 
 #[no_mangle]
 pub extern "C" fn snd_ring_in_flight(ring: &[u8], result: &mut [u8]) -> u64
-    ensures { λ r. ⌜ (r ≡ shown (now (ring .entry)) (now (result .entry)) (inFlightOf (trackAt (now (ring .entry)))) .answer) × (now (result .exit) ≡ shown (now (ring .entry)) (now (result .entry)) (inFlightOf (trackAt (now (ring .entry)))) .result) ⌝ }
+    ensures { λ r. ⌜ shown r (now (result .exit)) ≡ toldIn (now (ring .entry)) (now (result .entry)) (inFlightOf (trackAt (now (ring .entry)))) ⌝ }
 {
     ring_store::in_flight(ring, result)
 }
 
 #[no_mangle]
 pub extern "C" fn snd_ring_free_descriptors(ring: &[u8], result: &mut [u8]) -> u64
-    ensures { λ r. ⌜ (r ≡ shown (now (ring .entry)) (now (result .entry)) (freeOf (trackAt (now (ring .entry)))) .answer) × (now (result .exit) ≡ shown (now (ring .entry)) (now (result .entry)) (freeOf (trackAt (now (ring .entry)))) .result) ⌝ }
+    ensures { λ r. ⌜ shown r (now (result .exit)) ≡ toldIn (now (ring .entry)) (now (result .entry)) (freeOf (trackAt (now (ring .entry)))) ⌝ }
 {
     ring_store::free_descriptors(ring, result)
 }
 
 #[no_mangle]
 pub extern "C" fn snd_ring_turns_run(ring: &[u8], result: &mut [u8]) -> u64
-    ensures { λ r. ⌜ (r ≡ shown (now (ring .entry)) (now (result .entry)) (turnsOf (trackAt (now (ring .entry)))) .answer) × (now (result .exit) ≡ shown (now (ring .entry)) (now (result .entry)) (turnsOf (trackAt (now (ring .entry)))) .result) ⌝ }
+    ensures { λ r. ⌜ shown r (now (result .exit)) ≡ toldIn (now (ring .entry)) (now (result .entry)) (turnsOf (trackAt (now (ring .entry)))) ⌝ }
 {
     ring_store::turns_run(ring, result)
 }
 
 #[no_mangle]
 pub extern "C" fn snd_ring_stream(ring: &[u8], result: &mut [u8]) -> u64
-    ensures { λ r. ⌜ (r ≡ shown (now (ring .entry)) (now (result .entry)) (streamOf (trackAt (now (ring .entry)))) .answer) × (now (result .exit) ≡ shown (now (ring .entry)) (now (result .entry)) (streamOf (trackAt (now (ring .entry)))) .result) ⌝ }
+    ensures { λ r. ⌜ shown r (now (result .exit)) ≡ toldIn (now (ring .entry)) (now (result .entry)) (streamOf (trackAt (now (ring .entry)))) ⌝ }
 {
     ring_store::stream(ring, result)
 }
 
 #[no_mangle]
 pub extern "C" fn snd_ring_carried(ring: &[u8], slot: usize, result: &mut [u8]) -> u64
-    ensures { λ r. ⌜ (r ≡ shown (now (ring .entry)) (now (result .entry)) (carriedOf (ringOf (now (ring .entry))) slot) .answer) × (now (result .exit) ≡ shown (now (ring .entry)) (now (result .entry)) (carriedOf (ringOf (now (ring .entry))) slot) .result) ⌝ }
+    ensures { λ r. ⌜ shown r (now (result .exit)) ≡ toldIn (now (ring .entry)) (now (result .entry)) (carriedOf (ringOf (now (ring .entry))) slot) ⌝ }
 {
     ring_store::carried(ring, slot, result)
 }
 
 #[no_mangle]
 pub extern "C" fn snd_ring_oldest(ring: &[u8], result: &mut [u8]) -> u64
-    ensures { λ r. ⌜ (r ≡ shown (now (ring .entry)) (now (result .entry)) (oldestSays (trackAt (now (ring .entry)))) .answer) × (now (result .exit) ≡ shown (now (ring .entry)) (now (result .entry)) (oldestSays (trackAt (now (ring .entry)))) .result) ⌝ }
+    ensures { λ r. ⌜ shown r (now (result .exit)) ≡ toldIn (now (ring .entry)) (now (result .entry)) (oldestSays (trackAt (now (ring .entry)))) ⌝ }
 {
     ring_store::oldest(ring, result)
 }

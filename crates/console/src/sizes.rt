@@ -1,21 +1,22 @@
 // Sizes of the stores and buffers.
 ghost use mathlib.Core.Path.{_≡_};
-use exchange::MESSAGE;
+ghost use Rattle.layout.specs.Lent.{resultSize};
+ghost use Rattle.model_store.specs.Store.{deviceSize};
+ghost use Rattle.ring_store.specs.Store.{ringSize};
+ghost use Rattle.state_store.specs.Places.{stateSize};
+use core::MESSAGE;
 use tables::PAGE;
-
-// A result slice: the longest result is a list of 127 streams with its count.
-const RESULT: u64 = 512;
 
 #[no_mangle]
 pub extern "C" fn snd_state_size() -> u64
-    ensures { λ r. ⌜ r ≡ 14304 ⌝ }
+    ensures { λ r. ⌜ r ≡ stateSize ⌝ }
 {
     state_store::size()
 }
 
 #[no_mangle]
 pub extern "C" fn snd_ring_size() -> u64
-    ensures { λ r. ⌜ r ≡ 592 ⌝ }
+    ensures { λ r. ⌜ r ≡ ringSize ⌝ }
 {
     ring_store::size()
 }
@@ -29,9 +30,9 @@ pub extern "C" fn snd_message_size() -> u64
 
 #[no_mangle]
 pub extern "C" fn snd_result_size() -> u64
-    ensures { λ r. ⌜ r ≡ 512 ⌝ }
+    ensures { λ r. ⌜ r ≡ resultSize ⌝ }
 {
-    RESULT
+    state_store::RESULT as u64
 }
 
 #[no_mangle]
@@ -43,7 +44,7 @@ pub extern "C" fn snd_page_size() -> u64
 
 #[no_mangle]
 pub extern "C" fn snd_model_size() -> u64
-    ensures { λ r. ⌜ r ≡ 16427 ⌝ }
+    ensures { λ r. ⌜ r ≡ deviceSize ⌝ }
 {
     model_store::size()
 }

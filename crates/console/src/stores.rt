@@ -1,6 +1,7 @@
 // A new state, and the configured counts.
 ghost use mathlib.Core.Path.{_≡_};
-ghost use Rattle.state_store.specs.Calls.{made, newIn, shown, jackCount, streamCount, mapCount, countIn};
+ghost use Rattle.layout.specs.Lent.{made, shown};
+ghost use Rattle.state_store.specs.Calls.{newIn, jackCount, streamCount, mapCount, countIn};
 
 #[no_mangle]
 pub extern "C" fn snd_new(state: &mut [u8], jacks: u32, streams: u32, chmaps: u32) -> u64

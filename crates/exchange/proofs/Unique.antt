@@ -7,22 +7,13 @@ use lib.Dec.{eqb}
 use lib.ListN.{getD}
 use Rattle.codes.specs.Says.{Says, pick}
 use Rattle.codes.specs.SaysLaws.{same, one}
-use Rattle.exchange.specs.Consistent.{saysConfigured}
+use Rattle.exchange.specs.State.{saysConfigured}
 use Rattle.exchange.specs.declared.state.Configured.{Configured}
 use Rattle.exchange.specs.declared.state.Configured.the-variants as configured
 use Rattle.exchange.proofs.state.Sound.new.Reads as new
 use Rattle.exchange.proofs.state.Sound.jacks.Reads as jacks
 use Rattle.exchange.proofs.state.Sound.streams.Reads as streams
 use Rattle.exchange.proofs.state.Sound.chmaps.Reads as chmaps
-use Rattle.exchange.proofs.consistency.consistent.Reads as consistent
-use Rattle.exchange.proofs.consistency.params_ok.Reads as params-ok
-use Rattle.exchange.proofs.consistency.stream_ok.Reads as stream-ok
-use Rattle.exchange.proofs.decide.begin.Reads as begin
-use Rattle.exchange.proofs.decide.answer.Reads as answer
-use Rattle.exchange.proofs.decide.ask_jacks.Reads as ask-jacks
-use Rattle.exchange.proofs.effect.verdict_by.Reads as verdict-by
-use Rattle.exchange.proofs.xfer.xfer_gate.Reads as xfer-gate
-use Rattle.exchange.proofs.calls.tell.Reads as tell
 use Rattle.exchange.proofs.calls.jack_remap.Reads as jack-remap
 use Rattle.exchange.proofs.calls.pcm_set_params.Reads as pcm-set-params
 use Rattle.exchange.proofs.calls.pcm_prepare.Reads as pcm-prepare
@@ -60,77 +51,50 @@ streams-one κs a r₁ r₂ e₁ e₂ p q = one saysConfigured unConfigured un-c
 pub chmaps-one : (κs : _) (a : _) (r₁ r₂ : _) (e₁ e₂ : _) → chmaps.Post κs a r₁ e₁ → chmaps.Post κs a r₂ e₂ → r₁ ≡ r₂
 chmaps-one κs a r₁ r₂ e₁ e₂ p q = one saysConfigured unConfigured un-configured p q
 
-pub consistent-one : (κs : _) (a : _) (r₁ r₂ : _) (e₁ e₂ : _) → consistent.Post κs a r₁ e₁ → consistent.Post κs a r₂ e₂ → r₁ ≡ r₂
-consistent-one κs a r₁ r₂ e₁ e₂ p q = same p q
-
-pub params-ok-one : (κs : _) (a : _) (r₁ r₂ : _) (e₁ e₂ : _) → params-ok.Post κs a r₁ e₁ → params-ok.Post κs a r₂ e₂ → r₁ ≡ r₂
-params-ok-one κs a r₁ r₂ e₁ e₂ p q = same p q
-
-pub stream-ok-one : (κs : _) (a : _) (r₁ r₂ : _) (e₁ e₂ : _) → stream-ok.Post κs a r₁ e₁ → stream-ok.Post κs a r₂ e₂ → r₁ ≡ r₂
-stream-ok-one κs a r₁ r₂ e₁ e₂ p q = same p q
-
-pub begin-one : (κs : _) (a : _) (r₁ r₂ : _) (e₁ e₂ : _) → begin.Post κs a r₁ e₁ → begin.Post κs a r₂ e₂ → r₁ ≡ r₂
-begin-one κs a r₁ r₂ e₁ e₂ p q = same p q
-
-pub answer-one : (κs : _) (a : _) (r₁ r₂ : _) (e₁ e₂ : _) → answer.Post κs a r₁ e₁ → answer.Post κs a r₂ e₂ → r₁ ≡ r₂
-answer-one κs a r₁ r₂ e₁ e₂ p q = same p q
-
-pub ask-jacks-one : (κs : _) (a : _) (r₁ r₂ : _) (e₁ e₂ : _) → ask-jacks.Post κs a r₁ e₁ → ask-jacks.Post κs a r₂ e₂ → r₁ ≡ r₂
-ask-jacks-one κs a r₁ r₂ e₁ e₂ p q = same p q
-
-pub verdict-by-one : (κs : _) (a : _) (r₁ r₂ : _) (e₁ e₂ : _) → verdict-by.Post κs a r₁ e₁ → verdict-by.Post κs a r₂ e₂ → r₁ ≡ r₂
-verdict-by-one κs a r₁ r₂ e₁ e₂ p q = same p q
-
-pub xfer-gate-one : (κs : _) (a : _) (r₁ r₂ : _) (e₁ e₂ : _) → xfer-gate.Post κs a r₁ e₁ → xfer-gate.Post κs a r₂ e₂ → r₁ ≡ r₂
-xfer-gate-one κs a r₁ r₂ e₁ e₂ p q = same p q
-
-pub tell-one : (κs : _) (a : _) (r₁ r₂ : _) (e₁ e₂ : _) → tell.Post κs a r₁ e₁ → tell.Post κs a r₂ e₂ → (r₁ ≡ r₂) × (now (e₁ .1 .0) ≡ now (e₂ .1 .0))
-tell-one κs a r₁ r₂ e₁ e₂ p q = (same (p .0) (q .0), same (p .1) (q .1))
-
 pub jack-remap-one : (κs : _) (a : _) (r₁ r₂ : _) (e₁ e₂ : _) → jack-remap.Post κs a r₁ e₁ → jack-remap.Post κs a r₂ e₂ → (r₁ ≡ r₂) × (now (e₁ .1 .1 .1 .1 .1 .0) ≡ now (e₂ .1 .1 .1 .1 .1 .0))
-jack-remap-one κs a r₁ r₂ e₁ e₂ p q = (same (p .0) (q .0), same (p .1) (q .1))
+jack-remap-one κs a r₁ r₂ e₁ e₂ p q = (same (p .step) (q .step), same (p .message) (q .message))
 
 pub pcm-set-params-one : (κs : _) (a : _) (r₁ r₂ : _) (e₁ e₂ : _) → pcm-set-params.Post κs a r₁ e₁ → pcm-set-params.Post κs a r₂ e₂ → (r₁ ≡ r₂) × (now (e₁ .1 .1 .1 .1 .1 .1 .1 .1 .1 .0) ≡ now (e₂ .1 .1 .1 .1 .1 .1 .1 .1 .1 .0))
-pcm-set-params-one κs a r₁ r₂ e₁ e₂ p q = (same (p .0) (q .0), same (p .1) (q .1))
+pcm-set-params-one κs a r₁ r₂ e₁ e₂ p q = (same (p .step) (q .step), same (p .message) (q .message))
 
 pub pcm-prepare-one : (κs : _) (a : _) (r₁ r₂ : _) (e₁ e₂ : _) → pcm-prepare.Post κs a r₁ e₁ → pcm-prepare.Post κs a r₂ e₂ → (r₁ ≡ r₂) × (now (e₁ .1 .1 .1 .0) ≡ now (e₂ .1 .1 .1 .0))
-pcm-prepare-one κs a r₁ r₂ e₁ e₂ p q = (same (p .0) (q .0), same (p .1) (q .1))
+pcm-prepare-one κs a r₁ r₂ e₁ e₂ p q = (same (p .step) (q .step), same (p .message) (q .message))
 
 pub pcm-release-one : (κs : _) (a : _) (r₁ r₂ : _) (e₁ e₂ : _) → pcm-release.Post κs a r₁ e₁ → pcm-release.Post κs a r₂ e₂ → (r₁ ≡ r₂) × (now (e₁ .1 .1 .1 .0) ≡ now (e₂ .1 .1 .1 .0))
-pcm-release-one κs a r₁ r₂ e₁ e₂ p q = (same (p .0) (q .0), same (p .1) (q .1))
+pcm-release-one κs a r₁ r₂ e₁ e₂ p q = (same (p .step) (q .step), same (p .message) (q .message))
 
 pub pcm-start-one : (κs : _) (a : _) (r₁ r₂ : _) (e₁ e₂ : _) → pcm-start.Post κs a r₁ e₁ → pcm-start.Post κs a r₂ e₂ → (r₁ ≡ r₂) × (now (e₁ .1 .1 .1 .0) ≡ now (e₂ .1 .1 .1 .0))
-pcm-start-one κs a r₁ r₂ e₁ e₂ p q = (same (p .0) (q .0), same (p .1) (q .1))
+pcm-start-one κs a r₁ r₂ e₁ e₂ p q = (same (p .step) (q .step), same (p .message) (q .message))
 
 pub pcm-stop-one : (κs : _) (a : _) (r₁ r₂ : _) (e₁ e₂ : _) → pcm-stop.Post κs a r₁ e₁ → pcm-stop.Post κs a r₂ e₂ → (r₁ ≡ r₂) × (now (e₁ .1 .1 .1 .0) ≡ now (e₂ .1 .1 .1 .0))
-pcm-stop-one κs a r₁ r₂ e₁ e₂ p q = (same (p .0) (q .0), same (p .1) (q .1))
+pcm-stop-one κs a r₁ r₂ e₁ e₂ p q = (same (p .step) (q .step), same (p .message) (q .message))
 
 pub output-streams-one : (κs : _) (a : _) (r₁ r₂ : _) (e₁ e₂ : _) → output-streams.Post κs a r₁ e₁ → output-streams.Post κs a r₂ e₂ → (r₁ ≡ r₂) × (now (e₁ .1 .1 .0) ≡ now (e₂ .1 .1 .0))
-output-streams-one κs a r₁ r₂ e₁ e₂ p q = (same (p .0) (q .0), same (p .1) (q .1))
+output-streams-one κs a r₁ r₂ e₁ e₂ p q = (same (p .step) (q .step), same (p .message) (q .message))
 
 pub input-streams-one : (κs : _) (a : _) (r₁ r₂ : _) (e₁ e₂ : _) → input-streams.Post κs a r₁ e₁ → input-streams.Post κs a r₂ e₂ → (r₁ ≡ r₂) × (now (e₁ .1 .1 .0) ≡ now (e₂ .1 .1 .0))
-input-streams-one κs a r₁ r₂ e₁ e₂ p q = (same (p .0) (q .0), same (p .1) (q .1))
+input-streams-one κs a r₁ r₂ e₁ e₂ p q = (same (p .step) (q .step), same (p .message) (q .message))
 
 pub rates-supported-one : (κs : _) (a : _) (r₁ r₂ : _) (e₁ e₂ : _) → rates-supported.Post κs a r₁ e₁ → rates-supported.Post κs a r₂ e₂ → (r₁ ≡ r₂) × (now (e₁ .1 .1 .1 .0) ≡ now (e₂ .1 .1 .1 .0))
-rates-supported-one κs a r₁ r₂ e₁ e₂ p q = (same (p .0) (q .0), same (p .1) (q .1))
+rates-supported-one κs a r₁ r₂ e₁ e₂ p q = (same (p .step) (q .step), same (p .message) (q .message))
 
 pub formats-supported-one : (κs : _) (a : _) (r₁ r₂ : _) (e₁ e₂ : _) → formats-supported.Post κs a r₁ e₁ → formats-supported.Post κs a r₂ e₂ → (r₁ ≡ r₂) × (now (e₁ .1 .1 .1 .0) ≡ now (e₂ .1 .1 .1 .0))
-formats-supported-one κs a r₁ r₂ e₁ e₂ p q = (same (p .0) (q .0), same (p .1) (q .1))
+formats-supported-one κs a r₁ r₂ e₁ e₂ p q = (same (p .step) (q .step), same (p .message) (q .message))
 
 pub channel-range-supported-one : (κs : _) (a : _) (r₁ r₂ : _) (e₁ e₂ : _) → channel-range-supported.Post κs a r₁ e₁ → channel-range-supported.Post κs a r₂ e₂ → (r₁ ≡ r₂) × (now (e₁ .1 .1 .1 .0) ≡ now (e₂ .1 .1 .1 .0))
-channel-range-supported-one κs a r₁ r₂ e₁ e₂ p q = (same (p .0) (q .0), same (p .1) (q .1))
+channel-range-supported-one κs a r₁ r₂ e₁ e₂ p q = (same (p .step) (q .step), same (p .message) (q .message))
 
 pub features-supported-one : (κs : _) (a : _) (r₁ r₂ : _) (e₁ e₂ : _) → features-supported.Post κs a r₁ e₁ → features-supported.Post κs a r₂ e₂ → (r₁ ≡ r₂) × (now (e₁ .1 .1 .1 .0) ≡ now (e₂ .1 .1 .1 .0))
-features-supported-one κs a r₁ r₂ e₁ e₂ p q = (same (p .0) (q .0), same (p .1) (q .1))
+features-supported-one κs a r₁ r₂ e₁ e₂ p q = (same (p .step) (q .step), same (p .message) (q .message))
 
 pub feed-one : (κs : _) (a : _) (r₁ r₂ : _) (e₁ e₂ : _) → feed.Post κs a r₁ e₁ → feed.Post κs a r₂ e₂ → (r₁ ≡ r₂) × (now (e₁ .1 .1 .0) ≡ now (e₂ .1 .1 .0))
-feed-one κs a r₁ r₂ e₁ e₂ p q = (same (p .0) (q .0), same (p .1) (q .1))
+feed-one κs a r₁ r₂ e₁ e₂ p q = (same (p .step) (q .step), same (p .message) (q .message))
 
 pub feed-failure-one : (κs : _) (a : _) (r₁ r₂ : _) (e₁ e₂ : _) → feed-failure.Post κs a r₁ e₁ → feed-failure.Post κs a r₂ e₂ → (r₁ ≡ r₂) × (now (e₁ .1 .0) ≡ now (e₂ .1 .0))
-feed-failure-one κs a r₁ r₂ e₁ e₂ p q = (same (p .0) (q .0), same (p .1) (q .1))
+feed-failure-one κs a r₁ r₂ e₁ e₂ p q = (same (p .step) (q .step), same (p .message) (q .message))
 
 pub pcm-xfer-start-one : (κs : _) (a : _) (r₁ r₂ : _) (e₁ e₂ : _) → pcm-xfer-start.Post κs a r₁ e₁ → pcm-xfer-start.Post κs a r₂ e₂ → (r₁ ≡ r₂) × (now (e₁ .1 .1 .1 .1 .1 .0) ≡ now (e₂ .1 .1 .1 .1 .1 .0))
-pcm-xfer-start-one κs a r₁ r₂ e₁ e₂ p q = (same (p .0) (q .0), same (p .1) (q .1))
+pcm-xfer-start-one κs a r₁ r₂ e₁ e₂ p q = (same (p .step) (q .step), same (p .message) (q .message))
 
 pub pcm-xfer-one : (κs : _) (a : _) (r₁ r₂ : _) (e₁ e₂ : _) → pcm-xfer.Post κs a r₁ e₁ → pcm-xfer.Post κs a r₂ e₂ → (r₁ ≡ r₂) × (now (e₁ .1 .1 .1 .1 .1 .1 .0) ≡ now (e₂ .1 .1 .1 .1 .1 .1 .0))
-pcm-xfer-one κs a r₁ r₂ e₁ e₂ p q = (same (p .0) (q .0), same (p .1) (q .1))
+pcm-xfer-one κs a r₁ r₂ e₁ e₂ p q = (same (p .step) (q .step), same (p .message) (q .message))

@@ -8,14 +8,14 @@ use lib.Dec.{leb, eqb}
 use borrow.Author.Tests.{leb-true, le-leb, ltb-true, eqb-true, eqb-false, eq-eqb}
 use Rattle.codes.specs.Says.{pick}
 use Rattle.turns.specs.ConsistentLaws.{both}
-use Rattle.exchange.specs.Consistent.{periodOk, numbersOk, stageOk, behind, exactly, atMost, tablesOk, same, consistentOf}
-use Rattle.exchange.specs.declared.state.Counts.{Counts}
-use Rattle.exchange.specs.declared.state.Params.{Params}
-use Rattle.exchange.specs.declared.state.Call.{Call}
-use Rattle.exchange.specs.declared.state.Call.the-variants.{SetParams}
-use Rattle.exchange.specs.declared.state.Stage.{Stage}
-use Rattle.exchange.specs.declared.state.Stage.the-variants.{Idle, JacksAsked, StreamsAsked, MapsAsked, Sent}
-use Rattle.exchange.specs.declared.state.Core.{Core}
+use Rattle.core.specs.Consistent.{periodOk, numbersOk, stageOk, queriesAnswered, exactly, noneOrAll, tablesOk, bothOrNeither, consistentOf}
+use Rattle.core.specs.declared.state.Counts.{Counts}
+use Rattle.core.specs.declared.state.Params.{Params}
+use Rattle.core.specs.declared.state.Call.{Call}
+use Rattle.core.specs.declared.state.Call.the-variants.{SetParams}
+use Rattle.core.specs.declared.state.Stage.{Stage}
+use Rattle.core.specs.declared.state.Stage.the-variants.{Idle, JacksAsked, StreamsAsked, MapsAsked, Sent}
+use Rattle.core.specs.declared.state.Core.{Core}
 use Rattle.exchange.specs.Feed.{asking}
 
 pub both-of : (a b : Bool) → a ≡ true → b ≡ true → (a && b) ≡ true
@@ -28,8 +28,8 @@ either-of false b e = e
 -- ---- the test at a stage: with the stage a constructor, each part computes
 
 pub record At (c : Core) (g : Stage) : Type 0 where
-  pub done : same (c .ready) (eqb (behind g (c .ready)) 3) ≡ true
-  pub tables : tablesOk (c .read) (c .counts) (behind g (c .ready)) ≡ true
+  pub done : bothOrNeither (c .ready) (eqb (queriesAnswered g (c .ready)) 3) ≡ true
+  pub tables : tablesOk (c .read) (c .counts) (queriesAnswered g (c .ready)) ≡ true
   pub call : stageOk g (c .read .streams) ≡ true
 
 pub facts : (c : Core) → consistentOf c ≡ true → At c (c .stage)
@@ -48,11 +48,11 @@ passed c a = rw (a .done, a .tables, a .call)
 
 -- ---- whether set-up is done
 
-same-true : (r : Bool) → same r true ≡ true → r ≡ true
+same-true : (r : Bool) → bothOrNeither r true ≡ true → r ≡ true
 same-true true e = refl
 same-true false e = e
 
-same-false : (r : Bool) → same r false ≡ true → r ≡ false
+same-false : (r : Bool) → bothOrNeither r false ≡ true → r ≡ false
 same-false true e = sym e
 same-false false e = refl
 
@@ -85,8 +85,8 @@ pub record Full (read counts : Counts) : Type 0 where
 
 pub full : (read counts : Counts) → tablesOk read counts 3 ≡ true → Full read counts
 full read counts e =
-    let a = atMost (read .jacks) (counts .jacks) 170 in
-    let m = atMost (read .maps) (counts .maps) 170 in
+    let a = noneOrAll (read .jacks) (counts .jacks) 170 in
+    let m = noneOrAll (read .maps) (counts .maps) 170 in
     let x = exactly (read .streams) (counts .streams) 127 in
     let b = both _ _ (both x m (both a (x && m) e .1) .0) in
     record { streams = eqb-true _ _ (b .0); most = leb-true _ _ (b .1) }
@@ -94,8 +94,8 @@ full read counts e =
 pub exactly-self : (n most : ℕ) → n ≤ most → exactly n n most ≡ true
 exactly-self n most h = both-of (eqb n n) (leb n most) (eq-eqb n n refl) (le-leb n most h)
 
-pub atMost-self : (n most : ℕ) → n ≤ most → atMost n n most ≡ true
-atMost-self n most h = either-of (eqb n 0) (exactly n n most) (exactly-self n most h)
+pub noneOrAll-self : (n most : ℕ) → n ≤ most → noneOrAll n n most ≡ true
+noneOrAll-self n most h = either-of (eqb n 0) (exactly n n most) (exactly-self n most h)
 
 -- ---- parameters
 

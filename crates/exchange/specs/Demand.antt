@@ -1,21 +1,20 @@
 -- DEMAND 3 of `pcm_xfer` itself, under the customer's premises: of its start and then turns, and of a transfer over a script.
--- `Playable` (Kept) is what it takes of state and ring; `Right`, `Every` and `Whole` stand in turns' Asked.
+-- `Playable` (Kept) is what it takes of state and ring; `NoFault`, `CompletesWithin` and `Whole` stand in turns' Asked.
 -- Assumes nothing.
 use mathlib.Core.Path.{_≡_, sym, ap, subst}
 use mathlib.Core.List.{List, []}
 use Prim.Native.Nat.{ℕ, _+_, _*_, _%_, _≤_, _<_}
 use native.Mathlib.Omega.{arith}
 use lib.ListN.{length}
-use Rattle.codes.specs.declared.answers.Answer.the-variants.{Ok}
-use Rattle.turns.specs.ConsistentLaws.{consistent-facts}
 use Rattle.turns.specs.Cut.{cut}
-use Rattle.turns.specs.Log.{Ran, hosted}
+use Rattle.turns.specs.Log.{Ran, turnByTurn}
 use Rattle.turns.specs.Script.{scriptOf}
 use Rattle.turns.specs.Asked as asked
-use Rattle.turns.specs.Asked.{starts, plays, All, Right, Every, Whole, Accounted}
+use Rattle.layout.specs.All.{All}
+use Rattle.turns.specs.Asked.{starts, plays, NoFault, CompletesWithin, Whole, Accounted}
 use Rattle.turns.specs.Demand as turns
 use Rattle.turns.specs.declared.ring.Ring.{Ring}
-use Rattle.turns.specs.declared.ring.Said.the-variants.{Going, Ended}
+use Rattle.turns.specs.declared.ring.Said.the-variants.{Going, Done}
 use Rattle.turns.specs.declared.reading.Reading.{Reading}
 use Rattle.exchange.specs.State.{paramsOf}
 use Rattle.exchange.specs.Xfer.{startOf, xferOf}
@@ -35,10 +34,10 @@ abbrev pub starting : Sound → Ring → ℕ → ℕ → ℕ → List ℕ → Xf
 starting s r stream budget m frames = startOf s r stream (length frames) budget m
 
 abbrev pub playing : Sound → Ring → ℕ → ℕ → ℕ → List ℕ → List Reading → Ran Ring
-playing s r stream budget m frames script = hosted 3 (length frames) budget (starting s r stream budget m frames .ring) script
+playing s r stream budget m frames script = turnByTurn (length frames) budget (starting s r stream budget m frames .ring) script
 
 idle-ring : (s : Sound) (r : Ring) (stream : ℕ) → Playable s r stream → asked.Idle r
-idle-ring s r stream o = record { consistent = consistent-facts (r .track) (o .ring); stopped = o .still; empty = o .empty }
+idle-ring s r stream o = record { consistent = o .ring; stopped = o .still; empty = o .empty }
 
 -- "Take a state and ring that calls left, lent lengths that answer 10 does not refuse, a stream with parameters set, no exchange or transfer open, nothing in
 -- flight, and frames that make n periods. If no turn reports a wrong token or a status other than 0x8000, and among any g turns running (g at least 1), each with
@@ -47,11 +46,11 @@ pub ok-in-time : (s : Sound) (r : Ring) (stream budget m g : ℕ) (frames : List
     → length (cut (periodOf s stream) frames) * g + 1 ≤ budget →
     let x = starting s r stream budget m frames in
     let h = playing s r stream budget m frames script in
-    (x .reply ≡ Says Going) × (All Right (h .log) → Every g (h .log) → (h .said ≡ Ended Ok) × (length (h .log) ≤ length (cut (periodOf s stream) frames) * g + 1))
+    (x .reply ≡ Says Going) × (All NoFault (h .log) → CompletesWithin g (h .log) → (h .said ≡ Done) × (length (h .log) ≤ length (cut (periodOf s stream) frames) * g + 1))
 ok-in-time s r stream budget m g frames script o long pos enough =
     let period = periodOf s stream in
     let a = turns.ok-in-time r stream period budget g frames script (idle-ring s r stream o) (period-divides s (o .state) stream (o .set) .some) pos enough in
-    subst (λ (x : XferStep). let h = hosted 3 (length frames) budget (x .ring) script in (x .reply ≡ Says Going) × (All Right (h .log) → Every g (h .log) → (h .said ≡ Ended Ok) × (length (h .log) ≤ length (cut period frames) * g + 1)))
+    subst (λ (x : XferStep). let h = turnByTurn (length frames) budget (x .ring) script in (x .reply ≡ Says Going) × (All NoFault (h .log) → CompletesWithin g (h .log) → (h .said ≡ Done) × (length (h .log) ≤ length (cut period frames) * g + 1)))
     (start-is s r stream (length frames) budget m o long) (ap Says (a .0), a .1)
 
 -- what holds of the ring of a start that goes on
@@ -63,21 +62,21 @@ module _ (s : Sound) (r : Ring) (stream budget m : ℕ) (frames : List ℕ) wher
 -- "With no premise about the queue: Ok is answered only if all n periods went out in order, each was completed with 0x8000, their payloads joined equal the frames,
 -- and each but the last is exactly period_bytes long." There is no premise about state and ring either
 module _ (s : Sound) (r : Ring) (stream budget m : ℕ) (frames : List ℕ) (script : List Reading) (began : starting s r stream budget m frames .reply ≡ Says Going) where
-  pub ok-only-if : playing s r stream budget m frames script .said ≡ Ended Ok → Whole stream (periodOf s stream) frames (playing s r stream budget m frames script .log)
+  pub ok-only-if : playing s r stream budget m frames script .said ≡ Done → Whole stream (periodOf s stream) frames (playing s r stream budget m frames script .log)
   ok-only-if =
-      begun-by s r stream budget m frames (λ x. let h = hosted 3 (length frames) budget x script in h .said ≡ Ended Ok → Whole stream (periodOf s stream) frames (h .log))
+      begun-by s r stream budget m frames (λ x. let h = turnByTurn (length frames) budget x script in h .said ≡ Done → Whole stream (periodOf s stream) frames (h .log))
       (turns.ok-only-if r stream (periodOf s stream) budget frames script) began
 
   -- "which bytes did the device accept?" However the transfer ended: the first periods, in order, as many as were completed with 0x8000
   pub accounted : let h = playing s r stream budget m frames script in Accounted (periodOf s stream) frames (h .said) (h .at .track) (h .log)
   accounted =
-      begun-by s r stream budget m frames (λ x. let h = hosted 3 (length frames) budget x script in Accounted (periodOf s stream) frames (h .said) (h .at .track) (h .log))
+      begun-by s r stream budget m frames (λ x. let h = turnByTurn (length frames) budget x script in Accounted (periodOf s stream) frames (h .said) (h .at .track) (h .log))
       (turns.accounted r stream (periodOf s stream) budget frames script) began
 
   -- "how long may the console sit inside one announcement?" There is an answer after at most budget turns
   pub always-answers : (playing s r stream budget m frames script .said ≡ Going → ⊥) × (length (playing s r stream budget m frames script .log) ≤ budget)
   always-answers =
-      begun-by s r stream budget m frames (λ x. let h = hosted 3 (length frames) budget x script in (h .said ≡ Going → ⊥) × (length (h .log) ≤ budget))
+      begun-by s r stream budget m frames (λ x. let h = turnByTurn (length frames) budget x script in (h .said ≡ Going → ⊥) × (length (h .log) ≤ budget))
       (λ e. (turns.always-answers r stream (periodOf s stream) budget frames script e, turns.turns-within-budget r stream (periodOf s stream) budget frames [] script .0)) began
 
 -- ---- the same of a transfer over a script of whole readings: what it answers, and the number of its turns
@@ -86,20 +85,20 @@ pub ok-in-time-script : (s : Sound) (r : Ring) (stream budget m g : ℕ) (frames
     → length (cut (periodOf s stream) frames) * g + 1 ≤ budget →
     let h = playing s r stream budget m frames (scriptOf bytes) in
     let x = xferOf s r stream (length frames) budget bytes m in
-    All Right (h .log) → Every g (h .log) → (x .reply ≡ Says (Ended Ok)) × (x .turns ≤ length (cut (periodOf s stream) frames) * g + 1)
+    All NoFault (h .log) → CompletesWithin g (h .log) → (x .reply ≡ Says (Done)) × (x .turns ≤ length (cut (periodOf s stream) frames) * g + 1)
 ok-in-time-script s r stream budget m g frames bytes o long whole pos enough right every =
     let period = periodOf s stream in
-    let same : XferStep → Ran Ring = λ x. hosted 3 (length frames) budget (x .ring) (scriptOf bytes) in
+    let same : XferStep → Ran Ring = λ x. turnByTurn (length frames) budget (x .ring) (scriptOf bytes) in
     let is = sym (start-is s r stream (length frames) budget m o long) in
     let a = turns.ok-in-time-script r stream period budget g frames bytes (idle-ring s r stream o) (period-divides s (o .state) stream (o .set) .some) pos enough whole
-    (subst (λ (x : XferStep). All Right (same x .log)) is right) (subst (λ (x : XferStep). Every g (same x .log)) is every) in
-    subst (λ (x : XferStep). (x .reply ≡ Says (Ended Ok)) × (x .turns ≤ length (cut period frames) * g + 1)) (xfer-is s r stream (length frames) budget m o long bytes whole) (ap Says (a .0), a .1)
+    (subst (λ (x : XferStep). All NoFault (same x .log)) is right) (subst (λ (x : XferStep). CompletesWithin g (same x .log)) is every) in
+    subst (λ (x : XferStep). (x .reply ≡ Says (Done)) × (x .turns ≤ length (cut period frames) * g + 1)) (xfer-is s r stream (length frames) budget m o long bytes whole) (ap Says (a .0), a .1)
 
 -- the log is that of the turns by themselves
-pub ok-only-if-script : (s : Sound) (r : Ring) (stream budget m : ℕ) (frames bytes : List ℕ) → xferOf s r stream (length frames) budget bytes m .reply ≡ Says (Ended Ok) →
-    Whole stream (periodOf s stream) frames (plays 3 r stream (periodOf s stream) budget frames (scriptOf bytes) .log)
+pub ok-only-if-script : (s : Sound) (r : Ring) (stream budget m : ℕ) (frames bytes : List ℕ) → xferOf s r stream (length frames) budget bytes m .reply ≡ Says (Done) →
+    Whole stream (periodOf s stream) frames (plays r stream (periodOf s stream) budget frames (scriptOf bytes) .log)
 ok-only-if-script s r stream budget m frames bytes =
-    script-by (λ x. x .reply ≡ Says (Ended Ok) → Whole stream (periodOf s stream) frames (plays 3 r stream (periodOf s stream) budget frames (scriptOf bytes) .log)) s r stream (length frames) budget m
+    script-by (λ x. x .reply ≡ Says (Done) → Whole stream (periodOf s stream) frames (plays r stream (periodOf s stream) budget frames (scriptOf bytes) .log)) s r stream (length frames) budget m
     (λ _ e. absurd (wrong (cc))) (λ _ _ _ e. absurd (wrong (cc))) bytes (λ e. turns.ok-only-if-script r stream (periodOf s stream) budget frames bytes (says-said e))
 
 pub always-answers-script : (s : Sound) (r : Ring) (stream budget m : ℕ) (frames bytes : List ℕ) → xferOf s r stream (length frames) budget bytes m .reply ≡ Says Going → ⊥

@@ -8,22 +8,24 @@ use native.Mathlib.Omega.{arith}
 use lib.ListN.{length}
 use Rattle.tables.specs.declared.verdict.Verdict.{Verdict}
 use Rattle.turns.specs.declared.ring.Track.{Track}
-use Rattle.exchange.specs.Consistent.{consistentOf}
+use Rattle.core.specs.Consistent.{consistentOf}
 use Rattle.exchange.specs.OwnLaws.{Own, sets, commands, remaps, lists, tells, refuses}
 use Rattle.exchange.specs.PlanLaws.{Begun, bars, asks, goes, begun, Answered, short, idle, asks-streams, asks-maps, cuts, finishes, ends, fails, fed, long-of}
-use Rattle.exchange.specs.Exchange.{replyOf, stepOf, callOf}
+use Rattle.core.specs.Reply.{replyOf}
+use Rattle.exchange.specs.Exchange.{stepOf, callOf}
 use Rattle.exchange.specs.Kept.{Kept}
 use Rattle.exchange.specs.KeptLaws.{feed-kept}
 use Rattle.exchange.specs.Feed.{Feed, pageOf, planOf, fedOf, longOf, Long}
 use Rattle.exchange.specs.StayLaws.{after-core}
-use Rattle.exchange.specs.declared.state.Call.{Call}
-use Rattle.exchange.specs.declared.state.Stage.{Stage}
-use Rattle.exchange.specs.declared.state.Stage.the-variants.{Idle, JacksAsked, StreamsAsked, MapsAsked, Sent}
-use Rattle.exchange.specs.declared.state.Core.{Core}
+use Rattle.core.specs.declared.state.Call.{Call}
+use Rattle.core.specs.declared.state.Stage.{Stage}
+use Rattle.core.specs.declared.state.Stage.the-variants.{Idle, JacksAsked, StreamsAsked, MapsAsked, Sent}
+use Rattle.core.specs.declared.state.Core.{Core}
 use Rattle.exchange.specs.declared.state.Sound.{Sound}
-use Rattle.exchange.specs.declared.plan.Plan.{Plan}
-use Rattle.exchange.specs.declared.calls.Reply.{Reply}
-use Rattle.exchange.specs.declared.calls.Reply.the-variants as reply
+use Rattle.core.specs.declared.plan.Look.{Look}
+use Rattle.core.specs.declared.plan.Plan.{Plan}
+use Rattle.core.specs.declared.reply.Reply.{Reply}
+use Rattle.core.specs.declared.reply.Reply.the-variants as reply
 
 -- ---- a run of feeds
 
@@ -72,7 +74,7 @@ none-left (MapsAsked call) h = absurd (omega arith)
 none-left (Sent call) h = absurd (omega arith)
 
 -- a call's own part sends at most one, and then waits for its answer alone
-own-asks : {c : Core} {look : ℕ} {call : Call} {p : Plan} → Own c look call p → (asked (replyOf (p .say)) ≤ 1) × (waits (p .core .stage) ≤ 1)
+own-asks : {c : Core} {look : Look} {call : Call} {p : Plan} → Own c look call p → (asked (replyOf (p .say)) ≤ 1) × (waits (p .core .stage) ≤ 1)
 own-asks (sets _ _) = (omega arith, omega arith)
 own-asks commands = (omega arith, omega arith)
 own-asks (remaps _ _ _) = (omega arith, omega arith)
@@ -85,7 +87,7 @@ pub record Falls (c : Core) (long : Bool) (p : Plan) : Type 0 where
   pub paid : asked (replyOf (p .say)) + (waits (p .core .stage) - 1) ≤ waits (c .stage) - 1
   pub less : long ≡ true → consistentOf c ≡ true → waits (p .core .stage) ≤ waits (c .stage) - 1
 
-falls : {c : Core} {v : Verdict} {look : ℕ} {long : Bool} {p : Plan} → Answered c v look long p → Falls c long p
+falls : {c : Core} {v : Verdict} {look : Look} {long : Bool} {p : Plan} → Answered c v look long p → Falls c long p
 falls (short l) = record { paid = omega arith; less = λ t. absurd (false≢true (sym l ∙ t)) }
 falls (idle g) = record { paid = omega arith; less = λ _ e. let w = ap waits (g e) in omega arith }
 falls (asks-streams _ g) = let w = ap waits g in record { paid = omega arith; less = λ _ _. omega arith }
@@ -106,7 +108,7 @@ unfolding requests
 bounded s [] = omega arith
 bounded s (f ∷ fs) = omega (arith, fed-falls s f .0, bounded (fedOf s f .sound) fs)
 
-begun-paid : {c : Core} {call : Call} {look : ℕ} {p : Plan} → Begun c call look p → asked (replyOf (p .say)) + (waits (p .core .stage) - 1) ≤ 4
+begun-paid : {c : Core} {call : Call} {look : Look} {p : Plan} → Begun c call look p → asked (replyOf (p .say)) + (waits (p .core .stage) - 1) ≤ 4
 begun-paid {c} (bars _) = omega (arith, at-most-4 (c .stage))
 begun-paid (asks _ _ _ _) = omega arith
 begun-paid (goes _ _ _ _ o) = let h = own-asks o in omega arith

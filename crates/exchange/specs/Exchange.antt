@@ -5,67 +5,27 @@ use mathlib.Core.Bool.{_&&_}
 use mathlib.Core.List.{List, [], _∷_, _++_}
 use Prim.Native.Nat.{ℕ, suc, _+_, _-_}
 use lib.Dec.{leb, eqb}
-use lib.ListN.{length, take, drop, replicate}
-use Rattle.layout.specs.Layout.{write}
+use lib.ListN.{length, take, replicate}
 use Rattle.codes.specs.Says.{Says, says, pick, guard}
 use Rattle.codes.specs.Answers.{saysRefusal}
-use Rattle.codes.specs.declared.answers.Refusal.the-variants.{BadLength}
-use Rattle.records.specs.Records.{query, queryValues, remap, remapValues, pcmCommand, pcmCommandValues, setParameters, setParametersValues}
+use Rattle.codes.specs.declared.answers.Refusal.the-variants.{QueueFailed, BadLength}
 use Rattle.records.specs.declared.info.PcmInfo.{PcmInfo}
-use Rattle.tables.specs.declared.verdict.Verdict.the-variants.{Failed}
+use Rattle.tables.specs.declared.verdict.Verdict.the-variants as verdict
 use Rattle.turns.specs.declared.ring.Track.{Track}
-use Rattle.exchange.specs.Plan.{keepOf, lookOf, beginOf, answerOf, verdictBy, pendingLook, soundAfter}
-use Rattle.exchange.specs.declared.state.Call.{Call}
+use Rattle.core.specs.Plan.{refuseOf, beginOf, answerOf, verdictBy}
+use Rattle.core.specs.Reply.{requestBytes, messageAfter, replyOf}
+use Rattle.core.specs.declared.state.Call.{Call}
+use Rattle.core.specs.declared.plan.Value.{Value}
+use Rattle.core.specs.declared.plan.Value.the-variants as value
+use Rattle.core.specs.declared.plan.Say.{Say}
+use Rattle.core.specs.declared.plan.Say.the-variants.{Send, Done, Refused}
+use Rattle.core.specs.declared.plan.Plan.{Plan}
+use Rattle.core.specs.declared.reply.Reply.{Reply}
+use Rattle.core.specs.declared.reply.Reply.the-variants as reply
+use Rattle.exchange.specs.Tables.{lookOf, pendingLook, soundAfter}
 use Rattle.exchange.specs.declared.state.Sound.{Sound}
-use Rattle.exchange.specs.declared.plan.Request.{Request}
-use Rattle.exchange.specs.declared.plan.Request.the-variants as request
-use Rattle.exchange.specs.declared.plan.Value.{Value}
-use Rattle.exchange.specs.declared.plan.Value.the-variants as value
-use Rattle.exchange.specs.declared.plan.Say.{Say}
-use Rattle.exchange.specs.declared.plan.Say.the-variants.{Send, Done, Refused}
-use Rattle.exchange.specs.declared.plan.Plan.{Plan}
-use Rattle.exchange.specs.declared.calls.Reply.{Reply}
-use Rattle.exchange.specs.declared.calls.Reply.the-variants as reply
 use Rattle.exchange.specs.declared.calls.StreamList.{StreamList}
 use Rattle.exchange.specs.declared.calls.Step.{Step}
-
--- ---- the message
-
-abbrev pub requestBytes : Request → List ℕ
-requestBytes (request.Query q) = write query (queryValues q)
-requestBytes (request.Remap r) = write remap (remapValues r)
-requestBytes (request.Command c) = write pcmCommand (pcmCommandValues c)
-requestBytes (request.Set p) = write setParameters (setParametersValues p)
-
--- "Only the message's own bytes are written; a result writes none."
-abbrev pub messageAfter : Say → List ℕ → List ℕ
-messageAfter (Send q) l = requestBytes q ++ drop (length (requestBytes q)) l
-messageAfter (Done v) l = l
-messageAfter (Refused r) l = l
-
--- document 01's number and values of a reply: a request of n bytes to send is 256 + n, as at the C boundary; a list of streams stands beside its reply
-abbrev pub valuesOf : Value → List ℕ
-valuesOf value.Nothing = []
-valuesOf (value.Number x) = x ∷ []
-valuesOf (value.Range min max) = min ∷ max ∷ []
-valuesOf (value.Streams direction) = []
-
-abbrev pub saysReply : Reply → Says
-saysReply (reply.Send n) = says (256 + n) []
-saysReply (reply.Done v) = says 0 (valuesOf v)
-saysReply (reply.Refused r) = saysRefusal r
-
-abbrev pub replyOf : Say → Reply
-replyOf (Send q) = reply.Send (length (requestBytes q))
-replyOf (Done v) = reply.Done v
-replyOf (Refused r) = reply.Refused r
-
--- the same told in a message of any length: a short one is refused, and nothing is written
-abbrev pub tellOf : Say → ℕ → Reply
-tellOf a n = pick (leb 24 n) (replyOf a) (reply.Refused BadLength)
-
-abbrev pub toldIn : Say → List ℕ → List ℕ
-toldIn a l = pick (leb 24 (length l)) (messageAfter a l) l
 
 -- ---- "ascending ids with direction 0, or 1. Other directions are in neither list."
 
@@ -77,15 +37,15 @@ idsFrom direction i (p ∷ ps) = pick (eqb (p .direction) direction) (i ∷ idsF
 abbrev pub listed : List ℕ → StreamList
 listed ids = record { count = length ids; ids = ids ++ replicate (127 - length ids) 0 }
 
-abbrev pub listBy : Value → ℕ → List PcmInfo → StreamList
-listBy value.Nothing n pcms = listed []
-listBy (value.Number x) n pcms = listed []
-listBy (value.Range min max) n pcms = listed []
-listBy (value.Streams direction) n pcms = listed (idsFrom direction 0 (take n pcms))
+abbrev pub idsBy : Value → ℕ → List PcmInfo → List ℕ
+idsBy value.Nothing n pcms = []
+idsBy (value.Number x) n pcms = []
+idsBy (value.Range min max) n pcms = []
+idsBy (value.Streams direction) n pcms = idsFrom direction 0 (take n pcms)
 
 abbrev pub listOf : Say → ℕ → List PcmInfo → StreamList
 listOf (Send q) n pcms = listed []
-listOf (Done v) n pcms = listBy v n pcms
+listOf (Done v) n pcms = listed (idsBy v n pcms)
 listOf (Refused r) n pcms = listed []
 
 -- ---- what a plan comes to, with the page at hand
@@ -98,21 +58,44 @@ stepOf p s page =
       streams = listOf (p .say) (p .core .read .streams) (s .pcms);
     }
 
--- what a call or a feed returns, and what it leaves in the message buffer: m before, n after
-abbrev pub Stepped : Plan → Sound → List ℕ → List ℕ → List ℕ → Step → Type 0
-Stepped p s page m n r = (r ≡ stepOf p s page) × (n ≡ messageAfter (p .say) m)
+-- document 01's number and values of a step, and of what a plan says: a request of n bytes to send is 256 + n, as at the C boundary; a list of streams is its ids
+abbrev pub listValues : Value → List ℕ → List ℕ
+listValues value.Nothing ids = []
+listValues (value.Number x) ids = x ∷ []
+listValues (value.Range min max) ids = min ∷ max ∷ []
+listValues (value.Streams direction) ids = ids
+
+abbrev pub saysBeside : Reply → StreamList → Says
+saysBeside (reply.Send n) l = says (256 + n) []
+saysBeside (reply.Done v) l = says 0 (listValues v (take (l .count) (l .ids)))
+saysBeside (reply.Refused r) l = saysRefusal r
+
+abbrev pub saysStep : Step → Says
+saysStep x = saysBeside (x .reply) (x .streams)
+
+abbrev pub saysSay : Say → ℕ → List PcmInfo → Says
+saysSay (Send q) n pcms = says (256 + length (requestBytes q)) []
+saysSay (Done v) n pcms = says 0 (listValues v (idsBy v n pcms))
+saysSay (Refused r) n pcms = saysRefusal r
+
+-- what a call or a feed returns, document 01's number and values of it, and what it leaves in the message buffer: m before, n after
+pub record Stepped (p : Plan) (s : Sound) (page m n : List ℕ) (r : Step) : Type 0 where
+  pub step : r ≡ stepOf p s page
+  pub said : saysStep r ≡ saysSay (p .say) (p .core .read .streams) (s .pcms)
+  pub message : n ≡ messageAfter (p .say) m
 
 -- A CALL, with a ring that tells whether a transfer runs or a slot is in flight, and a message buffer of n bytes
 unfoldable pub callOf : Sound → Track → Call → ℕ → Plan
-callOf s t call n = guard (leb 24 n) (beginOf (s .core) t call (lookOf s call)) (keepOf (s .core) BadLength)
+callOf s t call n = guard (leb 24 n) (refuseOf (s .core) BadLength)
+    (beginOf (s .core) t call (lookOf s call))
 
 -- A FEED of an answer page
 unfoldable pub feedOf : Sound → List ℕ → ℕ → Plan
 feedOf s page n =
-    guard (eqb (length page) 4096 && leb 24 n)
+    guard (eqb (length page) 4096 && leb 24 n) (refuseOf (s .core) BadLength)
     (answerOf (s .core) (verdictBy (s .core .stage) (s .core .counts) page) (pendingLook (s .core .stage) s))
-    (keepOf (s .core) BadLength)
 
 -- A FEED of a queue failure
 unfoldable pub failOf : Sound → ℕ → Plan
-failOf s n = guard (leb 24 n) (answerOf (s .core) Failed (pendingLook (s .core .stage) s)) (keepOf (s .core) BadLength)
+failOf s n = guard (leb 24 n) (refuseOf (s .core) BadLength)
+    (answerOf (s .core) (verdict.Refused QueueFailed) (pendingLook (s .core .stage) s))

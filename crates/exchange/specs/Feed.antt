@@ -7,17 +7,18 @@ use Prim.Native.Nat.{ℕ, _≤_}
 use lib.Dec.{leb, eqb}
 use lib.ListN.{length}
 use Rattle.tables.specs.declared.verdict.Verdict.{Verdict}
-use Rattle.tables.specs.declared.verdict.Verdict.the-variants.{Failed}
-use Rattle.exchange.specs.Plan.{verdictBy}
+use Rattle.codes.specs.declared.answers.Refusal.the-variants.{QueueFailed}
+use Rattle.tables.specs.declared.verdict.Verdict.the-variants as verdict
+use Rattle.core.specs.Plan.{verdictBy}
 use Rattle.exchange.specs.Exchange.{stepOf, feedOf, failOf}
 use Rattle.exchange.specs.declared.state.Sound.{Sound}
-use Rattle.exchange.specs.declared.plan.Plan.{Plan}
+use Rattle.core.specs.declared.plan.Plan.{Plan}
 use Rattle.exchange.specs.declared.calls.Step.{Step}
 use mathlib.Core.Logic.{_⊎_}
-use Rattle.exchange.specs.declared.state.Call.{Call}
-use Rattle.exchange.specs.declared.state.Call.the-variants.{SetParams, Command, Remap, Streams, Supported, Xfer}
-use Rattle.exchange.specs.declared.state.Stage.{Stage}
-use Rattle.exchange.specs.declared.state.Stage.the-variants.{Idle, JacksAsked, StreamsAsked, MapsAsked, Sent}
+use Rattle.core.specs.declared.state.Call.{Call}
+use Rattle.core.specs.declared.state.Call.the-variants.{SetParams, Command, Remap, Streams, Supported, Xfer}
+use Rattle.core.specs.declared.state.Stage.{Stage}
+use Rattle.core.specs.declared.state.Stage.the-variants.{Idle, JacksAsked, StreamsAsked, MapsAsked, Sent}
 
 -- a page, or a failure; with a message buffer of n bytes
 pub data Feed : Type 0 where
@@ -38,7 +39,7 @@ fedOf s f = stepOf (planOf s f) s (pageOf f)
 
 abbrev pub verdictOf : Sound → Feed → Verdict
 verdictOf s (paged bytes n) = verdictBy (s .core .stage) (s .core .counts) bytes
-verdictOf s (failed n) = Failed
+verdictOf s (failed n) = verdict.Refused QueueFailed
 
 -- a feed that 10 does not refuse
 abbrev pub longOf : Feed → Bool

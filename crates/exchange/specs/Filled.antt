@@ -8,13 +8,16 @@ use Prim.Native.Nat.{ℕ, _+_, _*_, _<_}
 use native.Mathlib.Omega.{arith}
 use Rattle.codes.specs.Says.{pick}
 use Rattle.tables.specs.Tables.{judged, isGood, pcmAt}
+use Rattle.tables.specs.TablesLaws.{good-fits}
 use Rattle.tables.specs.TableLengthLaws.{streams-at}
 use Rattle.tables.specs.declared.verdict.Verdict.{Verdict}
 use Rattle.turns.specs.declared.ring.Track.{Track}
 use Rattle.exchange.specs.State.{pcmOf}
-use Rattle.exchange.specs.Plan.{effectOf, soundAfter, verdictBy}
+use Rattle.core.specs.Plan.{effectOf, verdictBy}
+use Rattle.exchange.specs.Tables.{soundAfter}
 use Rattle.exchange.specs.PlanLaws.{Answered, short, idle, asks-streams, asks-maps, cuts, finishes, ends, fails, fed}
-use Rattle.exchange.specs.Exchange.{replyOf, stepOf, callOf}
+use Rattle.core.specs.Reply.{replyOf}
+use Rattle.exchange.specs.Exchange.{stepOf, callOf}
 use Rattle.exchange.specs.Ends.{asked, waits}
 use Rattle.exchange.specs.ResultLaws.{wrong}
 use Rattle.exchange.specs.Feed.{Feed, paged, failed, pageOf, planOf, fedOf, verdictOf}
@@ -22,16 +25,17 @@ use Rattle.exchange.specs.StayLaws.{called-stays, called-quiet, fed-stay
 use Rattle.exchange.specs.Xfer.{startOf, xferOf}
 use Rattle.exchange.specs.XferLaws.{start-by, script-by}
 use Rattle.turns.specs.declared.ring.Ring.{Ring}
-use Rattle.exchange.specs.declared.state.Counts.{Counts}
-use Rattle.exchange.specs.declared.state.Call.{Call}
-use Rattle.exchange.specs.declared.state.Call.the-variants.{SetParams, Command, Remap, Streams, Supported, Xfer}
-use Rattle.exchange.specs.declared.state.Stage.{Stage}
-use Rattle.exchange.specs.declared.state.Stage.the-variants.{StreamsAsked}
-use Rattle.exchange.specs.declared.state.Core.{Core}
+use Rattle.core.specs.declared.state.Counts.{Counts}
+use Rattle.core.specs.declared.state.Call.{Call}
+use Rattle.core.specs.declared.state.Call.the-variants.{SetParams, Command, Remap, Streams, Supported, Xfer}
+use Rattle.core.specs.declared.state.Stage.{Stage}
+use Rattle.core.specs.declared.state.Stage.the-variants.{StreamsAsked}
+use Rattle.core.specs.declared.state.Core.{Core}
 use Rattle.exchange.specs.declared.state.Sound.{Sound}
-use Rattle.exchange.specs.declared.plan.Effect.{Effect}
-use Rattle.exchange.specs.declared.plan.Effect.the-variants.{Nothing, FillJacks, FillStreams, FillMaps, Store}
-use Rattle.exchange.specs.declared.plan.Plan.{Plan}
+use Rattle.core.specs.declared.plan.Effect.{Effect}
+use Rattle.core.specs.declared.plan.Effect.the-variants.{Nothing, FillJacks, FillStreams, FillMaps, Store}
+use Rattle.core.specs.declared.plan.Look.{Look}
+use Rattle.core.specs.declared.plan.Plan.{Plan}
 
 -- the stream table is that of a page
 abbrev pub Filled : Sound → List ℕ → Type 0
@@ -40,29 +44,26 @@ Filled s page = (i : ℕ) → i < s .core .counts .streams → pcmOf s i ≡ pcm
 -- after an effect with the same counts, the table is as it was, or is that of a page whose verdict on the streams was good
 abbrev fills : Effect → Bool
 fills Nothing = false
-fills FillJacks = false
-fills FillStreams = true
-fills FillMaps = false
+fills (FillJacks n) = false
+fills (FillStreams n) = true
+fills (FillMaps n) = false
 fills (Store stream to) = false
 
 kept-table : (x : Effect) (c : Core) (s : Sound) (page old : List ℕ) → fills x ≡ false → c .counts .streams ≡ s .core .counts .streams → Filled s old → Filled (soundAfter x c s page) old
 kept-table Nothing c s page old e n f i h = f i (omega arith)
-kept-table FillJacks c s page old e n f i h = f i (omega arith)
-kept-table FillStreams c s page old e n f i h = absurd (false≢true (sym e))
-kept-table FillMaps c s page old e n f i h = f i (omega arith)
+kept-table (FillJacks m) c s page old e n f i h = f i (omega arith)
+kept-table (FillStreams m) c s page old e n f i h = absurd (false≢true (sym e))
+kept-table (FillMaps m) c s page old e n f i h = f i (omega arith)
 kept-table (Store stream to) c s page old e n f i h = f i (omega arith)
 
-new-table : (x : Effect) (c : Core) (s : Sound) (page : List ℕ) → fills x ≡ true → isGood (judged page (c .counts .streams) 32) ≡ true → Filled (soundAfter x c s page) page
-new-table Nothing c s page e g i h = absurd (false≢true e)
-new-table FillJacks c s page e g i h = absurd (false≢true e)
-new-table FillStreams c s page e g i h = streams-at page (c .counts .streams) (s .pcms) i _ g h
-new-table FillMaps c s page e g i h = absurd (false≢true e)
-new-table (Store stream to) c s page e g i h = absurd (false≢true e)
+new-table : (x : Effect) (c : Core) (s : Sound) (page : List ℕ) → x ≡ FillStreams (c .counts .streams) → isGood (judged page (c .counts .streams) 32) ≡ true → Filled (soundAfter x c s page) page
+new-table x c s page e g =
+    subst (λ (y : Effect). Filled (soundAfter y c s page) page) (sym e) (λ i h. streams-at page (c .counts .streams) (s .pcms) i _ (good-fits page (c .counts .streams) 32 g) h)
 
 -- whether an answer fills the table
 data Touch (c : Core) (v : Verdict) (x : Effect) : Type 0 where
   leaves : fills x ≡ false → Touch c v x
-  writes : {call : Call} → c .stage ≡ StreamsAsked call → isGood v ≡ true → fills x ≡ true → Touch c v x
+  writes : {call : Call} → c .stage ≡ StreamsAsked call → isGood v ≡ true → x ≡ FillStreams (c .counts .streams) → Touch c v x
 
 effect-leaves : (call : Call) → fills (effectOf call) ≡ false
 effect-leaves (SetParams stream to) = refl
@@ -72,17 +73,17 @@ effect-leaves (Streams direction) = refl
 effect-leaves (Supported field stream) = refl
 effect-leaves (Xfer stream) = refl
 
-others-leave : (good : Bool) → (fills (pick good FillJacks Nothing) ≡ false) × (fills (pick good FillMaps Nothing) ≡ false)
-others-leave true = (refl, refl)
-others-leave false = (refl, refl)
+others-leave : (n : ℕ) (good : Bool) → (fills (pick good (FillJacks n) Nothing) ≡ false) × (fills (pick good (FillMaps n) Nothing) ≡ false)
+others-leave n true = (refl, refl)
+others-leave n false = (refl, refl)
 
-touch : {c : Core} {v : Verdict} {look : ℕ} {long : Bool} {p : Plan} → Answered c v look long p → Touch c v (p .effect)
+touch : {c : Core} {v : Verdict} {look : Look} {long : Bool} {p : Plan} → Answered c v look long p → Touch c v (p .effect)
 touch (short _) = leaves refl
 touch (idle _) = leaves refl
-touch {v} (asks-streams _ _) = leaves (others-leave (isGood v) .0)
+touch {v} (asks-streams _ _) = leaves (others-leave _ (isGood v) .0)
 touch (asks-maps _ g h) = writes g h refl
 touch (cuts _ _ _ _ _) = leaves refl
-touch {v} (finishes _ _ _) = leaves (others-leave (isGood v) .1)
+touch {v} (finishes _ _ _) = leaves (others-leave _ (isGood v) .1)
 touch (ends {call} _ _ _) = leaves (effect-leaves call)
 touch (fails _ _ _) = leaves refl
 
@@ -102,11 +103,11 @@ pub record Refilled (s : Sound) (f : Feed) : Type 0 where
 touched : (s : Sound) (f : Feed) (old : List ℕ) → planOf s f .core .counts ≡ s .core .counts → Filled s old → Touch (s .core) (verdictOf s f) (planOf s f .effect)
     → Filled (fedOf s f .sound) old ⊎ Refilled s f
 touched s f old a h (leaves e) = inl (kept-table (planOf s f .effect) (planOf s f .core) s (pageOf f) old e (ap (λ (m : Counts). m .streams) a) h)
-touched s f old a h (writes {call} g v e) = inr (record { waits-for = call; asked-streams = g; good = v; new = new-table (planOf s f .effect) (planOf s f .core) s (pageOf f) e (good-page s f (planOf s f .core .counts) a g v) })
+touched s f old a h (writes {call} g v e) = inr (record { waits-for = call; asked-streams = g; good = v; new = new-table (planOf s f .effect) (planOf s f .core) s (pageOf f) (e ∙ ap (λ (m : Counts). FillStreams (m .streams)) (sym a)) (good-page s f (planOf s f .core .counts) a g v) })
 
 -- the answer to the query of streams: set-up goes on with it only where it is good
-fed-good : {c : Core} {v : Verdict} {look : ℕ} {long : Bool} {p : Plan} {call : Call} → c .stage ≡ StreamsAsked call → asked (replyOf (p .say)) ≡ 1 → Answered c v look long p
-    → (isGood v ≡ true) × (fills (p .effect) ≡ true)
+fed-good : {c : Core} {v : Verdict} {look : Look} {long : Bool} {p : Plan} {call : Call} → c .stage ≡ StreamsAsked call → asked (replyOf (p .say)) ≡ 1 → Answered c v look long p
+    → (isGood v ≡ true) × (p .effect ≡ FillStreams (c .counts .streams))
 fed-good g e (short _) = absurd (wrong e)
 fed-good g e (idle _) = absurd (wrong e)
 fed-good g e (asks-streams _ h) = absurd (omega (arith, ap waits (sym g ∙ h)))
@@ -121,7 +122,7 @@ fed-good g e (fails _ _ _) = absurd (wrong e)
 pub streams-filled : (s : Sound) (f : Feed) (call : Call) → s .core .stage ≡ StreamsAsked call → asked (fedOf s f .reply) ≡ 1 → Filled (fedOf s f .sound) (pageOf f)
 streams-filled s f call g e =
     let a = fed-good g e (fed s f) in
-    new-table (planOf s f .effect) (planOf s f .core) s (pageOf f) (a .1) (good-page s f (planOf s f .core .counts) (fed-stays s f .counts) g (a .0))
+    new-table (planOf s f .effect) (planOf s f .core) s (pageOf f) (a .1 ∙ ap (λ (m : Counts). FillStreams (m .streams)) (sym (fed-stays s f .counts))) (good-page s f (planOf s f .core .counts) (fed-stays s f .counts) g (a .0))
 
 pub filled-feed : (s : Sound) (f : Feed) (old : List ℕ) → Filled s old → Filled (fedOf s f .sound) old ⊎ Refilled s f
 filled-feed s f old h = touched s f old (fed-stays s f .counts) h (touch (fed s f))

@@ -12,31 +12,32 @@ use Rattle.tables.specs.TablesLaws.{good-whole}
 use Rattle.tables.specs.declared.verdict.Verdict.{Verdict}
 use Rattle.turns.specs.ConsistentLaws.{both}
 use Rattle.turns.specs.declared.ring.Track.{Track}
-use Rattle.exchange.specs.State.{withStage}
-use Rattle.exchange.specs.Consistent.{periodOk, callOk, numbersOk, sentOk, behind, exactly, atMost, tablesOk, consistentOf, paramsOk}
-use Rattle.exchange.specs.ConsistentLaws.{At, facts-at, ready-sent, full, exactly-self, atMost-self, ready-tables, sent-facts}
-use Rattle.exchange.specs.Plan.{effectOf, verdictBy, readTo}
+use Rattle.core.specs.State.{withStage}
+use Rattle.core.specs.Consistent.{periodOk, callOk, numbersOk, sentOk, queriesAnswered, exactly, noneOrAll, tablesOk, consistentOf, paramsOk}
+use Rattle.exchange.specs.ConsistentLaws.{At, facts-at, ready-sent, full, exactly-self, noneOrAll-self, ready-tables, sent-facts}
+use Rattle.core.specs.Plan.{effectOf, verdictBy, readTo}
 use Rattle.exchange.specs.OwnLaws.{Own, sets, commands, remaps, lists, tells, refuses, picked-by}
 use Rattle.exchange.specs.PlanLaws.{Begun, bars, asks, goes, begun, counted, Answered, short, idle, asks-streams, asks-maps, cuts, finishes, ends, fails, fed}
 use Rattle.exchange.specs.Exchange.{callOf}
 use Rattle.exchange.specs.Feed.{Feed, paged, failed, planOf, verdictOf}
-use Rattle.exchange.specs.declared.state.Counts.{Counts}
-use Rattle.exchange.specs.declared.state.Params.{Params}
-use Rattle.exchange.specs.declared.state.Call.{Call}
-use Rattle.exchange.specs.declared.state.Call.the-variants.{SetParams, Command, Remap, Streams, Supported, Xfer}
-use Rattle.exchange.specs.declared.state.Stage.{Stage}
-use Rattle.exchange.specs.declared.state.Stage.the-variants.{Idle, JacksAsked, StreamsAsked, MapsAsked, Sent}
-use Rattle.exchange.specs.declared.state.Core.{Core}
+use Rattle.core.specs.declared.state.Counts.{Counts}
+use Rattle.core.specs.declared.state.Params.{Params}
+use Rattle.core.specs.declared.state.Call.{Call}
+use Rattle.core.specs.declared.state.Call.the-variants.{SetParams, Command, Remap, Streams, Supported, Xfer}
+use Rattle.core.specs.declared.state.Stage.{Stage}
+use Rattle.core.specs.declared.state.Stage.the-variants.{Idle, JacksAsked, StreamsAsked, MapsAsked, Sent}
+use Rattle.core.specs.declared.state.Core.{Core}
 use Rattle.exchange.specs.declared.state.Sound.{Sound}
-use Rattle.exchange.specs.declared.plan.Effect.{Effect}
-use Rattle.exchange.specs.declared.plan.Effect.the-variants.{Nothing, FillJacks, FillStreams, FillMaps, Store}
-use Rattle.exchange.specs.declared.plan.Plan.{Plan}
+use Rattle.core.specs.declared.plan.Effect.{Effect}
+use Rattle.core.specs.declared.plan.Effect.the-variants.{Nothing, FillJacks, FillStreams, FillMaps, Store}
+use Rattle.core.specs.declared.plan.Look.{Look}
+use Rattle.core.specs.declared.plan.Plan.{Plan}
 
 abbrev pub Allowed : Core → Effect → Type 0
 Allowed c Nothing = Unit {0}
-Allowed c FillJacks = Unit {0}
-Allowed c FillStreams = Unit {0}
-Allowed c FillMaps = Unit {0}
+Allowed c (FillJacks n) = Unit {0}
+Allowed c (FillStreams n) = Unit {0}
+Allowed c (FillMaps n) = Unit {0}
 Allowed c (Store stream to) = (paramsOk to ≡ true) × (c .ready ≡ true) × (stream < c .counts .streams)
 
 pub record Fine (c : Core) (p : Plan) : Type 0 where
@@ -46,8 +47,8 @@ pub record Fine (c : Core) (p : Plan) : Type 0 where
 pub ask-fine : (c : Core) (call : Call) → consistentOf c ≡ true → c .stage ≡ Idle → c .ready ≡ false → callOk call ≡ true → consistentOf (withStage c (JacksAsked call)) ≡ true
 unfolding consistentOf
 ask-fine c call e g r ok =
-    let t : tablesOk (c .read) (c .counts) (behind Idle (c .ready)) ≡ true = facts-at c Idle e g .tables in
-    let u : tablesOk (c .read) (c .counts) 0 ≡ true = ap (λ (b : Bool). tablesOk (c .read) (c .counts) (behind Idle b)) (sym r) ∙ t in
+    let t : tablesOk (c .read) (c .counts) (queriesAnswered Idle (c .ready)) ≡ true = facts-at c Idle e g .tables in
+    let u : tablesOk (c .read) (c .counts) 0 ≡ true = ap (λ (b : Bool). tablesOk (c .read) (c .counts) (queriesAnswered Idle b)) (sym r) ∙ t in
     rw (r, u, ok)
 
 -- the two ends of a call's own part
@@ -67,7 +68,7 @@ module _ (c : Core) (r : c .ready ≡ true) (t : tablesOk (c .read) (c .counts) 
       let k = lt-ltb stream (c .read .streams) (omega (arith, f .streams)) in
       rw (n, p, k)
 
-  pub own-fine : {look : ℕ} {call : Call} {p : Plan} → callOk call ≡ true → Own c look call p → Fine c p
+  pub own-fine : {look : Look} {call : Call} {p : Plan} → callOk call ≡ true → Own c look call p → Fine c p
   own-fine ok (sets {stream} {to} p h) = record { consistent = sent-fine (SetParams stream to) (set-fine stream to ok p h); effect = tt }
   own-fine ok (commands {kind} {stream}) = record { consistent = sent-fine (Command kind stream) refl; effect = tt }
   own-fine ok (remaps {jack} {association} {sequence} h _ b) = record { consistent = sent-fine (Remap jack association sequence) refl; effect = tt }
@@ -76,7 +77,7 @@ module _ (c : Core) (r : c .ready ≡ true) (t : tablesOk (c .read) (c .counts) 
   own-fine ok (refuses x _) = record { consistent = idle-fine; effect = tt }
 
 -- a call
-pub begun-fine : {c : Core} {call : Call} {look : ℕ} {p : Plan} → consistentOf c ≡ true → Begun c call look p → Fine c p
+pub begun-fine : {c : Core} {call : Call} {look : Look} {p : Plan} → consistentOf c ≡ true → Begun c call look p → Fine c p
 begun-fine e (bars x) = record { consistent = e; effect = tt }
 begun-fine {c} {call} e (asks _ g r ok) = record { consistent = ask-fine c call e g r ok; effect = tt }
 begun-fine {c} e (goes _ g r ok o) = own-fine c r (ready-tables c e r) ok o
@@ -98,8 +99,8 @@ page-room (StreamsAsked call) n page e = omega (arith, good-whole page (n .strea
 page-room (MapsAsked call) n page e = omega (arith, good-whole page (n .maps) 24 e .fits)
 page-room (Sent call) n page e = tt
 
-counted-fine : (v : Verdict) (n most : ℕ) → (isGood v ≡ true → n ≤ most) → atMost (counted v n) n most ≡ true
-counted-fine v n most h = picked-by (λ (k : ℕ). atMost k n most ≡ true) (isGood v) n 0 (λ g. atMost-self n most (h g)) (λ _. refl)
+counted-fine : (v : Verdict) (n most : ℕ) → (isGood v ≡ true → n ≤ most) → noneOrAll (counted v n) n most ≡ true
+counted-fine v n most h = picked-by (λ (k : ℕ). noneOrAll k n most ≡ true) (isGood v) n 0 (λ g. noneOrAll-self n most (h g)) (λ _. refl)
 
 effect-fine : (c : Core) (call : Call) → At c (Sent call) → Allowed c (effectOf call)
 effect-fine c (SetParams stream to) a =
@@ -128,14 +129,14 @@ module _ (c : Core) (v : Verdict) (e : consistentOf c ≡ true) (room : isGood v
       let a = facts-at c (StreamsAsked call) e g in
       let ok : callOk call ≡ true = a .call in
       let w = exactly-self (c .counts .streams) 127 (subst (λ (k : Stage). Room k (c .counts)) g (room h)) in
-      let j = both (atMost (c .read .jacks) (c .counts .jacks) 170) (eqb (c .read .streams) 0 && eqb (c .read .maps) 0) (a .tables) .0 in
+      let j = both (noneOrAll (c .read .jacks) (c .counts .jacks) 170) (eqb (c .read .streams) 0 && eqb (c .read .maps) 0) (a .tables) .0 in
       rw (j, w, ok)
 
   all-fine : (call : Call) → c .stage ≡ MapsAsked call → tablesOk (record { jacks = c .read .jacks; streams = c .read .streams; maps = counted v (c .counts .maps) }) (c .counts) 3 ≡ true
   all-fine call g =
       let a = facts-at c (MapsAsked call) e g in
       let x = exactly (c .read .streams) (c .counts .streams) 127 in
-      let b = both (atMost (c .read .jacks) (c .counts .jacks) 170) (x && eqb (c .read .maps) 0) (a .tables) in
+      let b = both (noneOrAll (c .read .jacks) (c .counts .jacks) 170) (x && eqb (c .read .maps) 0) (a .tables) in
       let j = b .0 in
       let w = both x (eqb (c .read .maps) 0) (b .1) .0 in
       let m = counted-fine v (c .counts .maps) 170 (λ h. subst (λ (k : Stage). Room k (c .counts)) g (room h)) in
@@ -146,16 +147,16 @@ module _ (c : Core) (v : Verdict) (e : consistentOf c ≡ true) (room : isGood v
       let a = facts-at c (Sent call) e g in
       idle-fine c (ready-sent c call a) (a .tables)
 
-  pub answered-fine : {look : ℕ} {long : Bool} {p : Plan} → Answered c v look long p → Fine c p
+  pub answered-fine : {look : Look} {long : Bool} {p : Plan} → Answered c v look long p → Fine c p
   unfolding consistentOf
   answered-fine (short l) = record { consistent = e; effect = tt }
   answered-fine (idle g) = record { consistent = e; effect = tt }
-  answered-fine (asks-streams {call} _ g) = record { consistent = streams-fine call g; effect = picked-by (Allowed c) (isGood v) FillJacks Nothing (λ _. tt) (λ _. tt) }
+  answered-fine (asks-streams {call} _ g) = record { consistent = streams-fine call g; effect = picked-by (Allowed c) (isGood v) (FillJacks (c .counts .jacks)) Nothing (λ _. tt) (λ _. tt) }
   answered-fine (asks-maps {call} _ g h) = record { consistent = maps-fine call g h; effect = tt }
   answered-fine (cuts x _ _ _ a) = record { consistent = refl; effect = tt }
   answered-fine (finishes {call} _ g o) =
       let f = own-fine (readTo c (c .read .jacks) (c .read .streams) (counted v (c .counts .maps)) true) refl (all-fine call g) (facts-at c (MapsAsked call) e g .call) o in
-      record { consistent = f .consistent; effect = picked-by (Allowed c) (isGood v) FillMaps Nothing (λ _. tt) (λ _. tt) }
+      record { consistent = f .consistent; effect = picked-by (Allowed c) (isGood v) (FillMaps (c .counts .maps)) Nothing (λ _. tt) (λ _. tt) }
   answered-fine (ends {call} _ g h) = record { consistent = done-fine call g; effect = effect-fine c call (facts-at c (Sent call) e g) }
   answered-fine (fails {call} _ _ g) = record { consistent = done-fine call g; effect = tt }
 

@@ -7,8 +7,8 @@ use lib.ListN.{length}
 use Rattle.turns.specs.Consistent as ring
 use Rattle.turns.specs.declared.ring.Ring.{Ring}
 use Rattle.exchange.specs.State.{paramsOf}
-use Rattle.exchange.specs.Consistent.{consistentOf, paramsOk}
-use Rattle.exchange.specs.declared.state.Stage.the-variants.{Idle}
+use Rattle.core.specs.Consistent.{consistentOf, paramsOk}
+use Rattle.core.specs.declared.state.Stage.the-variants.{Idle}
 use Rattle.exchange.specs.declared.state.Sound.{Sound}
 
 pub record Kept (s : Sound) : Type 0 where
@@ -32,4 +32,4 @@ pub record Playable (s : Sound) (r : Ring) (stream : ℕ) : Type 0 where
   pub set : paramsOf s stream .known ≡ 0 → ⊥
   pub closed : s .core .stage ≡ Idle
   pub still : r .track .running ≡ false
-  pub empty : r .track .held ≡ 0
+  pub empty : r .track .inflight ≡ 0

@@ -8,9 +8,10 @@ use native.Mathlib.Omega.{arith}
 use lib.ListN.{length, getD, set, replicate, length-set}
 use lib.Seq.{getD-set-other}
 use Rattle.tables.specs.TableLengthLaws.{jacks-length, streams-length, maps-length}
-use Rattle.exchange.specs.State.{unset, newSound, paramsOf}
-use Rattle.exchange.specs.Consistent.{consistentOf, paramsOk}
-use Rattle.exchange.specs.Plan.{soundAfter}
+use Rattle.core.specs.State.{unset}
+use Rattle.exchange.specs.State.{newSound, paramsOf}
+use Rattle.core.specs.Consistent.{consistentOf, paramsOk}
+use Rattle.exchange.specs.Tables.{soundAfter}
 use Rattle.exchange.specs.Exchange.{stepOf, callOf}
 use Rattle.exchange.specs.Kept.{Kept}
 use Rattle.exchange.specs.FineLaws.{Allowed, Fine, called-fine, fed-fine}
@@ -20,14 +21,14 @@ use Rattle.records.specs.declared.info.PcmInfo.{PcmInfo}
 use Rattle.records.specs.declared.info.ChannelMap.{ChannelMap}
 use Rattle.exchange.specs.Feed.{Feed, pageOf, planOf, fedOf}
 use Rattle.exchange.specs.StayLaws.{Stays, called-stays, fed-stays}
-use Rattle.exchange.specs.declared.state.Counts.{Counts}
-use Rattle.exchange.specs.declared.state.Params.{Params}
-use Rattle.exchange.specs.declared.state.Call.{Call}
-use Rattle.exchange.specs.declared.state.Core.{Core}
+use Rattle.core.specs.declared.state.Counts.{Counts}
+use Rattle.core.specs.declared.state.Params.{Params}
+use Rattle.core.specs.declared.state.Call.{Call}
+use Rattle.core.specs.declared.state.Core.{Core}
 use Rattle.exchange.specs.declared.state.Sound.{Sound}
-use Rattle.exchange.specs.declared.plan.Effect.{Effect}
-use Rattle.exchange.specs.declared.plan.Effect.the-variants.{Nothing, FillJacks, FillStreams, FillMaps, Store}
-use Rattle.exchange.specs.declared.plan.Plan.{Plan}
+use Rattle.core.specs.declared.plan.Effect.{Effect}
+use Rattle.core.specs.declared.plan.Effect.the-variants.{Nothing, FillJacks, FillStreams, FillMaps, Store}
+use Rattle.core.specs.declared.plan.Plan.{Plan}
 
 unset-known : (n i : ℕ) → getD (replicate n unset) i unset ≡ unset
 unset-known zero i = refl
@@ -101,9 +102,9 @@ module _ (s : Sound) (k : Kept s) (d : Core) (e : consistentOf d ≡ true) (n : 
 
   effect-kept : (x : Effect) (page : List ℕ) → Allowed (s .core) x → Kept (soundAfter x d s page)
   effect-kept Nothing page a = tables-kept (s .jacks) (s .pcms) (s .maps) (k .jacks) (k .pcms) (k .maps)
-  effect-kept FillJacks page a = tables-kept _ (s .pcms) (s .maps) (jacks-length page (d .counts .jacks) (s .jacks) (k .jacks)) (k .pcms) (k .maps)
-  effect-kept FillStreams page a = tables-kept (s .jacks) _ (s .maps) (k .jacks) (streams-length page (d .counts .streams) (s .pcms) (k .pcms)) (k .maps)
-  effect-kept FillMaps page a = tables-kept (s .jacks) (s .pcms) _ (k .jacks) (k .pcms) (maps-length page (d .counts .maps) (s .maps) (k .maps))
+  effect-kept (FillJacks n) page a = tables-kept _ (s .pcms) (s .maps) (jacks-length page n (s .jacks) (k .jacks)) (k .pcms) (k .maps)
+  effect-kept (FillStreams n) page a = tables-kept (s .jacks) _ (s .maps) (k .jacks) (streams-length page n (s .pcms) (k .pcms)) (k .maps)
+  effect-kept (FillMaps n) page a = tables-kept (s .jacks) (s .pcms) _ (k .jacks) (k .pcms) (maps-length page n (s .maps) (k .maps))
   effect-kept (Store stream to) page a = store-kept stream to (a .0) (a .1) (a .2)
 
 pub step-kept : (s : Sound) (p : Plan) (page : List ℕ) → Kept s → Stays (s .core) p → Fine (s .core) p → Kept (soundAfter (p .effect) (p .core) s page)

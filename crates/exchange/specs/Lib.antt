@@ -1,7 +1,6 @@
 -- definitions
 pub mod State
-pub mod Consistent
-pub mod Plan
+pub mod Tables
 pub mod Exchange
 pub mod Xfer
 pub mod Steps

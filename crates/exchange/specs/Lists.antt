@@ -24,16 +24,17 @@ use Rattle.exchange.specs.Ends.{waits}
 use Rattle.exchange.specs.ResultLaws.{recall, own?, begun-own, Finished, answered-own}
 use Rattle.exchange.specs.Feed.{Feed, pageOf, planOf, fedOf, One, callAt}
 use Rattle.exchange.specs.StayLaws.{Stays, called-stays, fed-stays}
-use Rattle.exchange.specs.declared.state.Counts.{Counts}
-use Rattle.exchange.specs.declared.state.Call.the-variants.{Streams}
-use Rattle.exchange.specs.declared.state.Stage.the-variants.{MapsAsked}
-use Rattle.exchange.specs.declared.state.Core.{Core}
+use Rattle.core.specs.declared.state.Counts.{Counts}
+use Rattle.core.specs.declared.state.Call.the-variants.{Streams}
+use Rattle.core.specs.declared.state.Stage.the-variants.{MapsAsked}
+use Rattle.core.specs.declared.state.Core.{Core}
 use Rattle.exchange.specs.declared.state.Sound.{Sound}
-use Rattle.exchange.specs.declared.plan.Value.{Value}
-use Rattle.exchange.specs.declared.plan.Value.the-variants as value
-use Rattle.exchange.specs.declared.plan.Say.{Say}
-use Rattle.exchange.specs.declared.plan.Say.the-variants.{Done}
-use Rattle.exchange.specs.declared.plan.Plan.{Plan}
+use Rattle.core.specs.declared.plan.Value.{Value}
+use Rattle.core.specs.declared.plan.Value.the-variants as value
+use Rattle.core.specs.declared.plan.Say.{Say}
+use Rattle.core.specs.declared.plan.Say.the-variants.{Done}
+use Rattle.core.specs.declared.plan.Look.{Look}
+use Rattle.core.specs.declared.plan.Plan.{Plan}
 
 -- ---- one id more, or not
 
@@ -117,11 +118,11 @@ list-by s p d b f a page =
     let n : p .core .read .streams ≡ s .core .counts .streams = e ∙ ap (λ (m : Counts). m .streams) (b .counts) in
     ap₂ (λ (x : Say) (k : ℕ). listOf x k (s .pcms)) (a .0) n
 
-own-lists : {c : Core} {look d : ℕ} {p : Plan} (x : Value) → c .ready ≡ true → p .say ≡ Done x → Own c look (Streams d) p → (p .say ≡ Done (value.Streams d)) × (p .core .ready ≡ true)
+own-lists : {c : Core} {look : Look} {d : ℕ} {p : Plan} (x : Value) → c .ready ≡ true → p .say ≡ Done x → Own c look (Streams d) p → (p .say ≡ Done (value.Streams d)) × (p .core .ready ≡ true)
 own-lists x r e lists = (refl, r)
 own-lists x r e (refuses _ z) = absurd z
 
-finished-lists : {c : Core} {look d : ℕ} {p : Plan} (x : Value) → c .stage ≡ MapsAsked (Streams d) → p .say ≡ Done x → Finished c look p
+finished-lists : {c : Core} {look : Look} {d : ℕ} {p : Plan} (x : Value) → c .stage ≡ MapsAsked (Streams d) → p .say ≡ Done x → Finished c look p
     → (p .say ≡ Done (value.Streams d)) × (p .core .ready ≡ true)
 finished-lists x g e f =
     let a = own-lists x (f .ready) (sym (f .say) ∙ e) (recall (sym (ap callAt (f .waited)) ∙ ap callAt g) (f .own)) in

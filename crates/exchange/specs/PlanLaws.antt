@@ -3,8 +3,8 @@
 use mathlib.Core.Path.{_≡_, refl, sym, ap, _∙_}
 use mathlib.Core.Bool.{Bool, true, false, not, _&&_, false≢true}
 use mathlib.Core.List.{List, [], _∷_}
-use mathlib.Core.Logic.{inl, inr}
-use Prim.Native.Nat.{ℕ, _+_, _*_}
+use mathlib.Core.Logic.{_⊎_, inl, inr}
+use Prim.Native.Nat.{ℕ}
 use lib.Dec.{leb, eqb}
 use borrow.Author.Tests.{eq-eqb, le-leb}
 use lib.ListN.{length}
@@ -12,36 +12,37 @@ use Rattle.codes.specs.Says.{pick, guard}
 use Rattle.codes.specs.SaysLaws.{guarded-by}
 use Rattle.codes.specs.Answers.{saysRefusal}
 use Rattle.codes.specs.declared.answers.Refusal.{Refusal}
-use Rattle.codes.specs.declared.answers.Refusal.the-variants.{InvalidParam, TooMany, Busy, BadLength}
-use Rattle.layout.specs.Bytes.{numAt}
-use Rattle.tables.specs.Tables.{judged, isGood}
+use Rattle.codes.specs.declared.answers.Refusal.the-variants.{InvalidParam, IoError, TooMany, QueueFailed, Busy, BadLength}
+use Rattle.tables.specs.Tables.{judged, isGood, refusedBy}
 use Rattle.tables.specs.declared.verdict.Verdict.{Verdict}
 use Rattle.tables.specs.declared.verdict.Verdict.the-variants as verdict
 use Rattle.turns.specs.Calls.{idleOf}
 use Rattle.turns.specs.Consistent as ring
 use Rattle.turns.specs.ConsistentLaws.{both}
 use Rattle.turns.specs.declared.ring.Track.{Track}
-use Rattle.exchange.specs.Consistent.{callOk, consistentOf}
-use Rattle.exchange.specs.Plan.{sendOf, endOf, keepOf, cutOf, queryOf, lookOf, ownOf, isIdle, beginOf, refusalOf, isTooMany, afterJacks, afterStreams, afterMaps, effectOf, sentRefusal, afterSent, answerBy, answerOf, verdictBy, pendingLook, isShort, readTo}
+use Rattle.core.specs.Consistent.{callOk, consistentOf}
+use Rattle.core.specs.Plan.{sendOf, endOf, refusing, statusRefusal, refuseOf, cutShortOf, queryOf, ownOf, isIdle, beginOf, refusalOf, afterJacks, afterStreams, afterMaps, effectOf, afterSent, answerBy, answerOf, verdictBy, readTo}
+use Rattle.exchange.specs.Tables.{lookOf, pendingLook}
 use Rattle.exchange.specs.Exchange.{callOf, feedOf, failOf}
 use Rattle.exchange.specs.ConsistentLaws.{both-of}
 use Rattle.exchange.specs.Feed.{Feed, paged, failed, planOf, verdictOf, longOf, Long, One, asking}
-use Rattle.exchange.specs.declared.state.Counts.{Counts}
-use Rattle.exchange.specs.declared.state.Call.{Call}
-use Rattle.exchange.specs.declared.state.Stage.{Stage}
-use Rattle.exchange.specs.declared.state.Stage.the-variants.{Idle, JacksAsked, StreamsAsked, MapsAsked, Sent}
-use Rattle.exchange.specs.declared.state.Core.{Core}
+use Rattle.core.specs.declared.state.Counts.{Counts}
+use Rattle.core.specs.declared.state.Call.{Call}
+use Rattle.core.specs.declared.state.Stage.{Stage}
+use Rattle.core.specs.declared.state.Stage.the-variants.{Idle, JacksAsked, StreamsAsked, MapsAsked, Sent}
+use Rattle.core.specs.declared.state.Core.{Core}
 use Rattle.exchange.specs.declared.state.Sound.{Sound}
-use Rattle.exchange.specs.declared.plan.Value.the-variants as value
-use Rattle.exchange.specs.declared.plan.Say.the-variants.{Done, Refused}
-use Rattle.exchange.specs.declared.plan.Effect.the-variants.{Nothing, FillJacks, FillStreams, FillMaps}
-use Rattle.exchange.specs.declared.plan.Plan.{Plan}
+use Rattle.core.specs.declared.plan.Value.the-variants as value
+use Rattle.core.specs.declared.plan.Look.{Look}
+use Rattle.core.specs.declared.plan.Say.the-variants.{Done}
+use Rattle.core.specs.declared.plan.Effect.the-variants.{Nothing, FillJacks, FillStreams, FillMaps}
+use Rattle.core.specs.declared.plan.Plan.{Plan}
 use Rattle.exchange.specs.OwnLaws.{picked-by, Own, own}
 
 -- ---- a call: refused with nothing changed, the first query of set-up, or its own part
 
-pub data Begun (c : Core) (call : Call) (look : ℕ) : Plan → Type 0 where
-  bars : (r : Refusal) → Begun c call look (keepOf c r)
+pub data Begun (c : Core) (call : Call) (look : Look) : Plan → Type 0 where
+  bars : (r : Refusal) → Begun c call look (refuseOf c r)
   asks : consistentOf c ≡ true → c .stage ≡ Idle → c .ready ≡ false → callOk call ≡ true → Begun c call look (sendOf c (JacksAsked call) (queryOf 0x0001 (c .counts .jacks) 24) Nothing)
   goes : {p : Plan} → consistentOf c ≡ true → c .stage ≡ Idle → c .ready ≡ true → callOk call ≡ true → Own c look call p → Begun c call look p
 
@@ -77,57 +78,51 @@ begun s t call n =
 abbrev pub counted : Verdict → ℕ → ℕ
 counted v n = pick (isGood v) n 0
 
+-- a verdict that set-up may be cut short by, or a request of the call's own refused: a status not ok, 5 where a table was asked for, or the queue's 7
+abbrev pub Failing : Verdict → Type 0
+Failing verdict.Good = Unit {0}
+Failing (verdict.Status word) = Unit {0}
+Failing (verdict.Refused r) = (r ≡ TooMany) ⊎ (r ≡ QueueFailed)
+
 -- with what set-up is cut short
 abbrev pub Cut : Verdict → Refusal → Type 0
-Cut v r = isShort v ≡ false → One (saysRefusal r .number) (2 ∷ 5 ∷ 7 ∷ [])
+Cut v r = Failing v → One (saysRefusal r .number) (2 ∷ 5 ∷ 7 ∷ [])
 
-cut-by : (v : Verdict) → Cut v (refusalOf v)
+cut-by : (v : Verdict) → Cut v (refusalOf IoError v)
 cut-by verdict.Good l = inl refl
 cut-by (verdict.Status word) l = inl refl
-cut-by verdict.TooMany l = inr (inl refl)
-cut-by verdict.BadLength l = absurd (false≢true (sym l))
-cut-by verdict.Failed l = inr (inr (inl refl))
+cut-by (verdict.Refused r) (inl e) = inr (inl (ap (λ (x : Refusal). saysRefusal x .number) e))
+cut-by (verdict.Refused r) (inr e) = inr (inr (inl (ap (λ (x : Refusal). saysRefusal x .number) e)))
 
-pub data Answered (c : Core) (v : Verdict) (look : ℕ) (long : Bool) : Plan → Type 0 where
-  short : long ≡ false → Answered c v look long (keepOf c BadLength)
-  idle : (consistentOf c ≡ true → c .stage ≡ Idle) → Answered c v look long (keepOf c InvalidParam)
+pub data Answered (c : Core) (v : Verdict) (look : Look) (long : Bool) : Plan → Type 0 where
+  short : long ≡ false → Answered c v look long (refuseOf c BadLength)
+  idle : (consistentOf c ≡ true → c .stage ≡ Idle) → Answered c v look long (refuseOf c InvalidParam)
   asks-streams : {call : Call} → consistentOf c ≡ true → c .stage ≡ JacksAsked call
-      → Answered c v look long (sendOf (readTo c (counted v (c .counts .jacks)) 0 0 false) (StreamsAsked call) (queryOf 0x0100 (c .counts .streams) 32) (pick (isGood v) FillJacks Nothing))
+      → Answered c v look long (sendOf (readTo c (counted v (c .counts .jacks)) 0 0 false) (StreamsAsked call) (queryOf 0x0100 (c .counts .streams) 32) (pick (isGood v) (FillJacks (c .counts .jacks)) Nothing))
   asks-maps : {call : Call} → consistentOf c ≡ true → c .stage ≡ StreamsAsked call → isGood v ≡ true
-      → Answered c v look long (sendOf (readTo c (c .read .jacks) (c .counts .streams) 0 false) (MapsAsked call) (queryOf 0x0200 (c .counts .maps) 24) FillStreams)
-  cuts : (r : Refusal) → long ≡ true → Cut v r → consistentOf c ≡ true → asking (c .stage) ≡ true → Answered c v look long (cutOf c r)
+      → Answered c v look long (sendOf (readTo c (c .read .jacks) (c .counts .streams) 0 false) (MapsAsked call) (queryOf 0x0200 (c .counts .maps) 24) (FillStreams (c .counts .streams)))
+  cuts : (r : Refusal) → long ≡ true → Cut v r → consistentOf c ≡ true → asking (c .stage) ≡ true → Answered c v look long (cutShortOf c r)
   finishes : {call : Call} {p : Plan} → consistentOf c ≡ true → c .stage ≡ MapsAsked call
       → Own (readTo c (c .read .jacks) (c .read .streams) (counted v (c .counts .maps)) true) look call p
-      → Answered c v look long (record { core = p .core; say = p .say; effect = pick (isGood v) FillMaps Nothing })
+      → Answered c v look long (record { core = p .core; say = p .say; effect = pick (isGood v) (FillMaps (c .counts .maps)) Nothing })
   ends : {call : Call} → consistentOf c ≡ true → c .stage ≡ Sent call → isGood v ≡ true → Answered c v look long (endOf c (Done value.Nothing) (effectOf call))
-  fails : {call : Call} → long ≡ true → consistentOf c ≡ true → c .stage ≡ Sent call → Answered c v look long (endOf c (Refused (sentRefusal call v)) Nothing)
+  fails : {call : Call} → long ≡ true → consistentOf c ≡ true → c .stage ≡ Sent call → Answered c v look long (refusing c (refusalOf (statusRefusal call) v))
 
-module _ (c : Core) (v : Verdict) (look : ℕ) (long : Bool) where
+module _ (c : Core) (v : Verdict) (look : Look) (long : Bool) where
   abbrev P : Plan → Type 0
   P = Answered c v look long
 
   answered-at : long ≡ true → (g : Stage) → c .stage ≡ g → consistentOf c ≡ true → P (answerBy g c v look)
   unfolding afterJacks afterStreams afterMaps afterSent
   answered-at l Idle p e = idle (λ _. p)
-  answered-at l (JacksAsked call) p e =
-      picked-by P (isTooMany v) (cutOf c TooMany)
-      (sendOf (readTo c (counted v (c .counts .jacks)) 0 0 false) (StreamsAsked call) (queryOf 0x0100 (c .counts .streams) 32) (pick (isGood v) FillJacks Nothing))
-      (λ _. cuts TooMany l (λ _. inr (inl refl)) e (ap asking p)) (λ _. asks-streams e p)
-  answered-at l (StreamsAsked call) p e =
-      picked-by P (isGood v)
-      (sendOf (readTo c (c .read .jacks) (c .counts .streams) 0 false) (MapsAsked call) (queryOf 0x0200 (c .counts .maps) 24) FillStreams)
-      (cutOf c (refusalOf v))
-      (λ g. asks-maps e p g) (λ _. cuts (refusalOf v) l (cut-by v) e (ap asking p))
+  answered-at l (JacksAsked call) p e = guarded-by P _ _ _ (λ _. asks-streams e p) (λ _. cuts TooMany l (λ _. inr (inl refl)) e (ap asking p))
+  answered-at l (StreamsAsked call) p e = guarded-by P _ _ _ (λ g. asks-maps e p g) (λ _. cuts (refusalOf IoError v) l (cut-by v) e (ap asking p))
   answered-at l (MapsAsked call) p e =
       let d = readTo c (c .read .jacks) (c .read .streams) (counted v (c .counts .maps)) true in
-      let q = ownOf d call look in
-      picked-by P (isTooMany v) (cutOf c TooMany) (record { core = q .core; say = q .say; effect = pick (isGood v) FillMaps Nothing })
-      (λ _. cuts TooMany l (λ _. inr (inl refl)) e (ap asking p)) (λ _. finishes e p (own d look call))
-  answered-at l (Sent call) p e =
-      picked-by P (isGood v) (endOf c (Done value.Nothing) (effectOf call)) (endOf c (Refused (sentRefusal call v)) Nothing)
-      (λ g. ends e p g) (λ _. fails l e p)
+      guarded-by P _ _ _ (λ _. finishes e p (own d look call)) (λ _. cuts TooMany l (λ _. inr (inl refl)) e (ap asking p))
+  answered-at l (Sent call) p e = guarded-by P _ _ _ (λ g. ends e p g) (λ _. fails l e p)
 
-  answered : (long ≡ true → isShort v ≡ false) → P (guard long (answerOf c v look) (keepOf c BadLength))
+  answered : (long ≡ true → refusedBy 10 v ≡ false) → P (guard long (refuseOf c BadLength) (answerOf c v look))
   unfolding answerOf
   answered w =
       guarded-by P _ _ _
@@ -138,30 +133,30 @@ module _ (c : Core) (v : Verdict) (look : ℕ) (long : Bool) where
 
 -- ---- what is long has no verdict of its length
 
-judged-long : (h f : Bool) (word : ℕ) → isShort (pick h (pick f verdict.Good verdict.TooMany) (verdict.Status word)) ≡ false
-judged-long true true word = refl
-judged-long true false word = refl
-judged-long false f word = refl
-
-long-judged : (page : List ℕ) (n size : ℕ) → eqb (length page) 4096 ≡ true → isShort (judged page n size) ≡ false
+long-judged : (page : List ℕ) (n size : ℕ) → eqb (length page) 4096 ≡ true → Failing (judged page n size) × (refusedBy 10 (judged page n size) ≡ false)
 unfolding judged
-long-judged page n size l = rw l (judged-long (eqb (numAt 0 4 page) 0x8000) (leb (4 + n * size) 4096) (numAt 0 4 page))
+long-judged page n size l =
+    guarded-by (λ (v : Verdict). Failing v × (refusedBy 10 v ≡ false)) _ _ _
+    (λ _. guarded-by (λ (v : Verdict). Failing v × (refusedBy 10 v ≡ false)) _ _ _
+    (λ _. guarded-by (λ (v : Verdict). Failing v × (refusedBy 10 v ≡ false)) _ _ _ (λ _. (tt, refl)) (λ _. (inl refl, refl)))
+    (λ _. (tt, refl)))
+    (λ f. absurd (false≢true (sym f ∙ l)))
 
-long-by : (g : Stage) (n : Counts) (page : List ℕ) → eqb (length page) 4096 ≡ true → isShort (verdictBy g n page) ≡ false
+long-by : (g : Stage) (n : Counts) (page : List ℕ) → eqb (length page) 4096 ≡ true → Failing (verdictBy g n page) × (refusedBy 10 (verdictBy g n page) ≡ false)
 long-by Idle n page l = long-judged page 0 0 l
 long-by (JacksAsked call) n page l = long-judged page (n .jacks) 24 l
 long-by (StreamsAsked call) n page l = long-judged page (n .streams) 32 l
 long-by (MapsAsked call) n page l = long-judged page (n .maps) 24 l
 long-by (Sent call) n page l = long-judged page 0 0 l
 
-pub long-verdict : (s : Sound) (f : Feed) → longOf f ≡ true → isShort (verdictOf s f) ≡ false
+pub long-verdict : (s : Sound) (f : Feed) → longOf f ≡ true → Failing (verdictOf s f) × (refusedBy 10 (verdictOf s f) ≡ false)
 long-verdict s (paged bytes n) l = long-by (s .core .stage) (s .core .counts) bytes (both (eqb (length bytes) 4096) (leb 24 n) l .0)
-long-verdict s (failed n) l = refl
+long-verdict s (failed n) l = (inr refl, refl)
 
 pub fed : (s : Sound) (f : Feed) → Answered (s .core) (verdictOf s f) (pendingLook (s .core .stage) s) (longOf f) (planOf s f)
 unfolding feedOf failOf
-fed s (paged bytes n) = answered (s .core) (verdictBy (s .core .stage) (s .core .counts) bytes) (pendingLook (s .core .stage) s) (eqb (length bytes) 4096 && leb 24 n) (long-verdict s (paged bytes n))
-fed s (failed n) = answered (s .core) verdict.Failed (pendingLook (s .core .stage) s) (leb 24 n) (long-verdict s (failed n))
+fed s (paged bytes n) = answered (s .core) (verdictBy (s .core .stage) (s .core .counts) bytes) (pendingLook (s .core .stage) s) (eqb (length bytes) 4096 && leb 24 n) (λ l. long-verdict s (paged bytes n) l .1)
+fed s (failed n) = answered (s .core) (verdict.Refused QueueFailed) (pendingLook (s .core .stage) s) (leb 24 n) (λ l. refl)
 
 pub long-of : (f : Feed) → Long f → longOf f ≡ true
 long-of (paged bytes n) l = both-of (eqb (length bytes) 4096) (leb 24 n) (eq-eqb _ _ (l .0)) (le-leb _ _ (l .1))

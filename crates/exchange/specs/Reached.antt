@@ -9,18 +9,19 @@ use lib.ListN.{length, replicate}
 use Rattle.layout.specs.Bytes.{un, bytesAt, numAt}
 use Rattle.codes.specs.Says.{guard}
 use Rattle.tables.specs.Tables.{judged}
-use Rattle.turns.specs.Calls.{turnCall, drainCall, turnedOf}
+use Rattle.turns.specs.Calls.{turnCall, drainCall, turnedOf, startCall, startedOf}
+use Rattle.turns.specs.Script.{transferOf}
 use Rattle.turns.specs.Consistent as ring
 use Rattle.turns.specs.Consistent.{placedOf, pacedOf}
 use Rattle.turns.specs.ConsistentLaws.{Consistent, consistent-facts, consistent-true}
-use Rattle.turns.specs.PassLaws.{call-keeps, drain-keeps, start-keeps, new-passes}
+use Rattle.turns.specs.StaysConsistentLaws.{call-keeps, drain-keeps, start-keeps, new-passes}
 use Rattle.turns.specs.DemandLaws.{script-keeps}
-use Rattle.turns.specs.Ring.{newTrack, newRing}
+use Rattle.turns.specs.Ring.{direct, newTrack, newRing}
 use Rattle.turns.specs.declared.ring.Ring.{Ring}
 use Rattle.turns.specs.declared.reading.Reading.{Reading}
 use Rattle.exchange.specs.State.{newSound, paramsOf}
-use Rattle.exchange.specs.Consistent.{consistentOf}
-use Rattle.exchange.specs.Plan.{ownSet, beginOf, afterJacks, afterStreams, afterMaps, afterSent, answerOf}
+use Rattle.core.specs.Consistent.{consistentOf}
+use Rattle.core.specs.Plan.{ownSet, beginOf, afterJacks, afterStreams, afterMaps, afterSent, answerOf}
 use Rattle.exchange.specs.Exchange.{stepOf, callOf, feedOf, failOf}
 use Rattle.exchange.specs.Xfer.{startOf, xferOf}
 use Rattle.exchange.specs.Kept.{Kept, Playable}
@@ -28,20 +29,24 @@ use Rattle.exchange.specs.KeptLaws.{new-kept, call-kept, feed-kept}
 use Rattle.exchange.specs.Ends.{after}
 use Rattle.exchange.specs.XferLaws.{start-by, script-by, start-kept, xfer-kept}
 use Rattle.exchange.specs.Feed.{Feed, paged, failed, fedOf}
-use Rattle.exchange.specs.declared.state.Call.{Call}
-use Rattle.exchange.specs.declared.state.Call.the-variants.{SetParams}
-use Rattle.exchange.specs.declared.state.Stage.the-variants.{Idle}
+use Rattle.core.specs.declared.state.Call.{Call}
+use Rattle.core.specs.declared.state.Call.the-variants.{SetParams}
+use Rattle.core.specs.declared.state.Stage.the-variants.{Idle}
 use Rattle.exchange.specs.declared.state.Sound.{Sound}
 
 pub data Reached : Sound → Ring → Type 0 where
-  fresh : (jacks streams maps : ℕ) → Reached (newSound jacks streams maps) (newRing 3)
+  fresh : (jacks streams maps : ℕ) → Reached (newSound jacks streams maps) (newRing direct)
   called : {s : Sound} {r : Ring} (call : Call) (n : ℕ) → Reached s r → Reached (stepOf (callOf s (r .track) call n) s [] .sound) r
   fed : {s : Sound} {r : Ring} (f : Feed) → Reached s r → Reached (fedOf s f .sound) r
   started : {s : Sound} {r : Ring} (stream len budget n : ℕ) → Reached s r → Reached (startOf s r stream len budget n .sound) (startOf s r stream len budget n .ring)
   scripted : {s : Sound} {r : Ring} (stream : ℕ) (frames : List ℕ) (budget : ℕ) (script : List ℕ) (n : ℕ) → Reached s r
       → Reached (xferOf s r stream (length frames) budget script n .sound) (xferOf s r stream (length frames) budget script n .ring)
-  turned : {s : Sound} {r : Ring} (len : ℕ) (reading : Reading) → Reached s r → Reached s (turnedOf r (turnCall 3 (r .track) len reading) .ring)
+  turned : {s : Sound} {r : Ring} (len : ℕ) (reading : Reading) → Reached s r → Reached s (turnedOf r (turnCall (r .track) len reading) .ring)
   drained : {s : Sound} {r : Ring} (reading : Reading) → Reached s r → Reached s (turnedOf r (drainCall (r .track) reading) .ring)
+  -- the ring by itself: `start` and `transfer` of turns, and a new one beside a state that was kept
+  begun : {s : Sound} {r : Ring} (stream len period budget : ℕ) → Reached s r → Reached s (startedOf r (startCall (r .track) stream len period budget) .ring)
+  ran : {s : Sound} {r : Ring} (stream period budget : ℕ) (frames script : List ℕ) → Reached s r → Reached s (transferOf r stream (length frames) period budget script .ring)
+  renewed : {s : Sound} {r : Ring} → Reached s r → Reached s (newRing direct)
 
 module _ (s : Sound) (r : Ring) (stream budget n : ℕ) (c : Consistent (r .track)) where
   start-ring : (len : ℕ) → Consistent (startOf s r stream len budget n .ring .track)
@@ -49,21 +54,24 @@ module _ (s : Sound) (r : Ring) (stream budget n : ℕ) (c : Consistent (r .trac
 
   script-ring : (frames script : List ℕ) → Consistent (xferOf s r stream (length frames) budget script n .ring .track)
   script-ring frames script =
-      script-by (λ x. Consistent (x .ring .track)) s r stream (length frames) budget n (λ _. c) (λ _ _ _. c) script (script-keeps 3 r stream (paramsOf s stream .period) budget frames script (omega arith) c)
+      script-by (λ x. Consistent (x .ring .track)) s r stream (length frames) budget n (λ _. c) (λ _ _ _. c) script (script-keeps r stream (paramsOf s stream .period) budget frames script c)
 
 -- what calls left has the invariant
 pub reached-kept : {s : Sound} {r : Ring} → Reached s r → Kept s × Consistent (r .track)
-reached-kept (fresh jacks streams maps) = (new-kept jacks streams maps, consistent-facts (newTrack 3) new-passes)
+reached-kept (fresh jacks streams maps) = (new-kept jacks streams maps, consistent-facts (newTrack direct) new-passes)
 reached-kept (called {s} {r} call n h) = let k = reached-kept h in (call-kept s (r .track) call n (k .0), k .1)
 reached-kept (fed {s} f h) = let k = reached-kept h in (feed-kept s f (k .0), k .1)
 reached-kept (started {s} {r} stream len budget n h) = let k = reached-kept h in (start-kept s r stream len budget n (k .0), start-ring s r stream budget n (k .1) len)
 reached-kept (scripted {s} {r} stream frames budget script n h) = let k = reached-kept h in (xfer-kept s r stream (length frames) budget n (k .0) script, script-ring s r stream budget n (k .1) frames script)
-reached-kept (turned {r} len reading h) = let k = reached-kept h in (k .0, call-keeps 3 (r .track) len reading (omega arith) (k .1))
+reached-kept (turned {r} len reading h) = let k = reached-kept h in (k .0, call-keeps (r .track) len reading (k .1))
 reached-kept (drained {r} reading h) = let k = reached-kept h in (k .0, drain-keeps (r .track) reading (k .1))
+reached-kept (begun {r} stream len period budget h) = let k = reached-kept h in (k .0, start-keeps (r .track) stream len period budget (k .1))
+reached-kept (ran {r} stream period budget frames script h) = let k = reached-kept h in (k .0, script-keeps r stream period budget frames script (k .1))
+reached-kept (renewed h) = (reached-kept h .0, consistent-facts (newTrack direct) new-passes)
 
 -- so demand 3 speaks of every state and ring that calls left
 pub reached-playable : {s : Sound} {r : Ring} (stream : ℕ) → Reached s r → (paramsOf s stream .known ≡ 0 → ⊥) → s .core .stage ≡ Idle → r .track .running ≡ false
-    → r .track .held ≡ 0 → Playable s r stream
+    → r .track .inflight ≡ 0 → Playable s r stream
 reached-playable {r} stream h set closed still empty =
     let k = reached-kept h in
     record { state = k .0; ring = consistent-true (r .track) (k .1); set = set; closed = closed; still = still; empty = empty }
@@ -77,12 +85,12 @@ abbrev first : Call
 first = SetParams 1 (record { known = 0; buffer = 8192; period = 2048; features = 0; channels = 2; format = 5; rate = 7 })
 
 abbrev asked : Sound
-asked = stepOf (callOf (newSound 0 2 0) (newTrack 3) first 24) (newSound 0 2 0) [] .sound
+asked = stepOf (callOf (newSound 0 2 0) (newTrack direct) first 24) (newSound 0 2 0) [] .sound
 
 abbrev parametersSet : Sound
 parametersSet = after asked (failed 24 ∷ ok ∷ failed 24 ∷ ok ∷ [])
 
-pub premises-met : Playable parametersSet (newRing 3) 1
+pub premises-met : Playable parametersSet (newRing direct) 1
 unfolding after callOf feedOf failOf beginOf answerOf afterJacks afterStreams afterMaps afterSent ownSet consistentOf placedOf pacedOf guard judged numAt bytesAt un
 premises-met =
     let k : _≡_ {A = ℕ} (paramsOf parametersSet 1 .known) 1 = refl in

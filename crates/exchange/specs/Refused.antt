@@ -6,43 +6,44 @@ use mathlib.Core.List.{List, [], _∷_}
 use mathlib.Core.Logic.{inl, inr}
 use Prim.Native.Nat.{ℕ}
 use lib.Dec.{eqb}
-use lib.ListN.{length}
-use Rattle.layout.specs.Bytes.{numAt}
 use Rattle.codes.specs.Says.{pick}
+use Rattle.codes.specs.SaysLaws.{guarded-by}
 use Rattle.codes.specs.Answers.{saysRefusal}
 use Rattle.codes.specs.declared.answers.Refusal.{Refusal}
+use Rattle.codes.specs.declared.answers.Refusal.the-variants.{IoError}
 use Rattle.records.specs.declared.info.ChannelMap.{ChannelMap}
-use Rattle.tables.specs.Tables.{judged, isGood, saysVerdict, mapsRead}
+use Rattle.tables.specs.Tables.{judged, isGood, refusedBy, saysVerdict, mapsRead}
 use Rattle.tables.specs.declared.verdict.Verdict.{Verdict}
 use Rattle.tables.specs.declared.verdict.Verdict.the-variants as verdict
 use Rattle.turns.specs.declared.ring.Track.{Track}
-use Rattle.exchange.specs.State.{none, withStage}
-use Rattle.exchange.specs.Plan.{refusalOf, remapRefusal, isTooMany, sentRefusal, soundAfter, verdictBy, isShort, readTo}
+use Rattle.core.specs.State.{none, withStage}
+use Rattle.core.specs.Plan.{refusalOf, statusRefusal, verdictBy, readTo}
+use Rattle.exchange.specs.Tables.{soundAfter}
 use Rattle.exchange.specs.OwnLaws.{Own, sets, commands, remaps, lists, tells, refuses}
-use Rattle.exchange.specs.PlanLaws.{Begun, bars, asks, goes, begun, long-verdict, Answered, short, idle, asks-streams, asks-maps, cuts, finishes, ends, fails, fed}
-use Rattle.exchange.specs.Exchange.{messageAfter, replyOf, stepOf, callOf}
+use Rattle.exchange.specs.PlanLaws.{Begun, bars, asks, goes, begun, Failing, long-verdict, Answered, short, idle, asks-streams, asks-maps, cuts, finishes, ends, fails, fed}
+use Rattle.core.specs.Reply.{messageAfter, replyOf}
+use Rattle.exchange.specs.Exchange.{stepOf, callOf}
 use Rattle.exchange.specs.Feed.{Feed, paged, failed, pageOf, planOf, fedOf, verdictOf, longOf, One, ownRefusals, asking}
 use Rattle.exchange.specs.StayLaws.{own-stays}
-use Rattle.exchange.specs.declared.state.Call.{Call}
-use Rattle.exchange.specs.declared.state.Call.the-variants.{SetParams, Command, Remap, Streams, Supported, Xfer}
-use Rattle.exchange.specs.declared.state.Stage.{Stage}
-use Rattle.exchange.specs.declared.state.Stage.the-variants.{Idle, MapsAsked, Sent}
-use Rattle.exchange.specs.declared.state.Core.{Core}
+use Rattle.core.specs.declared.state.Call.{Call}
+use Rattle.core.specs.declared.state.Call.the-variants.{SetParams, Command, Remap, Streams, Supported, Xfer}
+use Rattle.core.specs.declared.state.Stage.{Stage}
+use Rattle.core.specs.declared.state.Stage.the-variants.{Idle, MapsAsked, Sent}
+use Rattle.core.specs.declared.state.Core.{Core}
 use Rattle.exchange.specs.declared.state.Sound.{Sound}
-use Rattle.exchange.specs.declared.plan.Say.{Say}
-use Rattle.exchange.specs.declared.plan.Say.the-variants.{Send, Done, Refused}
-use Rattle.exchange.specs.declared.plan.Effect.{Effect}
-use Rattle.exchange.specs.declared.plan.Effect.the-variants.{Nothing, FillMaps}
-use Rattle.exchange.specs.declared.plan.Plan.{Plan}
-use Rattle.exchange.specs.declared.calls.Reply.the-variants as reply
+use Rattle.core.specs.declared.plan.Say.{Say}
+use Rattle.core.specs.declared.plan.Say.the-variants.{Send, Done, Refused}
+use Rattle.core.specs.declared.plan.Effect.{Effect}
+use Rattle.core.specs.declared.plan.Effect.the-variants.{Nothing, FillMaps}
+use Rattle.core.specs.declared.plan.Look.{Look}
+use Rattle.core.specs.declared.plan.Plan.{Plan}
+use Rattle.core.specs.declared.reply.Reply.the-variants as reply
 
 -- `refusalOf` has the verdict's own number (of a remap, a status that is not ok says 3 instead)
-pub verdict-number : (v : Verdict) → isGood v ≡ false → saysRefusal (refusalOf v) .number ≡ saysVerdict v .number
+pub verdict-number : (v : Verdict) → isGood v ≡ false → saysRefusal (refusalOf IoError v) .number ≡ saysVerdict v .number
 verdict-number verdict.Good e = absurd (false≢true (sym e))
 verdict-number (verdict.Status word) e = refl
-verdict-number verdict.TooMany e = refl
-verdict-number verdict.BadLength e = refl
-verdict-number verdict.Failed e = refl
+verdict-number (verdict.Refused r) e = refl
 
 -- ---- a reply that refuses
 
@@ -69,7 +70,7 @@ refused-writes-nothing (Refused x) r l e = refl
 
 -- ---- a call. "unchanged": whatever it is refused with, at once, the state is as it was
 
-own-closed : {c : Core} {look : ℕ} {call : Call} {p : Plan} → refuses? (p .say) ≡ true → Own c look call p → p .core ≡ withStage c Idle
+own-closed : {c : Core} {look : Look} {call : Call} {p : Plan} → refuses? (p .say) ≡ true → Own c look call p → p .core ≡ withStage c Idle
 own-closed e (sets _ _) = absurd (false≢true e)
 own-closed e commands = absurd (false≢true e)
 own-closed e (remaps _ _ _) = absurd (false≢true e)
@@ -77,7 +78,7 @@ own-closed e lists = refl
 own-closed e (tells _) = refl
 own-closed e (refuses _ _) = refl
 
-unchanged : (s : Sound) {call : Call} {look : ℕ} {p : Plan} → refuses? (p .say) ≡ true → Begun (s .core) call look p → soundAfter (p .effect) (p .core) s [] ≡ s
+unchanged : (s : Sound) {call : Call} {look : Look} {p : Plan} → refuses? (p .say) ≡ true → Begun (s .core) call look p → soundAfter (p .effect) (p .core) s [] ≡ s
 unchanged s e (bars x) = refl
 unchanged s e (asks _ _ _ _) = absurd (false≢true e)
 unchanged s e (goes _ g _ _ o) = ap₂ (λ (x : Effect) (c : Core). soundAfter x c s []) (own-stays o .1) (own-closed e o ∙ ap (withStage (s .core)) (sym g))
@@ -111,7 +112,7 @@ module _ (r : Refusal) where
   numbered : (ns : List ℕ) {a : Say} → a ≡ Refused r → One (barred a) ns → One (saysRefusal r .number) ns
   numbered ns e o = subst (λ (n : ℕ). One n ns) (ap barred e) o
 
-  own-number : {c : Core} {look : ℕ} {call : Call} {p : Plan} → p .say ≡ Refused r → Own c look call p → One (saysRefusal r .number) (ownRefusals call)
+  own-number : {c : Core} {look : Look} {call : Call} {p : Plan} → p .say ≡ Refused r → Own c look call p → One (saysRefusal r .number) (ownRefusals call)
   own-number e (sets _ _) = absurd (false≢true (ap refuses? e))
   own-number e commands = absurd (false≢true (ap refuses? e))
   own-number e (remaps _ _ _) = absurd (false≢true (ap refuses? e))
@@ -120,30 +121,28 @@ module _ (r : Refusal) where
   own-number e (refuses {call} x o) = numbered (ownRefusals call) e o
 
 -- what a request of the call's own is refused with, by a page of the right length or a failure
-refusal-number : (v : Verdict) → isShort v ≡ false → isTooMany v ≡ false
-    → One (saysRefusal (refusalOf v) .number) (2 ∷ 3 ∷ 7 ∷ []) × One (saysRefusal (remapRefusal v) .number) (2 ∷ 3 ∷ 7 ∷ [])
-refusal-number verdict.Good a b = (inl refl, inr (inl refl))
-refusal-number (verdict.Status word) a b = (inl refl, inr (inl refl))
-refusal-number verdict.TooMany a b = absurd (false≢true (sym b))
-refusal-number verdict.BadLength a b = absurd (false≢true (sym a))
-refusal-number verdict.Failed a b = (inr (inr (inl refl)), inr (inr (inl refl)))
+status-number : (call : Call) → One (saysRefusal (statusRefusal call) .number) (2 ∷ 3 ∷ 7 ∷ [])
+status-number (SetParams stream to) = inl refl
+status-number (Command kind stream) = inl refl
+status-number (Remap jack association sequence) = inr (inl refl)
+status-number (Streams direction) = inl refl
+status-number (Supported field stream) = inl refl
+status-number (Xfer stream) = inl refl
 
-sent-number : (call : Call) (v : Verdict) → isShort v ≡ false → isTooMany v ≡ false → One (saysRefusal (sentRefusal call v) .number) (2 ∷ 3 ∷ 7 ∷ [])
-sent-number (SetParams stream to) v a b = refusal-number v a b .0
-sent-number (Command kind stream) v a b = refusal-number v a b .0
-sent-number (Remap jack association sequence) v a b = refusal-number v a b .1
-sent-number (Streams direction) v a b = refusal-number v a b .0
-sent-number (Supported field stream) v a b = refusal-number v a b .0
-sent-number (Xfer stream) v a b = refusal-number v a b .0
+sent-number : (call : Call) (v : Verdict) → Failing v → refusedBy 5 v ≡ false → One (saysRefusal (refusalOf (statusRefusal call) v) .number) (2 ∷ 3 ∷ 7 ∷ [])
+sent-number call verdict.Good a b = status-number call
+sent-number call (verdict.Status word) a b = status-number call
+sent-number call (verdict.Refused r) (inl e) b = absurd (false≢true (sym b ∙ ap (λ (x : Refusal). eqb (saysRefusal x .number) 5) e))
+sent-number call (verdict.Refused r) (inr e) b = inr (inr (inl (ap (λ (x : Refusal). saysRefusal x .number) e)))
 
 done-by : (s : Sound) (r : Refusal) {call : Call} (n : ℕ) (page : List ℕ) (good : Bool) (d : Core) → One (saysRefusal r .number) (ownRefusals call)
     → s .core .stage ≡ MapsAsked call → d ≡ withStage (readTo (s .core) (s .core .read .jacks) (s .core .read .streams) n true) Idle
-    → Left s r (soundAfter (pick good FillMaps Nothing) d s page)
-done-by s r n page true d o g e = rw e (done n (mapsRead page (s .core .counts .maps) (s .maps) .at) o g)
+    → Left s r (soundAfter (pick good (FillMaps (s .core .counts .maps)) Nothing) d s page)
+done-by s r n page true d o g e = rw e (done n (mapsRead page (s .core .counts .maps) (s .maps)) o g)
 done-by s r n page false d o g e = rw e (done n (s .maps) o g)
 
-module _ (s : Sound) (page : List ℕ) (r : Refusal) (v : Verdict) (long : Bool) (w : long ≡ true → isShort v ≡ false) (few : (call : Call) → s .core .stage ≡ Sent call → isTooMany v ≡ false) where
-  left : {look : ℕ} {p : Plan} → p .say ≡ Refused r → Answered (s .core) v look long p → Left s r (soundAfter (p .effect) (p .core) s page)
+module _ (s : Sound) (page : List ℕ) (r : Refusal) (v : Verdict) (long : Bool) (w : long ≡ true → Failing v) (few : (call : Call) → s .core .stage ≡ Sent call → refusedBy 5 v ≡ false) where
+  left : {look : Look} {p : Plan} → p .say ≡ Refused r → Answered (s .core) v look long p → Left s r (soundAfter (p .effect) (p .core) s page)
   left e (short _) = same (numbered r (1 ∷ 10 ∷ []) e (inr (inl refl)))
   left e (idle _) = same (numbered r (1 ∷ 10 ∷ []) e (inl refl))
   left e (asks-streams _ _) = absurd (false≢true (ap refuses? e))
@@ -154,16 +153,16 @@ module _ (s : Sound) (page : List ℕ) (r : Refusal) (v : Verdict) (long : Bool)
   left e (fails {call} l _ g) = closed (numbered r (2 ∷ 3 ∷ 7 ∷ []) e (sent-number call v (w l) (few call g))) g
 
 -- the answer to a request of the call's own holds no records
-judged-few : (l h : Bool) (word : ℕ) → isTooMany (pick l (pick h verdict.Good (verdict.Status word)) verdict.BadLength) ≡ false
-judged-few true true word = refl
-judged-few true false word = refl
-judged-few false h word = refl
-
-few-sent : (s : Sound) (f : Feed) (call : Call) → s .core .stage ≡ Sent call → isTooMany (verdictOf s f) ≡ false
+few-judged : (page : List ℕ) → refusedBy 5 (judged page 0 0) ≡ false
 unfolding judged
-few-sent s (paged bytes n) call g =
-    ap (λ (k : Stage). isTooMany (verdictBy k (s .core .counts) bytes)) g ∙ judged-few (eqb (length bytes) 4096) (eqb (numAt 0 4 bytes) 0x8000) (numAt 0 4 bytes)
+few-judged page =
+    guarded-by (λ (v : Verdict). refusedBy 5 v ≡ false) _ _ _
+    (λ _. guarded-by (λ (v : Verdict). refusedBy 5 v ≡ false) _ _ _ (λ _. guarded-by (λ (v : Verdict). refusedBy 5 v ≡ false) _ _ _ (λ _. refl) (λ f. absurd (false≢true (sym f)))) (λ _. refl))
+    (λ _. refl)
+
+few-sent : (s : Sound) (f : Feed) (call : Call) → s .core .stage ≡ Sent call → refusedBy 5 (verdictOf s f) ≡ false
+few-sent s (paged bytes n) call g = ap (λ (k : Stage). refusedBy 5 (verdictBy k (s .core .counts) bytes)) g ∙ few-judged bytes
 few-sent s (failed n) call g = refl
 
 pub refused-feed : (s : Sound) (f : Feed) (r : Refusal) → fedOf s f .reply ≡ reply.Refused r → Left s r (fedOf s f .sound)
-refused-feed s f r e = left s (pageOf f) r (verdictOf s f) (longOf f) (long-verdict s f) (few-sent s f) (said-is (planOf s f .say) r e) (fed s f)
+refused-feed s f r e = left s (pageOf f) r (verdictOf s f) (longOf f) (λ l. long-verdict s f l .0) (few-sent s f) (said-is (planOf s f .say) r e) (fed s f)

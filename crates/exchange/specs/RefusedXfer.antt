@@ -3,23 +3,22 @@
 use mathlib.Core.Path.{_≡_, refl, sym, ap, _∙_, subst}
 use mathlib.Core.List.{List}
 use Prim.Native.Nat.{ℕ, zero, suc}
-use native.Mathlib.Omega.{arith}
 use Rattle.codes.specs.SaysLaws.{guarded-by}
 use Rattle.codes.specs.declared.answers.Refusal.{Refusal}
 use Rattle.turns.specs.Calls.{startCall, startedOf}
 use Rattle.turns.specs.Rules.{turnOf}
-use Rattle.turns.specs.Log.{Line, Ran, onward, loop, firstOf, restOf, ruled, run}
+use Rattle.turns.specs.Log.{Ran, loop, firstOf, restOf, ruled, run}
 use Rattle.turns.specs.Script.{scriptOf, transferBy, transferOf}
-use Rattle.turns.specs.CaseLaws.{Plain, plain, counted-cases}
+use Rattle.turns.specs.CaseLaws.{Plain, plain, over-plain, counted-cases, onward-cases}
 use Rattle.turns.specs.KeepLaws.{turn-plain}
 use Rattle.turns.specs.HostLaws.{begins, Runs, link}
 use Rattle.turns.specs.Demand as turns
 use Rattle.turns.specs.declared.ring.Track.{Track}
 use Rattle.turns.specs.declared.ring.Ring.{Ring}
 use Rattle.turns.specs.declared.ring.Said.{Said}
-use Rattle.turns.specs.declared.ring.Said.the-variants.{Going, Ended, Refused}
+use Rattle.turns.specs.declared.ring.Said.the-variants.{Going, Done, Ended, Refused}
 use Rattle.turns.specs.declared.reading.Reading.{Reading}
-use Rattle.turns.specs.declared.script.Done.{Done}
+use Rattle.turns.specs.declared.script.Transferred.{Transferred}
 use Rattle.exchange.specs.State.{paramsOf}
 use Rattle.exchange.specs.Xfer.{startOf, xferOf}
 use Rattle.exchange.specs.XferLaws.{start-by, script-by}
@@ -30,18 +29,14 @@ use Rattle.exchange.specs.declared.xfer.XferStep.{XferStep}
 
 -- ---- a transfer that runs is answered, never refused
 
-onward-plain : {A : Type 0} (said : Said) (line : Line) (a : A) (rest : Ran A) → Plain said → Plain (rest .said) → Plain (onward said line a rest .said)
-onward-plain Going line a rest p q = q
-onward-plain (Ended x) line a rest p q = tt
-onward-plain (Refused x) line a rest p q = absurd p
-
-run-plain : (fuel : ℕ) (t : Track) (script : List Reading) → Plain (run 3 fuel t script .said)
+run-plain : (least fuel : ℕ) (t : Track) (script : List Reading) → Plain (run least fuel t script .said)
 unfolding loop
-run-plain zero t script = tt
-run-plain (suc fuel) t script =
-    let s = ruled 3 t (firstOf script) in
-    onward-plain (s .line .said) (s .line) (s .left) (run 3 fuel (s .left) (restOf script))
-    (counted-cases (λ x. Plain (x .said)) (turnOf 3 t (firstOf script)) (turn-plain 3 t (firstOf script)) (λ _. tt) (λ _. tt)) (run-plain fuel (s .left) (restOf script))
+run-plain least zero t script = tt
+run-plain least (suc fuel) t script =
+    let s = ruled least t (firstOf script) in
+    onward-cases (λ (o : Ran Track). Plain (o .said)) (s .line .said) (s .line) (s .left) (run least fuel (s .left) (restOf script))
+    (λ _. run-plain least fuel (s .left) (restOf script))
+    (λ _. counted-cases (λ x. Plain (x .said)) (turnOf least t (firstOf script)) (turn-plain least t (firstOf script)) (λ _. tt) over-plain)
 
 module _ (r : Ring) (stream len period budget : ℕ) (bytes : List ℕ) (x : Refusal) where
   abbrev start : Said
@@ -50,20 +45,21 @@ module _ (r : Ring) (stream len period budget : ℕ) (bytes : List ℕ) (x : Ref
   abbrev ring : Ring
   ring = startedOf r (startCall (r .track) stream len period budget) .ring
 
-  abbrev Unrun : Done → Type 0
+  abbrev Unrun : Transferred → Type 0
   Unrun d = (d .ring ≡ r) × (d .turns ≡ 0)
 
-  refused-by : (said : Said) → start ≡ said → transferBy said 3 len budget ring (scriptOf bytes) .said ≡ Refused x → Unrun (transferBy said 3 len budget ring (scriptOf bytes))
+  refused-by : (said : Said) → start ≡ said → transferBy said len budget ring (scriptOf bytes) .said ≡ Refused x → Unrun (transferBy said len budget ring (scriptOf bytes))
   refused-by Going e f =
       let b = begins (r .track) stream len period budget e in
-      let same = link 3 len budget ring (scriptOf bytes) (omega arith) (subst (Runs len) (sym (b .track)) (b .runs)) in
-      absurd (plain _ (run-plain budget (ring .track) (scriptOf bytes)) x (sym (ap (λ (o : Ran Track). o .said) same) ∙ f))
+      let same = link (ring .track .descriptors) len budget ring (scriptOf bytes) refl (subst (Runs len) (sym (b .track)) (b .runs)) in
+      absurd (plain _ (run-plain (ring .track .descriptors) budget (ring .track) (scriptOf bytes)) x (sym (ap (λ (o : Ran Track). o .said) same) ∙ f))
+  refused-by Done e f = absurd (plain Done tt x f)
   refused-by (Ended a) e f = absurd (plain (Ended a) tt x f)
   refused-by (Refused a) e f = (turns.start-refusal r a stream len period budget e, refl)
 
-  script-refused : transferOf 3 r stream len period budget bytes .said ≡ Refused x → Unrun (transferOf 3 r stream len period budget bytes)
+  script-refused : transferOf r stream len period budget bytes .said ≡ Refused x → Unrun (transferOf r stream len period budget bytes)
   unfolding transferOf
-  script-refused = guarded-by (λ (d : Done). d .said ≡ Refused x → Unrun d) _ _ _ (λ _. refused-by start refl) (λ _ _. (refl, refl))
+  script-refused = guarded-by (λ (d : Transferred). d .said ≡ Refused x → Unrun d) _ _ _ (λ _. refused-by start refl) (λ _ _. (refl, refl))
 
 -- ---- THE THEOREMS. "A refused call changes .. no state but what that table names"; "A refusal before the first turn reports 0."
 

@@ -6,21 +6,22 @@ use Prim.Native.Nat.{ℕ, _<_}
 use Rattle.codes.specs.Flags.{hasBit, remapFeature}
 use Rattle.records.specs.declared.control.Remap as records
 use Rattle.turns.specs.declared.ring.Track.{Track}
+use Rattle.core.specs.Plan.{canRemap}
 use Rattle.exchange.specs.State.{jackOf}
-use Rattle.exchange.specs.Plan.{lookOf, pendingLook}
+use Rattle.exchange.specs.Tables.{lookOf, pendingLook}
 use Rattle.exchange.specs.OwnLaws.{Own, sets, commands, remaps, lists, tells, refuses}
 use Rattle.exchange.specs.PlanLaws.{begun, fed}
 use Rattle.exchange.specs.Exchange.{callOf}
 use Rattle.exchange.specs.Feed.{Feed, planOf}
-use Rattle.exchange.specs.declared.state.Call.{Call}
-use Rattle.exchange.specs.declared.state.Call.the-variants.{Remap}
-use Rattle.exchange.specs.declared.state.Stage.{Stage}
-use Rattle.exchange.specs.declared.state.Core.{Core}
+use Rattle.core.specs.declared.state.Call.{Call}
+use Rattle.core.specs.declared.state.Stage.{Stage}
+use Rattle.core.specs.declared.state.Core.{Core}
 use Rattle.exchange.specs.declared.state.Sound.{Sound}
-use Rattle.exchange.specs.declared.plan.Request.the-variants as request
-use Rattle.exchange.specs.declared.plan.Say.the-variants.{Send}
-use Rattle.exchange.specs.declared.plan.Plan.{Plan}
-use Rattle.exchange.specs.declared.state.Counts.{Counts}
+use Rattle.core.specs.declared.plan.Request.the-variants as request
+use Rattle.core.specs.declared.plan.Say.the-variants.{Send}
+use Rattle.core.specs.declared.plan.Look.{Look}
+use Rattle.core.specs.declared.plan.Plan.{Plan}
+use Rattle.core.specs.declared.state.Counts.{Counts}
 use Rattle.exchange.specs.ResultLaws.{wrong, own?, begun-own, Finished, answered-own}
 
 -- "Remap: no jacks or id too high 1; table empty 4; no REMAP bit 3; then sent."
@@ -28,18 +29,18 @@ use Rattle.exchange.specs.ResultLaws.{wrong, own?, begun-own, Finished, 
 abbrev pub Remappable : Sound → Core → ℕ → Type 0
 Remappable s c jack = (jack < c .counts .jacks) × (c .read .jacks ≡ 0 → ⊥) × (hasBit remapFeature (jackOf s jack .features) ≡ true)
 
-own-remaps : (s : Sound) {c : Core} {look : ℕ} {call : Call} {p : Plan} (q : records.Remap) → look ≡ lookOf s call → p .say ≡ Send (request.Remap q) → Own c look call p
+own-remaps : (s : Sound) {c : Core} {look : Look} {call : Call} {p : Plan} (q : records.Remap) → look ≡ lookOf s call → p .say ≡ Send (request.Remap q) → Own c look call p
     → Remappable s c (q .jack)
 own-remaps s q l e (sets _ _) = absurd (wrong (cc))
 own-remaps s q l e commands = absurd (wrong (cc))
 own-remaps s {c} q l e (remaps {jack} h z b) =
     let j : jack ≡ q .jack = cc in
-    subst (λ (k : ℕ). Remappable s c k) j (h, z, ap (hasBit remapFeature) (sym l) ∙ b)
+    subst (λ (k : ℕ). Remappable s c k) j (h, z, ap canRemap (sym l) ∙ b)
 own-remaps s q l e lists = absurd (wrong (cc))
 own-remaps s q l e (tells _) = absurd (wrong (cc))
 own-remaps s q l e (refuses _ _) = absurd (wrong (cc))
 
-finished-remaps : (s : Sound) {look : ℕ} {p : Plan} (q : records.Remap) → look ≡ pendingLook (s .core .stage) s → p .say ≡ Send (request.Remap q) → Finished (s .core) look p
+finished-remaps : (s : Sound) {look : Look} {p : Plan} (q : records.Remap) → look ≡ pendingLook (s .core .stage) s → p .say ≡ Send (request.Remap q) → Finished (s .core) look p
     → Remappable s (s .core) (q .jack)
 finished-remaps s q l e f =
     let a = own-remaps s q (l ∙ ap (λ (k : Stage). pendingLook k s) (f .waited)) (sym (f .say) ∙ e) (f .own) in

@@ -8,14 +8,15 @@ use Rattle.tables.specs.declared.verdict.Verdict.{Verdict}
 use Rattle.turns.specs.declared.ring.Said.{Said}
 use Rattle.exchange.specs.OwnLaws.{Own}
 use Rattle.exchange.specs.PlanLaws.{Begun, bars, asks, goes, Answered, short, idle, asks-streams, asks-maps, cuts, finishes, ends, fails}
-use Rattle.exchange.specs.declared.state.Call.{Call}
-use Rattle.exchange.specs.declared.state.Stage.the-variants.{MapsAsked, Sent}
-use Rattle.exchange.specs.declared.state.Core.{Core}
-use Rattle.exchange.specs.declared.plan.Request.the-variants as request
-use Rattle.exchange.specs.declared.plan.Value.the-variants as value
-use Rattle.exchange.specs.declared.plan.Say.{Say}
-use Rattle.exchange.specs.declared.plan.Say.the-variants.{Send, Done, Refused}
-use Rattle.exchange.specs.declared.plan.Plan.{Plan}
+use Rattle.core.specs.declared.state.Call.{Call}
+use Rattle.core.specs.declared.state.Stage.the-variants.{MapsAsked, Sent}
+use Rattle.core.specs.declared.state.Core.{Core}
+use Rattle.core.specs.declared.plan.Request.the-variants as request
+use Rattle.core.specs.declared.plan.Value.the-variants as value
+use Rattle.core.specs.declared.plan.Say.{Say}
+use Rattle.core.specs.declared.plan.Say.the-variants.{Send, Done, Refused}
+use Rattle.core.specs.declared.plan.Look.{Look}
+use Rattle.core.specs.declared.plan.Plan.{Plan}
 use Rattle.exchange.specs.declared.xfer.XferReply.the-variants.{Says}
 
 pub wrong : _≡_ {A = ℕ} 0 1 → ⊥
@@ -24,7 +25,7 @@ wrong e = omega arith
 pub says-said : {a b : Said} → Says a ≡ Says b → a ≡ b
 says-said e = cc
 
-pub recall : {c : Core} {look : ℕ} {a b : Call} {p : Plan} → a ≡ b → Own c look a p → Own c look b p
+pub recall : {c : Core} {look : Look} {a b : Call} {p : Plan} → a ≡ b → Own c look a p → Own c look b p
 recall {c} {look} {p} e o = subst (λ (k : Call). Own c look k p) e o
 
 abbrev pub own? : Say → Bool
@@ -35,13 +36,13 @@ own? (Send (request.Set q)) = true
 own? (Done v) = true
 own? (Refused r) = false
 
-pub begun-own : {c : Core} {call : Call} {look : ℕ} {p : Plan} → own? (p .say) ≡ true → Begun c call look p → (c .ready ≡ true) × Own c look call p
+pub begun-own : {c : Core} {call : Call} {look : Look} {p : Plan} → own? (p .say) ≡ true → Begun c call look p → (c .ready ≡ true) × Own c look call p
 begun-own e (bars _) = absurd (false≢true e)
 begun-own e (asks _ _ _ _) = absurd (false≢true e)
 begun-own e (goes _ _ r _ o) = (r, o)
 
 -- at a feed: the call waited for the channel maps, and its own part is over the core whose set-up is done
-pub record Finished (c : Core) (look : ℕ) (p : Plan) : Type 0 where
+pub record Finished (c : Core) (look : Look) (p : Plan) : Type 0 where
   pub call : Call
   pub waited : c .stage ≡ MapsAsked call
   pub from : Core
@@ -53,7 +54,7 @@ pub record Finished (c : Core) (look : ℕ) (p : Plan) : Type 0 where
   pub core : p .core ≡ plan .core
   pub say : p .say ≡ plan .say
 
-pub answered-own : {c : Core} {v : Verdict} {look : ℕ} {long : Bool} {p : Plan} → own? (p .say) ≡ true → ((call : Call) → c .stage ≡ Sent call → p .say ≡ Done value.Nothing → ⊥)
+pub answered-own : {c : Core} {v : Verdict} {look : Look} {long : Bool} {p : Plan} → own? (p .say) ≡ true → ((call : Call) → c .stage ≡ Sent call → p .say ≡ Done value.Nothing → ⊥)
     → Answered c v look long p → Finished c look p
 answered-own e h (short _) = absurd (false≢true e)
 answered-own e h (idle _) = absurd (false≢true e)

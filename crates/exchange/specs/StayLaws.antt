@@ -6,25 +6,26 @@ use mathlib.Core.List.{List}
 use Prim.Native.Nat.{ℕ}
 use Rattle.tables.specs.declared.verdict.Verdict.{Verdict}
 use Rattle.turns.specs.declared.ring.Track.{Track}
-use Rattle.exchange.specs.Consistent.{consistentOf}
+use Rattle.core.specs.Consistent.{consistentOf}
 use Rattle.exchange.specs.ConsistentLaws.{facts, not-ready}
-use Rattle.exchange.specs.Plan.{soundAfter}
+use Rattle.exchange.specs.Tables.{soundAfter}
 use Rattle.exchange.specs.Exchange.{callOf}
 use Rattle.exchange.specs.Feed.{Feed, planOf, asking}
 use Rattle.exchange.specs.OwnLaws.{Own, sets, commands, remaps, lists, tells, refuses}
 use Rattle.exchange.specs.PlanLaws.{Begun, bars, asks, goes, begun, Answered, short, idle, asks-streams, asks-maps, cuts, finishes, ends, fails, fed}
-use Rattle.exchange.specs.declared.state.Call.{Call}
-use Rattle.exchange.specs.declared.state.Core.{Core}
+use Rattle.core.specs.declared.state.Call.{Call}
+use Rattle.core.specs.declared.state.Core.{Core}
 use Rattle.exchange.specs.declared.state.Sound.{Sound}
-use Rattle.exchange.specs.declared.plan.Effect.{Effect}
-use Rattle.exchange.specs.declared.plan.Effect.the-variants.{Nothing, FillJacks, FillStreams, FillMaps, Store}
-use Rattle.exchange.specs.declared.plan.Plan.{Plan}
+use Rattle.core.specs.declared.plan.Effect.{Effect}
+use Rattle.core.specs.declared.plan.Effect.the-variants.{Nothing, FillJacks, FillStreams, FillMaps, Store}
+use Rattle.core.specs.declared.plan.Look.{Look}
+use Rattle.core.specs.declared.plan.Plan.{Plan}
 
 pub record Stays (c : Core) (p : Plan) : Type 0 where
   pub counts : p .core .counts ≡ c .counts
   pub ready : c .ready ≡ true → p .core .ready ≡ true
 
-pub own-stays : {c : Core} {look : ℕ} {call : Call} {p : Plan} → Own c look call p → Stays c p × (p .effect ≡ Nothing)
+pub own-stays : {c : Core} {look : Look} {call : Call} {p : Plan} → Own c look call p → Stays c p × (p .effect ≡ Nothing)
 own-stays (sets _ _) = (record { counts = refl; ready = λ r. r }, refl)
 own-stays commands = (record { counts = refl; ready = λ r. r }, refl)
 own-stays (remaps _ _ _) = (record { counts = refl; ready = λ r. r }, refl)
@@ -32,7 +33,7 @@ own-stays lists = (record { counts = refl; ready = λ r. r }, refl)
 own-stays (tells _) = (record { counts = refl; ready = λ r. r }, refl)
 own-stays (refuses _ _) = (record { counts = refl; ready = λ r. r }, refl)
 
-pub begun-stays : {c : Core} {call : Call} {look : ℕ} {p : Plan} → Begun c call look p → Stays c p × (p .effect ≡ Nothing)
+pub begun-stays : {c : Core} {call : Call} {look : Look} {p : Plan} → Begun c call look p → Stays c p × (p .effect ≡ Nothing)
 begun-stays (bars _) = (record { counts = refl; ready = λ r. r }, refl)
 begun-stays (asks _ _ _ _) = (record { counts = refl; ready = λ r. r }, refl)
 begun-stays (goes _ _ _ _ o) = own-stays o
@@ -41,7 +42,7 @@ begun-stays (goes _ _ _ _ o) = own-stays o
 late : (c : Core) → consistentOf c ≡ true → asking (c .stage) ≡ true → c .ready ≡ true → false ≡ true
 late c e a r = sym (not-ready c (c .stage) (facts c e) a) ∙ r
 
-answered-stays : {c : Core} {v : Verdict} {look : ℕ} {long : Bool} {p : Plan} → Answered c v look long p → Stays c p
+answered-stays : {c : Core} {v : Verdict} {look : Look} {long : Bool} {p : Plan} → Answered c v look long p → Stays c p
 answered-stays (short _) = record { counts = refl; ready = λ r. r }
 answered-stays (idle _) = record { counts = refl; ready = λ r. r }
 answered-stays {c} (asks-streams e g) = record { counts = refl; ready = late c e (ap asking g) }
@@ -63,7 +64,7 @@ fed-stays s f = answered-stays (fed s f)
 -- an effect leaves the core to the plan
 pub after-core : (x : Effect) (c : Core) (s : Sound) (page : List ℕ) → soundAfter x c s page .core ≡ c
 after-core Nothing c s page = refl
-after-core FillJacks c s page = refl
-after-core FillStreams c s page = refl
-after-core FillMaps c s page = refl
+after-core (FillJacks n) c s page = refl
+after-core (FillStreams n) c s page = refl
+after-core (FillMaps n) c s page = refl
 after-core (Store stream to) c s page = refl

@@ -1,41 +1,49 @@
 -- A plan comes to one step and one content of the message buffer: the laws for the code that goes from one to the other.
 -- Assumes nothing.
-use mathlib.Core.Path.{_≡_, refl, sym, ap, _∙_}
+use mathlib.Core.Path.{_≡_, refl, ap, _∙_, subst}
 use mathlib.Core.Bool.{Bool, true, false, _&&_}
 use mathlib.Core.List.{List, _++_}
-use Prim.Native.Nat.{ℕ, _%_, _≤_}
+use Prim.Native.Nat.{ℕ, _%_}
 use native.Mathlib.Omega.{arith}
 use lib.Dec.{leb, eqb}
-use lib.ListN.{length, drop}
-use Rattle.layout.specs.Layout.{size, write}
-use Rattle.layout.specs.LayoutLaws.{length-write}
-use Rattle.codes.specs.Says.{guard}
+use lib.ListN.{length, take}
+use lib.Seq.{take-at}
+use Rattle.codes.specs.Says as answers
+use Rattle.codes.specs.Says.{says, guard}
 use Rattle.codes.specs.SaysLaws.{guard-ap}
 use Rattle.codes.specs.declared.answers.Refusal.{Refusal}
-use Rattle.records.specs.Slice.{written}
-use Rattle.records.specs.SliceLaws.{written-long}
 use Rattle.turns.specs.Calls.{startCall, startedOf}
 use Rattle.turns.specs.Script.{transferOf}
 use Rattle.turns.specs.declared.ring.Track.{Track}
 use Rattle.turns.specs.declared.ring.Ring.{Ring}
-use Rattle.exchange.specs.Exchange.{messageAfter, stepOf}
-use Rattle.exchange.specs.Xfer.{xferBy, refusedStep, setUpStep, startStep, doneStep, startOf, xferOf, xferMessage}
+use Rattle.records.specs.declared.info.PcmInfo.{PcmInfo}
+use Rattle.core.specs.Reply.{messageAfter, replyOf}
+use Rattle.core.specs.declared.plan.Say.{Say}
+use Rattle.core.specs.declared.plan.Say.the-variants.{Send, Done, Refused}
+use Rattle.exchange.specs.Exchange.{idsBy, listOf, stepOf, listValues, saysBeside, saysStep, saysSay, Stepped}
+use Rattle.exchange.specs.Xfer.{xferBy, refusedStep, setUpStep, startStep, doneStep, startOf, xferOf, xferMessage, saysXfer, startSays, xferSays, Transfers}
 use Rattle.exchange.specs.declared.state.Sound.{Sound}
-use Rattle.exchange.specs.declared.plan.Plan.{Plan}
+use Rattle.core.specs.declared.plan.Plan.{Plan}
 use Rattle.exchange.specs.declared.calls.Step.{Step}
-use Rattle.exchange.specs.declared.xfer.Gate.{Gate}
-use Rattle.exchange.specs.declared.xfer.Gate.the-variants.{Shut, SetUp, Open}
+use Rattle.core.specs.declared.gate.Gate.{Gate}
+use Rattle.core.specs.declared.gate.Gate.the-variants.{Shut, SetUp, Open}
 use Rattle.exchange.specs.declared.xfer.XferStep.{XferStep}
 
--- a record, written at the front of a buffer that is long enough
-pub sent-by : (ws vs l n : List ℕ) → size ws ≤ length l → n ≡ written ws vs l → (size ws ≡ length (write ws vs)) × (n ≡ write ws vs ++ drop (length (write ws vs)) l)
-sent-by ws vs l n h e =
-    let k : size ws ≡ length (write ws vs) = sym (length-write ws vs) in
-    (k, e ∙ written-long ws vs l h ∙ ap (λ (m : ℕ). write ws vs ++ drop m l) k)
+-- a list of ids is told as it is
+listed-ids : (ids : List ℕ) (rest : List ℕ) → take (length ids) (ids ++ rest) ≡ ids
+listed-ids ids rest = take-at ids rest (length ids) refl
+
+says-step : (a : Say) (n : ℕ) (pcms : List PcmInfo) → saysBeside (replyOf a) (listOf a n pcms) ≡ saysSay a n pcms
+says-step (Send q) n pcms = refl
+says-step (Done v) n pcms = ap (λ (ids : List ℕ). says 0 (listValues v ids)) (listed-ids (idsBy v n pcms) _)
+says-step (Refused r) n pcms = refl
+
+pub stepped : {p : Plan} {s : Sound} {page m n : List ℕ} {r : Step} → r ≡ stepOf p s page → n ≡ messageAfter (p .say) m → Stepped p s page m n r
+stepped {p} {s} e h = record { step = e; said = ap saysStep e ∙ says-step (p .say) (p .core .read .streams) (s .pcms); message = h }
 
 -- a plan that is equal comes to the same
-pub moved : {p : Plan} (q : Plan) (s : Sound) (page l : List ℕ) {n : List ℕ} {r : Step} → p ≡ q → (r ≡ stepOf p s page) × (n ≡ messageAfter (p .say) l) → (r ≡ stepOf q s page) × (n ≡ messageAfter (q .say) l)
-moved q s page l e h = (h .0 ∙ ap (λ (p : Plan). stepOf p s page) e, h .1 ∙ ap (λ (p : Plan). messageAfter (p .say) l) e)
+pub moved : {p : Plan} (q : Plan) (s : Sound) (page l : List ℕ) {n : List ℕ} {r : Step} → p ≡ q → Stepped p s page l n r → Stepped q s page l n r
+moved q s page l {n} {r} e h = subst (λ (p : Plan). Stepped p s page l n r) e h
 
 -- ---- the checks of a transfer
 
@@ -63,12 +71,27 @@ module _ (s : Sound) (r : Ring) (stream len budget : ℕ) where
   abbrev pub runBy : List ℕ → Gate → XferStep
   runBy script (Shut x) = refusedStep s r x
   runBy script SetUp = setUpStep s r stream
-  runBy script (Open period) = doneStep s (transferOf 3 r stream len period budget script)
+  runBy script (Open period) = doneStep s (transferOf r stream len period budget script)
 
   pub run-by : (script : List ℕ) (n : ℕ) (b : Bool) (g : Gate) → b ≡ (leb 24 n && eqb (length script % 12) 0) → g ≡ xferBy b s (r .track) stream Shut SetUp Open → runBy script g ≡ xferOf s r stream len budget script n
   unfolding xferOf
   run-by script n b g p e = ap (runBy script) (e ∙ ap (λ (t : Bool). xferBy t s (r .track) stream Shut SetUp Open) p) ∙ xfer-ap (runBy script) (leb 24 n && eqb (length script % 12) 0) s (r .track) stream Shut SetUp Open
 
--- a step, and the message that goes with its reply
-pub replied : (s : Sound) (stream : ℕ) (l : List ℕ) {n : List ℕ} {r x y : XferStep} → r ≡ x → x ≡ y → n ≡ xferMessage (x .reply) s stream l → (r ≡ y) × (n ≡ xferMessage (y .reply) s stream l)
-replied s stream l p e m = (p ∙ e, m ∙ ap (λ (x : XferStep). xferMessage (x .reply) s stream l) e)
+-- what the checks say is what they come to
+pub start-says : (s : Sound) (r : Ring) (stream len budget n : ℕ) → saysXfer (startOf s r stream len budget n .reply) ≡ startSays s r stream len budget n
+unfolding startOf
+start-says s r stream len budget n =
+    xfer-ap (λ (x : XferStep). saysXfer (x .reply)) (leb 24 n) s (r .track) stream (refusedStep s r) (setUpStep s r stream)
+    (λ period. startStep s r (startedOf r (startCall (r .track) stream len period budget)))
+
+pub xfer-says : (s : Sound) (r : Ring) (stream len budget : ℕ) (script : List ℕ) (n : ℕ) → saysXfer (xferOf s r stream len budget script n .reply) ≡ xferSays s r stream len budget script n
+unfolding xferOf
+xfer-says s r stream len budget script n =
+    xfer-ap (λ (x : XferStep). saysXfer (x .reply)) (leb 24 n && eqb (length script % 12) 0) s (r .track) stream (refusedStep s r) (setUpStep s r stream)
+    (λ period. doneStep s (transferOf r stream len period budget script))
+
+-- a step, what it says, and the message that goes with its reply
+pub replied : (s : Sound) (stream : ℕ) (l : List ℕ) {n : List ℕ} {r x y : XferStep} {said : answers.Says} → r ≡ x → x ≡ y → saysXfer (y .reply) ≡ said → n ≡ xferMessage (x .reply) s stream l
+    → Transfers y said s stream l n r
+replied s stream l p e w m =
+    record { step = p ∙ e; says = ap (λ (x : XferStep). saysXfer (x .reply)) (p ∙ e) ∙ w; message = m ∙ ap (λ (x : XferStep). xferMessage (x .reply) s stream l) e }

@@ -13,24 +13,27 @@ use Rattle.tables.specs.TablesLaws.{good-whole}
 use Rattle.tables.specs.declared.verdict.Verdict.{Verdict}
 use Rattle.turns.specs.declared.ring.Track.{Track}
 use Rattle.turns.specs.declared.ring.Ring.{Ring}
-use Rattle.exchange.specs.State.{unset, paramsOf}
-use Rattle.exchange.specs.Plan.{storedOf, effectOf, soundAfter, verdictBy}
+use Rattle.core.specs.State.{unset}
+use Rattle.exchange.specs.State.{paramsOf}
+use Rattle.core.specs.Plan.{storedOf, effectOf, verdictBy}
+use Rattle.exchange.specs.Tables.{soundAfter}
 use Rattle.exchange.specs.PlanLaws.{Answered, short, idle, asks-streams, asks-maps, cuts, finishes, ends, fails, fed}
 use Rattle.exchange.specs.Exchange.{stepOf, callOf}
 use Rattle.exchange.specs.Xfer.{startOf, xferOf}
 use Rattle.exchange.specs.XferLaws.{start-by, script-by}
 use Rattle.exchange.specs.Feed.{Feed, paged, failed, pageOf, planOf, fedOf, verdictOf}
 use Rattle.exchange.specs.StayLaws.{Stays, called-stays, called-quiet, fed-stays, after-core}
-use Rattle.exchange.specs.declared.state.Params.{Params}
-use Rattle.exchange.specs.declared.state.Call.{Call}
-use Rattle.exchange.specs.declared.state.Call.the-variants.{SetParams, Command, Remap, Streams, Supported, Xfer}
-use Rattle.exchange.specs.declared.state.Stage.{Stage}
-use Rattle.exchange.specs.declared.state.Stage.the-variants.{Sent}
-use Rattle.exchange.specs.declared.state.Core.{Core}
+use Rattle.core.specs.declared.state.Params.{Params}
+use Rattle.core.specs.declared.state.Call.{Call}
+use Rattle.core.specs.declared.state.Call.the-variants.{SetParams, Command, Remap, Streams, Supported, Xfer}
+use Rattle.core.specs.declared.state.Stage.{Stage}
+use Rattle.core.specs.declared.state.Stage.the-variants.{Sent}
+use Rattle.core.specs.declared.state.Core.{Core}
 use Rattle.exchange.specs.declared.state.Sound.{Sound}
-use Rattle.exchange.specs.declared.plan.Effect.{Effect}
-use Rattle.exchange.specs.declared.plan.Effect.the-variants.{Nothing, FillJacks, FillMaps}
-use Rattle.exchange.specs.declared.plan.Plan.{Plan}
+use Rattle.core.specs.declared.plan.Effect.{Effect}
+use Rattle.core.specs.declared.plan.Effect.the-variants.{Nothing, FillJacks, FillMaps}
+use Rattle.core.specs.declared.plan.Look.{Look}
+use Rattle.core.specs.declared.plan.Plan.{Plan}
 
 -- ---- "A set-up finished in a call stays done however that call ends."
 
@@ -77,18 +80,18 @@ stored s page i c (Streams direction) g ok = inl refl
 stored s page i c (Supported field stream) g ok = inl refl
 stored s page i c (Xfer stream) g ok = inl refl
 
-filled : (s : Sound) (page : List ℕ) (i : ℕ) (good : Bool) (c : Core) → Changed s page i (pick good FillJacks Nothing) c × Changed s page i (pick good FillMaps Nothing) c
-filled s page i true c = (inl refl, inl refl)
-filled s page i false c = (inl refl, inl refl)
+filled : (s : Sound) (page : List ℕ) (i n : ℕ) (good : Bool) (c : Core) → Changed s page i (pick good (FillJacks n) Nothing) c × Changed s page i (pick good (FillMaps n) Nothing) c
+filled s page i n true c = (inl refl, inl refl)
+filled s page i n false c = (inl refl, inl refl)
 
-changed : (s : Sound) (page : List ℕ) (i : ℕ) {v : Verdict} {look : ℕ} {long : Bool} {p : Plan}
+changed : (s : Sound) (page : List ℕ) (i : ℕ) {v : Verdict} {look : Look} {long : Bool} {p : Plan}
     → ((call : Call) → s .core .stage ≡ Sent call → isGood v ≡ true → numAt 0 4 page ≡ 0x8000) → Answered (s .core) v look long p → Changed s page i (p .effect) (p .core)
 changed s page i ok (short _) = inl refl
 changed s page i ok (idle _) = inl refl
-changed s page i {v} ok (asks-streams _ _) = filled s page i (isGood v) _ .0
+changed s page i {v} ok (asks-streams _ _) = filled s page i _ (isGood v) _ .0
 changed s page i ok (asks-maps _ _ _) = inl refl
 changed s page i ok (cuts _ _ _ _ _) = inl refl
-changed s page i {v} ok (finishes _ _ _) = filled s page i (isGood v) _ .1
+changed s page i {v} ok (finishes _ _ _) = filled s page i _ (isGood v) _ .1
 changed s page i ok (ends {call} _ g h) = stored s page i _ call g (ok call g h)
 changed s page i ok (fails _ _ _) = inl refl
 

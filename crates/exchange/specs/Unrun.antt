@@ -11,26 +11,26 @@ use Rattle.tables.specs.declared.verdict.Verdict.{Verdict}
 use Rattle.turns.specs.declared.ring.Ring.{Ring}
 use Rattle.exchange.specs.State.{paramsOf}
 use Rattle.exchange.specs.ConsistentLaws.{facts, not-ready}
-use Rattle.exchange.specs.Consistent.{consistentOf}
+use Rattle.core.specs.Consistent.{consistentOf}
 use Rattle.exchange.specs.OwnLaws.{Own, refuses}
-use Rattle.exchange.specs.PlanLaws.{long-verdict, long-of, Answered, short, idle, asks-streams, asks-maps, cuts, finishes, ends, fails, fed}
-use Rattle.exchange.specs.Plan.{isShort}
-use Rattle.exchange.specs.Exchange.{replyOf, stepOf}
+use Rattle.exchange.specs.PlanLaws.{Failing, long-verdict, long-of, Answered, short, idle, asks-streams, asks-maps, cuts, finishes, ends, fails, fed}
+use Rattle.core.specs.Reply.{replyOf}
+use Rattle.exchange.specs.Exchange.{stepOf}
 use Rattle.exchange.specs.Xfer.{startOf, xferOf}
 use Rattle.exchange.specs.Kept.{Kept}
 use Rattle.exchange.specs.XferLaws.{start-by, script-by}
 use Rattle.exchange.specs.StayLaws.{after-core}
 use Rattle.exchange.specs.ResultLaws.{wrong, recall}
 use Rattle.exchange.specs.Feed.{Feed, pageOf, planOf, fedOf, verdictOf, longOf, Long, One, asking, callAt}
-use Rattle.exchange.specs.declared.state.Call.the-variants.{Xfer}
-use Rattle.exchange.specs.declared.state.Stage.{Stage}
-use Rattle.exchange.specs.declared.state.Stage.the-variants.{Idle}
-use Rattle.exchange.specs.declared.state.Core.{Core}
+use Rattle.core.specs.declared.state.Call.the-variants.{Xfer}
+use Rattle.core.specs.declared.state.Stage.{Stage}
+use Rattle.core.specs.declared.state.Stage.the-variants.{Idle}
+use Rattle.core.specs.declared.state.Core.{Core}
 use Rattle.exchange.specs.declared.state.Sound.{Sound}
-use Rattle.exchange.specs.declared.plan.Say.the-variants.{Send, Refused}
-use Rattle.exchange.specs.declared.plan.Plan.{Plan}
-use Rattle.exchange.specs.declared.calls.Reply.{Reply}
-use Rattle.exchange.specs.declared.calls.Reply.the-variants as reply
+use Rattle.core.specs.declared.plan.Look.{Look}
+use Rattle.core.specs.declared.plan.Plan.{Plan}
+use Rattle.core.specs.declared.reply.Reply.{Reply}
+use Rattle.core.specs.declared.reply.Reply.the-variants as reply
 use Rattle.exchange.specs.declared.xfer.XferReply.the-variants as xfer
 use Rattle.exchange.specs.declared.xfer.XferStep.{XferStep}
 
@@ -44,13 +44,13 @@ pub data Unrun (stream : ℕ) : Reply → Stage → Type 0 where
   on : {n : ℕ} {g : Stage} → Pending g stream → Unrun stream (reply.Send n) g
   over : (r : Refusal) → One (saysRefusal r .number) (1 ∷ 2 ∷ 5 ∷ 7 ∷ []) → Unrun stream (reply.Refused r) Idle
 
-own-unrun : {c : Core} {look stream : ℕ} {p : Plan} → Own c look (Xfer stream) p → Unrun stream (replyOf (p .say)) (p .core .stage)
+own-unrun : {c : Core} {look : Look} {stream : ℕ} {p : Plan} → Own c look (Xfer stream) p → Unrun stream (replyOf (p .say)) (p .core .stage)
 own-unrun (refuses r o) = over r (elim o [ inl e ↦ inl e | inr f ↦ elim f [ inl e ↦ inr (inl e) | inr z ↦ absurd z ] ])
 
 never : {A : Type 0} {g h : Stage} {stream : ℕ} → Pending g stream → g ≡ h → asking h ≡ false → A
 never q e f = absurd (false≢true (sym f ∙ sym (ap asking e) ∙ q .asks))
 
-module _ (c : Core) (v : Verdict) (look : ℕ) (long : Bool) (stream : ℕ) (e : consistentOf c ≡ true) (l : long ≡ true) (w : isShort v ≡ false) (q : Pending (c .stage) stream) where
+module _ (c : Core) (v : Verdict) (look : Look) (long : Bool) (stream : ℕ) (e : consistentOf c ≡ true) (l : long ≡ true) (w : Failing v) (q : Pending (c .stage) stream) where
   unrun : {p : Plan} → Answered c v look long p → Unrun stream (replyOf (p .say)) (p .core .stage)
   unrun (short f) = absurd (false≢true (sym f ∙ l))
   unrun (idle g) = never q (g e) refl
@@ -82,7 +82,7 @@ module _ (s : Sound) (r : Ring) (stream len budget n m : ℕ) where
 pub xfer-after-setup-never-runs : (s : Sound) (f : Feed) (stream : ℕ) → Kept s → Long f → Pending (s .core .stage) stream → Unrun stream (fedOf s f .reply) (fedOf s f .sound .core .stage)
 xfer-after-setup-never-runs s f stream k l q =
     let long = long-of f l in
-    step-unrun s (planOf s f) (pageOf f) stream (unrun (s .core) (verdictOf s f) _ (longOf f) stream (k .consistent) long (long-verdict s f long) q (fed s f))
+    step-unrun s (planOf s f) (pageOf f) stream (unrun (s .core) (verdictOf s f) _ (longOf f) stream (k .consistent) long (long-verdict s f long .0) q (fed s f))
 
 -- and 2 is right then: no stream has parameters
 pub pending-unset : (s : Sound) (stream i : ℕ) → Kept s → Pending (s .core .stage) stream → paramsOf s i .known ≡ 0

@@ -1,53 +1,35 @@
 -- The start of a transfer, and a transfer over a whole script. "Checks: Busy (8), set-up, stream range (1), parameters set (2)."
 -- Assumes nothing.
-use mathlib.Core.Bool.{Bool, not, _&&_}
+use mathlib.Core.Path.{_≡_}
+use mathlib.Core.Bool.{Bool, _&&_}
 use mathlib.Core.List.{List, []}
 use Prim.Native.Nat.{ℕ, _%_, _+_}
-use lib.Dec.{leb, ltb, eqb}
+use lib.Dec.{leb, eqb}
 use lib.ListN.{length}
-use Rattle.codes.specs.Says.{guard}
 use Rattle.codes.specs.Says as answers
+use Rattle.codes.specs.Answers.{saysRefusal}
 use Rattle.codes.specs.declared.answers.Refusal.{Refusal}
-use Rattle.codes.specs.declared.answers.Refusal.the-variants.{InvalidParam, IoError, Busy, BadLength}
-use Rattle.turns.specs.Calls.{idleOf, startCall, startedOf}
-use Rattle.turns.specs.Consistent as ring
+use Rattle.turns.specs.Calls.{startCall, startedOf}
 use Rattle.turns.specs.Script.{transferOf}
 use Rattle.turns.specs.declared.ring.Track.{Track}
 use Rattle.turns.specs.declared.ring.Ring.{Ring}
 use Rattle.turns.specs.declared.ring.Turned.{Turned}
 use Rattle.turns.specs.declared.ring.Said.the-variants as said
-use Rattle.turns.specs.declared.script.Done.{Done}
-use Rattle.exchange.specs.State.{paramsOf}
-use Rattle.exchange.specs.Consistent.{consistentOf, streamOk}
-use Rattle.exchange.specs.Plan.{isIdle, queryOf, sendOf, soundAfter}
-use Rattle.exchange.specs.Exchange.{messageAfter}
-use Rattle.exchange.specs.declared.state.Call.the-variants.{Xfer}
-use Rattle.exchange.specs.declared.state.Stage.the-variants.{JacksAsked}
-use Rattle.exchange.specs.declared.state.Core.{Core}
-use Rattle.exchange.specs.declared.state.Params.{Params}
+use Rattle.turns.specs.declared.script.Transferred.{Transferred}
+use Rattle.core.specs.State.{withStage}
+use Rattle.core.specs.Plan.{queryOf, sendOf}
+use Rattle.core.specs.Gate.{gateBy}
+use Rattle.core.specs.Reply.{messageAfter}
+use Rattle.core.specs.declared.state.Call.the-variants.{Xfer}
+use Rattle.core.specs.declared.state.Stage.the-variants.{JacksAsked}
+use Rattle.exchange.specs.State.{paramsOf, withCore}
 use Rattle.exchange.specs.declared.state.Sound.{Sound}
-use Rattle.exchange.specs.declared.plan.Effect.the-variants.{Nothing}
-use Rattle.exchange.specs.declared.plan.Plan.{Plan}
+use Rattle.core.specs.declared.plan.Effect.the-variants.{Nothing}
+use Rattle.core.specs.declared.plan.Plan.{Plan}
 use Rattle.exchange.specs.declared.xfer.XferReply.{XferReply}
 use Rattle.exchange.specs.declared.xfer.XferReply.the-variants.{Send, Says}
 use Rattle.exchange.specs.declared.xfer.XferStep.{XferStep}
 use Rattle.turns.specs.Ring.{saysSaid}
-
--- THE CHECKS, in their order, over what is done at each end: the lengths, the consistency of state, ring and stream, Busy, set-up, range, parameters.
--- They look at the core and at the stream's own parameters alone
-abbrev pub gateBy : {A : Type 0} → Bool → Core → Params → Track → ℕ → (Refusal → A) → A → (ℕ → A) → A
-gateBy lengths c p t stream refuse setUp go =
-    guard lengths
-    (guard (consistentOf c && (ring.consistentOf t && streamOk c p stream))
-    (guard (isIdle (c .stage) && idleOf t)
-    (guard (c .ready)
-    (guard (ltb stream (c .counts .streams))
-    (guard (not (eqb (p .known) 0)) (go (p .period)) (refuse IoError))
-    (refuse InvalidParam))
-    setUp)
-    (refuse Busy))
-    (refuse InvalidParam))
-    (refuse BadLength)
 
 abbrev pub xferBy : {A : Type 0} → Bool → Sound → Track → ℕ → (Refusal → A) → A → (ℕ → A) → A
 xferBy lengths s t stream refuse setUp go = gateBy lengths (s .core) (paramsOf s stream) t stream refuse setUp go
@@ -60,12 +42,12 @@ abbrev pub refusedStep : Sound → Ring → Refusal → XferStep
 refusedStep s r x = record { sound = s; ring = r; reply = Says (said.Refused x); turns = 0 }
 
 abbrev pub setUpStep : Sound → Ring → ℕ → XferStep
-setUpStep s r stream = record { sound = soundAfter Nothing (setUpPlan s stream .core) s []; ring = r; reply = Send 16; turns = 0 }
+setUpStep s r stream = record { sound = withCore (withStage (s .core) (JacksAsked (Xfer stream))) s; ring = r; reply = Send 16; turns = 0 }
 
 abbrev pub startStep : Sound → Ring → Turned → XferStep
 startStep s r u = record { sound = s; ring = u .ring; reply = Says (u .said); turns = 0 }
 
-abbrev pub doneStep : Sound → Done → XferStep
+abbrev pub doneStep : Sound → Transferred → XferStep
 doneStep s d = record { sound = s; ring = d .ring; reply = Says (d .said); turns = d .turns }
 
 -- THE START of a transfer of frames of some length, with a message buffer of n bytes: it goes on, is refused, or begins set-up
@@ -78,7 +60,7 @@ startOf s r stream len budget n =
 unfoldable pub xferOf : Sound → Ring → ℕ → ℕ → ℕ → List ℕ → ℕ → XferStep
 xferOf s r stream len budget script n =
     xferBy (leb 24 n && eqb (length script % 12) 0) s (r .track) stream (refusedStep s r) (setUpStep s r stream)
-    (λ period. doneStep s (transferOf 3 r stream len period budget script))
+    (λ period. doneStep s (transferOf r stream len period budget script))
 
 -- what the message buffer holds then: the query of set-up, or what it held
 abbrev pub xferMessage : XferReply → Sound → ℕ → List ℕ → List ℕ
@@ -89,3 +71,18 @@ xferMessage (Says x) s stream l = l
 abbrev pub saysXfer : XferReply → answers.Says
 saysXfer (Send n) = answers.says (256 + n) []
 saysXfer (Says x) = saysSaid x
+
+-- document 01's number and values of the start, and of a transfer over a script: a refusal's, 256 + 16 for set-up's first query, or what the ring says
+abbrev pub startSays : Sound → Ring → ℕ → ℕ → ℕ → ℕ → answers.Says
+startSays s r stream len budget n = xferBy (leb 24 n) s (r .track) stream saysRefusal (answers.says (256 + 16) []) (λ period. saysSaid (startCall (r .track) stream len period budget .said))
+
+abbrev pub xferSays : Sound → Ring → ℕ → ℕ → ℕ → List ℕ → ℕ → answers.Says
+xferSays s r stream len budget script n =
+    xferBy (leb 24 n && eqb (length script % 12) 0) s (r .track) stream saysRefusal (answers.says (256 + 16) [])
+    (λ period. saysSaid (transferOf r stream len period budget script .said))
+
+-- what a transfer returns, its number and values, and what it leaves in the message buffer: m before, n after
+pub record Transfers (x : XferStep) (said : answers.Says) (s : Sound) (stream : ℕ) (m n : List ℕ) (r : XferStep) : Type 0 where
+  pub step : r ≡ x
+  pub says : saysXfer (r .reply) ≡ said
+  pub message : n ≡ xferMessage (x .reply) s stream m

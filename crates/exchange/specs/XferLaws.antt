@@ -16,17 +16,17 @@ use Rattle.turns.specs.ConsistentLaws.{both}
 use Rattle.turns.specs.declared.ring.Track.{Track}
 use Rattle.turns.specs.declared.ring.Ring.{Ring}
 use Rattle.exchange.specs.State.{paramsOf}
-use Rattle.exchange.specs.Consistent.{numbersOk, periodOk, paramsOk, consistentOf, streamOk}
+use Rattle.core.specs.Consistent.{numbersOk, periodOk, paramsOk, consistentOf, streamOk}
 use Rattle.exchange.specs.ConsistentLaws.{both-of, either-of, Paced, period-facts}
-use Rattle.exchange.specs.Plan.{isIdle}
+use Rattle.core.specs.Plan.{isIdle}
 use Rattle.exchange.specs.PlanLaws.{idle-is}
 use Rattle.exchange.specs.Xfer.{xferBy, setUpPlan, refusedStep, setUpStep, startStep, doneStep, startOf, xferOf}
 use Rattle.exchange.specs.Kept.{Kept, Playable}
 use Rattle.exchange.specs.FineLaws.{ask-fine}
 use Rattle.exchange.specs.KeptLaws.{step-kept}
-use Rattle.exchange.specs.declared.state.Params.{Params}
-use Rattle.exchange.specs.declared.state.Call.the-variants.{Xfer}
-use Rattle.exchange.specs.declared.state.Stage.the-variants.{Idle}
+use Rattle.core.specs.declared.state.Params.{Params}
+use Rattle.core.specs.declared.state.Call.the-variants.{Xfer}
+use Rattle.core.specs.declared.state.Stage.the-variants.{Idle}
 use Rattle.exchange.specs.declared.state.Sound.{Sound}
 use Rattle.exchange.specs.declared.xfer.XferStep.{XferStep}
 
@@ -55,10 +55,10 @@ module _ (P : XferStep → Type 0) (s : Sound) (r : Ring) (stream len budget n :
   unfolding startOf
   start-by = xfer-by P (leb 24 n) s (r .track) stream (refusedStep s r) (setUpStep s r stream) (λ period. startStep s r (startedOf r (startCall (r .track) stream len period budget))) a b
 
-  pub script-by : (script : List ℕ) → P (doneStep s (transferOf 3 r stream len (paramsOf s stream .period) budget script)) → P (xferOf s r stream len budget script n)
+  pub script-by : (script : List ℕ) → P (doneStep s (transferOf r stream len (paramsOf s stream .period) budget script)) → P (xferOf s r stream len budget script n)
   unfolding xferOf
   script-by script =
-      xfer-by P (leb 24 n && eqb (length script % 12) 0) s (r .track) stream (refusedStep s r) (setUpStep s r stream) (λ period. doneStep s (transferOf 3 r stream len period budget script)) a b
+      xfer-by P (leb 24 n && eqb (length script % 12) 0) s (r .track) stream (refusedStep s r) (setUpStep s r stream) (λ period. doneStep s (transferOf r stream len period budget script)) a b
 
 -- ---- they keep the invariant
 
@@ -114,7 +114,7 @@ passed-all lengths s r stream refuse setUp go long o =
     let k = o .state in
     let fine = stream-fine s stream k in
     let ok = both-of (consistentOf (s .core)) (ring.consistentOf (r .track) && streamOk (s .core) (paramsOf s stream) stream) (k .consistent) (both-of (ring.consistentOf (r .track)) (streamOk (s .core) (paramsOf s stream) stream) (o .ring) fine) in
-    let free : (isIdle (s .core .stage) && idleOf (r .track)) ≡ true = both-of (isIdle (s .core .stage)) (idleOf (r .track)) (ap isIdle (o .closed)) (both-of (not (r .track .running)) (eqb (r .track .held) 0) (ap not (o .still)) (eq-eqb _ _ (o .empty))) in
+    let free : (isIdle (s .core .stage) && idleOf (r .track)) ≡ true = both-of (isIdle (s .core .stage)) (idleOf (r .track)) (ap isIdle (o .closed)) (both-of (not (r .track .running)) (eqb (r .track .inflight) 0) (ap not (o .still)) (eq-eqb _ _ (o .empty))) in
     let known : not (eqb (paramsOf s stream .known) 0) ≡ true = ap not (ne-eqb _ _ (o .set)) in
     passes _ _ _ long (passes _ _ _ ok (passes _ _ _ free (passes _ _ _ (set-ready s k stream (o .set)) (passes _ _ _ (set-range s k stream (o .set)) (passes _ _ _ known refl)))))
 
@@ -123,8 +123,8 @@ module _ (s : Sound) (r : Ring) (stream len budget n : ℕ) (o : Playable s r st
   unfolding startOf
   start-is = passed-all (leb 24 n) s r stream (refusedStep s r) (setUpStep s r stream) (λ period. startStep s r (startedOf r (startCall (r .track) stream len period budget))) (le-leb 24 n long) o
 
-  pub xfer-is : (script : List ℕ) → length script % 12 ≡ 0 → doneStep s (transferOf 3 r stream len (paramsOf s stream .period) budget script) ≡ xferOf s r stream len budget script n
+  pub xfer-is : (script : List ℕ) → length script % 12 ≡ 0 → doneStep s (transferOf r stream len (paramsOf s stream .period) budget script) ≡ xferOf s r stream len budget script n
   unfolding xferOf
   xfer-is script whole =
-      passed-all (leb 24 n && eqb (length script % 12) 0) s r stream (refusedStep s r) (setUpStep s r stream) (λ period. doneStep s (transferOf 3 r stream len period budget script))
+      passed-all (leb 24 n && eqb (length script % 12) 0) s r stream (refusedStep s r) (setUpStep s r stream) (λ period. doneStep s (transferOf r stream len period budget script))
       (both-of (leb 24 n) (eqb (length script % 12) 0) (le-leb 24 n long) (eq-eqb _ _ whole)) o

@@ -4,45 +4,34 @@ ghost use mathlib.Core.List.{[], _++_};
 ghost use Prim.Native.Nat.{_≤_};
 ghost use lib.ListN.{length, drop};
 ghost use Rattle.codes.specs.declared.answers.Refusal.the-variants.{BadLength};
-ghost use Rattle.exchange.specs.Plan.{keepOf};
-ghost use Rattle.exchange.specs.Exchange.{requestBytes, messageAfter, replyOf, tellOf, toldIn, stepOf, Stepped, callOf, feedOf, failOf};
-ghost use Rattle.exchange.specs.State.{askedParams};
-ghost use Rattle.exchange.specs.declared.state.Kind.the-variants.{Prepare, Release, Start, Stop};
-ghost use Rattle.exchange.specs.declared.state.Field.the-variants.{Rates, Formats, Channels, Features};
-ghost use Rattle.exchange.specs.declared.state.Call.the-variants as calls;
-use crate::decide::answer;
-use crate::decide::begin;
+ghost use Rattle.core.specs.State.{askedParams};
+ghost use Rattle.core.specs.Plan.{refuseOf};
+ghost use Rattle.core.specs.declared.state.Kind.the-variants.{Prepare, Release, Start, Stop};
+ghost use Rattle.core.specs.declared.state.Field.the-variants.{Rates, Formats, Channels, Features};
+ghost use Rattle.core.specs.declared.state.Call.the-variants as calls;
+ghost use Rattle.exchange.specs.Exchange.{stepOf, Stepped, callOf, feedOf, failOf};
 use crate::effect::apply;
 use crate::effect::look;
 use crate::effect::pending_look;
-use crate::effect::verdict_by;
 use crate::listing::list_of;
 use crate::listing::no_ids;
-use crate::plan::Plan;
-use crate::plan::Request;
-use crate::plan::Say;
-use crate::plan::Value;
-use crate::state::Call;
-use crate::state::Field;
-use crate::state::Kind;
-use crate::state::Params;
 use crate::state::Sound;
 use codes::Refusal;
 use codes::direction;
-use records::PcmCommand;
-use records::Query;
-use records::Remap;
-use records::SetParameters;
+use core::Call;
+use core::Field;
+use core::Kind;
+use core::MESSAGE;
+use core::Params;
+use core::Plan;
+use core::Reply;
+use core::answer;
+use core::begin;
+use core::tell;
+use core::verdict_by;
 use tables::PAGE;
 use tables::Verdict;
 use turns::Ring;
-
-// A request of so many bytes to send, a result, or a refusal.
-pub enum Reply {
-    Send(usize),
-    Done(Value),
-    Refused(Refusal),
-}
 
 // Ids of streams, ascending; those past the count are 0.
 pub struct StreamList {
@@ -56,57 +45,6 @@ pub struct Step {
     pub streams: StreamList,
 }
 
-// The least length of a message buffer: the longest request.
-pub const MESSAGE: usize = SetParameters::SIZE;
-
-// A request, written by its record; its length.
-fn put_request(q: Request, message: &mut [u8]) -> usize
-    requires { ⌜ 24 ≤ length (now message) ⌝ }
-    ensures { λ r. ⌜ (r ≡ length (requestBytes q)) × (now (message .exit) ≡ requestBytes q ++ drop (length (requestBytes q)) (now (message .entry))) ⌝ }
-{
-    match q {
-        Request::Query(record) => {
-            record.write(message);
-            Query::SIZE
-        }
-        Request::Remap(record) => {
-            record.write(message);
-            Remap::SIZE
-        }
-        Request::Command(record) => {
-            record.write(message);
-            PcmCommand::SIZE
-        }
-        Request::Set(record) => {
-            record.write(message);
-            SetParameters::SIZE
-        }
-    }
-}
-
-// Only a request is written.
-pub(crate) fn put(say: Say, message: &mut [u8]) -> Reply
-    requires { ⌜ 24 ≤ length (now message) ⌝ }
-    ensures { λ r. ⌜ (r ≡ replyOf say) × (now (message .exit) ≡ messageAfter say (now (message .entry))) ⌝ }
-{
-    match say {
-        Say::Send(q) => Reply::Send(put_request(q, message)),
-        Say::Done(v) => Reply::Done(v),
-        Say::Refused(r) => Reply::Refused(r),
-    }
-}
-
-// What is said, with a lent message: a request's own bytes are written, and a result writes none. A
-// short message is refused.
-pub fn tell(say: Say, message: &mut [u8]) -> Reply
-    ensures { λ r. ⌜ (r ≡ tellOf say (length (now (message .entry)))) × (now (message .exit) ≡ toldIn say (now (message .entry))) ⌝ }
-{
-    if message.len() < MESSAGE {
-        return Reply::Refused(Refusal::BadLength);
-    }
-    put(say, message)
-}
-
 // What a plan comes to, with the page at hand.
 fn finish(p: Plan, s: Sound, page: &[u8], message: &mut [u8]) -> Step
     requires { ⌜ 24 ≤ length (now message) ⌝ }
@@ -118,14 +56,14 @@ fn finish(p: Plan, s: Sound, page: &[u8], message: &mut [u8]) -> Step
     let pcms = s.pcms;
     Step {
         sound: apply(effect, core, s, page),
-        reply: put(say, message),
+        reply: tell(say, message),
         streams: list_of(say, core.read.streams, pcms),
     }
 }
 
 // A page or a message buffer of a wrong length.
 fn bad_length(s: Sound) -> Step
-    ensures { λ r. ⌜ r ≡ stepOf (keepOf (s .core) BadLength) s [] ⌝ }
+    ensures { λ r. ⌜ r ≡ stepOf (refuseOf (s .core) BadLength) s [] ⌝ }
 {
     Step {
         sound: s,
@@ -288,6 +226,6 @@ pub fn feed_failure(s: Sound, message: &mut [u8]) -> Step
     let core = s.core;
     let stage = core.stage;
     let found = pending_look(stage, s);
-    let plan = answer(core, Verdict::Failed, found);
+    let plan = answer(core, Verdict::Refused(Refusal::QueueFailed), found);
     finish(plan, s, &[], message)
 }

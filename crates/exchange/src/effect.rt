@@ -3,20 +3,20 @@ ghost use mathlib.Core.Path.{_≡_};
 ghost use mathlib.Core.List.{[]};
 ghost use lib.ListN.{getD, set};
 ghost use Rattle.records.specs.Records.{jackInfoOf, pcmInfoOf};
-ghost use Rattle.exchange.specs.State.{unset, jackOf, pcmOf, paramsOf};
-ghost use Rattle.exchange.specs.Plan.{fieldOf, lookOf, pendingLook, verdictBy, soundAfter};
-use crate::plan::Effect;
-use crate::state::Call;
-use crate::state::Core;
-use crate::state::Counts;
-use crate::state::Field;
-use crate::state::Params;
+ghost use Rattle.core.specs.State.{unset};
+ghost use Rattle.exchange.specs.State.{jackOf, pcmOf, paramsOf};
+ghost use Rattle.exchange.specs.Tables.{fieldOf, lookOf, pendingLook, soundAfter};
 use crate::state::Sound;
-use crate::state::Stage;
+use core::Call;
+use core::Core;
+use core::Effect;
+use core::Field;
+use core::Look;
+use core::Params;
+use core::Stage;
+use core::Value;
 use records::JackInfo;
 use records::PcmInfo;
-use tables::Verdict;
-use tables::judge;
 use tables::read_jacks;
 use tables::read_maps;
 use tables::read_streams;
@@ -101,62 +101,54 @@ pub(crate) fn params_of(s: Sound, stream: u32) -> Params
     params_at(params, stream)
 }
 
-// The field of a stream's record that is asked for, as one number.
-fn field_of(field: Field, p: PcmInfo) -> u64
+// The field of a stream's record that is asked for.
+fn field_of(field: Field, p: PcmInfo) -> Value
     ensures { λ r. ⌜ r ≡ fieldOf field p ⌝ }
 {
     match field {
-        Field::Rates => p.rates,
-        Field::Formats => p.formats,
-        Field::Channels => (p.max as u64) * 256 + (p.min as u64),
-        Field::Features => p.features as u64,
+        Field::Rates => Value::Number(p.rates),
+        Field::Formats => Value::Number(p.formats),
+        Field::Channels => Value::Range {
+            min: p.min,
+            max: p.max,
+        },
+        Field::Features => Value::Number(p.features as u64),
     }
 }
 
 // What a call looks up in a table.
-pub(crate) fn look(s: Sound, call: Call) -> u64
+pub(crate) fn look(s: Sound, call: Call) -> Look
     ensures { λ r. ⌜ r ≡ lookOf s call ⌝ }
 {
     match call {
-        Call::SetParams { stream: _, to: _ } => 0,
-        Call::Command { kind: _, stream: _ } => 0,
+        Call::SetParams { stream: _, to: _ } => Look::Nothing,
+        Call::Command { kind: _, stream: _ } => Look::Nothing,
         Call::Remap {
             jack,
             association: _,
             sequence: _,
         } => {
             let found = jack_of(s, jack);
-            found.features as u64
+            Look::Jack {
+                features: found.features,
+            }
         }
-        Call::Streams { direction: _ } => 0,
-        Call::Supported { field, stream } => field_of(field, pcm_of(s, stream)),
-        Call::Xfer { stream: _ } => 0,
+        Call::Streams { direction: _ } => Look::Nothing,
+        Call::Supported { field, stream } => Look::Stream(field_of(field, pcm_of(s, stream))),
+        Call::Xfer { stream: _ } => Look::Nothing,
     }
 }
 
 // The look of the call that waits, once its answer lets it go on.
-pub(crate) fn pending_look(stage: Stage, s: Sound) -> u64
+pub(crate) fn pending_look(stage: Stage, s: Sound) -> Look
     ensures { λ r. ⌜ r ≡ pendingLook stage s ⌝ }
 {
     match stage {
-        Stage::Idle => 0,
-        Stage::JacksAsked(_) => 0,
-        Stage::StreamsAsked(_) => 0,
+        Stage::Idle => Look::Nothing,
+        Stage::JacksAsked(_) => Look::Nothing,
+        Stage::StreamsAsked(_) => Look::Nothing,
         Stage::MapsAsked(call) => look(s, call),
-        Stage::Sent(_) => 0,
-    }
-}
-
-// What a page says to what was asked. A command's answer has a status and nothing more.
-pub fn verdict_by(stage: Stage, n: Counts, page: &[u8]) -> Verdict
-    ensures { λ r. ⌜ r ≡ verdictBy stage n (now (page .entry)) ⌝ }
-{
-    match stage {
-        Stage::Idle => judge(page, 0, 0),
-        Stage::JacksAsked(_) => judge(page, n.jacks, 24),
-        Stage::StreamsAsked(_) => judge(page, n.streams, 32),
-        Stage::MapsAsked(_) => judge(page, n.maps, 24),
-        Stage::Sent(_) => judge(page, 0, 0),
+        Stage::Sent(_) => Look::Nothing,
     }
 }
 
@@ -181,26 +173,23 @@ pub(crate) fn apply(effect: Effect, c: Core, s: Sound, page: &[u8]) -> Sound
 {
     match effect {
         Effect::Nothing => Sound { core: c, ..s },
-        Effect::FillJacks => {
+        Effect::FillJacks(count) => {
             let old = s.jacks;
-            let t = read_jacks(page, c.counts.jacks, old);
-            let jacks = t.at;
+            let jacks = read_jacks(page, count, old);
             Sound {
                 core: c,
                 jacks,
                 ..s
             }
         }
-        Effect::FillStreams => {
+        Effect::FillStreams(count) => {
             let old = s.pcms;
-            let t = read_streams(page, c.counts.streams, old);
-            let pcms = t.at;
+            let pcms = read_streams(page, count, old);
             Sound { core: c, pcms, ..s }
         }
-        Effect::FillMaps => {
+        Effect::FillMaps(count) => {
             let old = s.maps;
-            let t = read_maps(page, c.counts.maps, old);
-            let maps = t.at;
+            let maps = read_maps(page, count, old);
             Sound { core: c, maps, ..s }
         }
         Effect::Store { stream, to } => {

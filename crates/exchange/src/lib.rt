@@ -1,15 +1,10 @@
-// The control exchange: the state, set-up, every call, the start of a transfer.
+// The state by value: every call, the feeds of an answer, the start of a transfer.
 mod calls;
-mod consistency;
-mod decide;
 mod effect;
 mod listing;
-mod plan;
 mod state;
 mod xfer;
 
-pub use calls::MESSAGE;
-pub use calls::Reply;
 pub use calls::Step;
 pub use calls::StreamList;
 pub use calls::channel_range_supported;
@@ -26,31 +21,9 @@ pub use calls::pcm_set_params;
 pub use calls::pcm_start;
 pub use calls::pcm_stop;
 pub use calls::rates_supported;
-pub use calls::tell;
-pub use consistency::consistent;
-pub use consistency::params_ok;
-pub use consistency::stream_ok;
-pub use decide::answer;
-pub use decide::ask_jacks;
-pub use decide::begin;
-pub use effect::verdict_by;
-pub use plan::Effect;
-pub use plan::Plan;
-pub use plan::Request;
-pub use plan::Say;
-pub use plan::Value;
-pub use state::Call;
 pub use state::Configured;
-pub use state::Core;
-pub use state::Counts;
-pub use state::Field;
-pub use state::Kind;
-pub use state::Params;
 pub use state::Sound;
-pub use state::Stage;
-pub use xfer::Gate;
 pub use xfer::XferReply;
 pub use xfer::XferStep;
 pub use xfer::pcm_xfer;
 pub use xfer::pcm_xfer_start;
-pub use xfer::xfer_gate;

@@ -4,11 +4,11 @@ ghost use mathlib.Core.List.{[]};
 ghost use Prim.Native.Nat.{_≤_, _<_};
 ghost use lib.ListN.{take};
 ghost use Rattle.codes.specs.Says.{pick};
-ghost use Rattle.exchange.specs.Exchange.{idsFrom, listed, listBy, listOf};
+ghost use Rattle.exchange.specs.Exchange.{idsFrom, listed, idsBy, listOf};
 ghost use Rattle.exchange.specs.Steps.{pushed};
 use crate::calls::StreamList;
-use crate::plan::Say;
-use crate::plan::Value;
+use core::Say;
+use core::Value;
 use records::PcmInfo;
 
 pub(crate) fn no_ids() -> StreamList
@@ -60,7 +60,7 @@ fn all_ids(direction: u8, n: u32, pcms: [PcmInfo; 127]) -> StreamList
 }
 
 fn list_by(v: Value, n: u32, pcms: [PcmInfo; 127]) -> StreamList
-    ensures { λ r. ⌜ r ≡ listBy v n pcms ⌝ }
+    ensures { λ r. ⌜ r ≡ listed (idsBy v n pcms) ⌝ }
 {
     match v {
         Value::Nothing => no_ids(),

@@ -2,32 +2,26 @@
 ghost use mathlib.Core.Path.{_≡_};
 ghost use Prim.Native.Nat.{_≤_};
 ghost use lib.ListN.{length};
-ghost use Rattle.exchange.specs.Exchange.{messageAfter};
-ghost use Rattle.exchange.specs.Xfer.{gateBy, xferBy, setUpPlan, refusedStep, setUpStep, startStep, doneStep, startOf, xferOf, xferMessage};
-ghost use Rattle.exchange.specs.Steps.{restBy};
-ghost use Rattle.exchange.specs.declared.xfer.Gate.the-variants.{Shut, SetUp, Open};
-use crate::calls::MESSAGE;
-use crate::calls::put;
-use crate::consistency::both;
-use crate::consistency::consistent;
-use crate::consistency::stream_ok;
-use crate::decide::ask_jacks;
-use crate::decide::is_idle_stage;
+ghost use Rattle.core.specs.Reply.{messageAfter};
+ghost use Rattle.core.specs.declared.gate.Gate.the-variants.{Shut, SetUp, Open};
+ghost use Rattle.exchange.specs.Xfer.{xferBy, setUpPlan, refusedStep, setUpStep, startStep, doneStep, startOf, xferOf, startSays, xferSays, Transfers};
 use crate::effect::params_of;
-use crate::state::Call;
-use crate::state::Core;
-use crate::state::Params;
 use crate::state::Sound;
 use codes::Refusal;
+use codes::both;
+use core::Call;
+use core::Gate;
+use core::MESSAGE;
+use core::ask_jacks;
+use core::tell;
+use core::xfer_gate;
 use records::Query;
-use turns::Done;
 use turns::Reading;
 use turns::Ring;
 use turns::Said;
 use turns::Track;
+use turns::Transferred;
 use turns::Turned;
-use turns::is_consistent;
-use turns::is_idle;
 use turns::start;
 use turns::transfer;
 
@@ -42,50 +36,6 @@ pub struct XferStep {
     pub ring: Ring,
     pub reply: XferReply,
     pub turns: u64,
-}
-
-// What the checks of a transfer come to: a refusal, set-up first, or a transfer by periods.
-pub enum Gate {
-    Shut(Refusal),
-    SetUp,
-    Open(u32),
-}
-
-// Set-up, then the stream's range, then its parameters.
-fn checked_by(c: Core, stream: u32, p: Params) -> Gate
-    ensures { λ r. ⌜ r ≡ restBy c stream p ⌝ }
-{
-    if !c.ready {
-        return Gate::SetUp;
-    }
-    if c.counts.streams <= stream {
-        return Gate::Shut(Refusal::InvalidParam);
-    }
-    if p.known == 0 {
-        return Gate::Shut(Refusal::IoError);
-    }
-    Gate::Open(p.period)
-}
-
-// The checks of a transfer, with the stream's own parameters: lengths, then consistency, then Busy,
-// then the rest.
-pub fn xfer_gate(lengths: bool, c: Core, p: Params, t: Track, stream: u32) -> Gate
-    ensures { λ r. ⌜ r ≡ gateBy lengths c p t stream Shut SetUp Open ⌝ }
-{
-    let stage = c.stage;
-    let own = stream_ok(c, stream, p);
-    let sound = both(consistent(c), both(is_consistent(t), own));
-    let free = both(is_idle_stage(stage), is_idle(t));
-    if !lengths {
-        return Gate::Shut(Refusal::BadLength);
-    }
-    if !sound {
-        return Gate::Shut(Refusal::InvalidParam);
-    }
-    if !free {
-        return Gate::Shut(Refusal::Busy);
-    }
-    checked_by(c, stream, p)
 }
 
 fn checked(lengths: bool, s: Sound, t: Track, stream: u32) -> Gate
@@ -114,7 +64,7 @@ fn set_up(s: Sound, ring: Ring, stream: u32, message: &mut [u8]) -> XferStep
     let plan = ask_jacks(s.core, Call::Xfer { stream });
     let core = plan.core;
     let say = plan.say;
-    put(say, message);
+    tell(say, message);
     XferStep {
         sound: Sound { core, ..s },
         ring,
@@ -136,7 +86,7 @@ fn started(s: Sound, ring: Ring, t: Turned) -> XferStep
     }
 }
 
-fn ended(s: Sound, d: Done) -> XferStep
+fn ended(s: Sound, d: Transferred) -> XferStep
     ensures { λ r. ⌜ r ≡ doneStep s d ⌝ }
 {
     let ring = d.ring;
@@ -158,7 +108,7 @@ pub fn pcm_xfer_start(
     budget: u64,
     message: &mut [u8],
 ) -> XferStep
-    ensures { λ r. ⌜ (r ≡ startOf s ring stream (length (now (frames .entry))) budget (length (now (message .entry)))) × (now (message .exit) ≡ xferMessage (startOf s ring stream (length (now (frames .entry))) budget (length (now (message .entry))) .reply) s stream (now (message .entry))) ⌝ }
+    ensures { λ r. ⌜ Transfers (startOf s ring stream (length (now (frames .entry))) budget (length (now (message .entry)))) (startSays s ring stream (length (now (frames .entry))) budget (length (now (message .entry)))) s stream (now (message .entry)) (now (message .exit)) r ⌝ }
 {
     let outcome = checked(MESSAGE <= message.len(), s, ring.track, stream);
     match outcome {
@@ -181,7 +131,7 @@ pub fn pcm_xfer(
     script: &[u8],
     message: &mut [u8],
 ) -> XferStep
-    ensures { λ r. ⌜ (r ≡ xferOf s ring stream (length (now (frames .entry))) budget (now (script .entry)) (length (now (message .entry)))) × (now (message .exit) ≡ xferMessage (xferOf s ring stream (length (now (frames .entry))) budget (now (script .entry)) (length (now (message .entry))) .reply) s stream (now (message .entry))) ⌝ }
+    ensures { λ r. ⌜ Transfers (xferOf s ring stream (length (now (frames .entry))) budget (now (script .entry)) (length (now (message .entry)))) (xferSays s ring stream (length (now (frames .entry))) budget (now (script .entry)) (length (now (message .entry)))) s stream (now (message .entry)) (now (message .exit)) r ⌝ }
 {
     let whole = script.len() % Reading::SIZE == 0;
     let lengths = both(MESSAGE <= message.len(), whole);

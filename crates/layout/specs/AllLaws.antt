@@ -3,33 +3,30 @@
 use mathlib.Core.List.{List, [], _∷_, _++_}
 use Prim.Native.Nat.{ℕ, zero, suc, _+_}
 use lib.ListN.{set, drop, replicate}
+use Rattle.layout.specs.All.{All}
 use Rattle.layout.specs.Bytes.{Bytes}
 use Rattle.layout.specs.Rows.{rowsAt}
 
-abbrev pub AllOk : {A : Type 0} → (A → Type 0) → List A → Type 0
-AllOk Ok [] = Unit {0}
-AllOk Ok (x ∷ xs) = Ok x × AllOk Ok xs
-
 module _ {A : Type 0} (Ok : A → Type 0) where
-  pub append-ok : (xs ys : List A) → AllOk Ok xs → AllOk Ok ys → AllOk Ok (xs ++ ys)
+  pub append-ok : (xs ys : List A) → All Ok xs → All Ok ys → All Ok (xs ++ ys)
   append-ok [] ys p q = q
   append-ok (x ∷ xs) ys p q = (p .0, append-ok xs ys (p .1) q)
 
-  pub drop-ok : (n : ℕ) (xs : List A) → AllOk Ok xs → AllOk Ok (drop n xs)
+  pub drop-ok : (n : ℕ) (xs : List A) → All Ok xs → All Ok (drop n xs)
   drop-ok zero xs p = p
   drop-ok (suc n) [] p = tt
   drop-ok (suc n) (x ∷ xs) p = drop-ok n xs (p .1)
 
-  pub set-ok : (xs : List A) (i : ℕ) (y : A) → AllOk Ok xs → Ok y → AllOk Ok (set xs i y)
+  pub set-ok : (xs : List A) (i : ℕ) (y : A) → All Ok xs → Ok y → All Ok (set xs i y)
   set-ok [] i y p q = tt
   set-ok (x ∷ xs) zero y p q = (q, p .1)
   set-ok (x ∷ xs) (suc i) y p q = (p .0, set-ok xs i y (p .1) q)
 
-  pub replicate-ok : (n : ℕ) (y : A) → Ok y → AllOk Ok (replicate n y)
+  pub replicate-ok : (n : ℕ) (y : A) → Ok y → All Ok (replicate n y)
   replicate-ok zero y q = tt
   replicate-ok (suc n) y q = (q, replicate-ok n y q)
 
-  pub rows-ok : (f : ℕ → List ℕ → A) (size : ℕ) → ((o : ℕ) (s : List ℕ) → Bytes s → Ok (f o s)) → (o n : ℕ) (s : List ℕ) → Bytes s → AllOk Ok (rowsAt f size o n s)
+  pub rows-ok : (f : ℕ → List ℕ → A) (size : ℕ) → ((o : ℕ) (s : List ℕ) → Bytes s → Ok (f o s)) → (o n : ℕ) (s : List ℕ) → Bytes s → All Ok (rowsAt f size o n s)
   unfolding rowsAt
   rows-ok f size reads o zero s b = tt
   rows-ok f size reads o (suc n) s b = (reads o s b, rows-ok f size reads (o + size) n s b)

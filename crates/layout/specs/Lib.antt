@@ -2,6 +2,8 @@
 pub mod Bytes
 pub mod Layout
 pub mod Rows
+pub mod All
+pub mod Lent
 -- laws
 pub mod BytesLaws
 pub mod StoreLaws

@@ -12,7 +12,7 @@ use Rattle.layout.specs.Bytes.{bytesAt, Bytes}
 use Rattle.layout.specs.Rows.{rowsAt, rowsBytes}
 use Rattle.layout.specs.BytesLaws.{bytesAt-append, bytesAt-front, bytesAt-add}
 use Rattle.layout.specs.StoreLaws.{sets-then}
-use Rattle.layout.specs.AllLaws.{AllOk}
+use Rattle.layout.specs.All.{All}
 
 further : (o n size : ℕ) → o + size + n * size ≡ o + suc n * size
 further o n size = add-assoc o size (n * size) ∙ ap (λ (k : ℕ). o + k) (add-comm size (n * size) ∙ sym (suc-mul n size))
@@ -135,7 +135,7 @@ module _ {A : Type 0} (f : ℕ → List ℕ → A) (g : A → List ℕ) (size : 
       λ i. (own (length a + k) (a ++ t) ∙ ap (f 0) (bytesAt-append a t k size) ∙ sym (own k t)) i
       ∷ (ap (λ (z : ℕ). rowsAt f size z n (a ++ t)) (add-assoc (length a) k size) ∙ rows-skip a t (k + size) n) i
 
-  pub rows-back : (xs : List A) (c : List ℕ) → AllOk Ok xs → rowsAt f size 0 (length xs) (rowsBytes g xs ++ c) ≡ xs
+  pub rows-back : (xs : List A) (c : List ℕ) → All Ok xs → rowsAt f size 0 (length xs) (rowsBytes g xs ++ c) ≡ xs
   unfolding rowsAt rowsBytes
   rows-back [] c h = refl
   rows-back (x ∷ xs) c h =
@@ -146,7 +146,7 @@ module _ {A : Type 0} (f : ℕ → List ℕ → A) (g : A → List ℕ) (size : 
       ap (λ (l : List ℕ). f 0 l ∷ rowsAt f size (0 + size) (length xs) l) (append-assoc (g x) (rowsBytes g xs) c) ∙ (λ i. p i ∷ q i)
 
   -- a table that was written, whatever stands before and after it
-  pub table-back : (a c : List ℕ) (xs : List A) (o n : ℕ) → length a ≡ o → length xs ≡ n → AllOk Ok xs → rowsAt f size o n (a ++ (rowsBytes g xs ++ c)) ≡ xs
+  pub table-back : (a c : List ℕ) (xs : List A) (o n : ℕ) → length a ≡ o → length xs ≡ n → All Ok xs → rowsAt f size o n (a ++ (rowsBytes g xs ++ c)) ≡ xs
   table-back a c xs o n p q h =
       let t = rowsBytes g xs ++ c in
       (λ i. rowsAt f size (sym (add-zero (length a) ∙ p) i) (sym q i) (a ++ t))

@@ -1,7 +1,7 @@
 -- A public function's contract leaves one outcome: any two that it permits, for the same arguments, are equal, in what is returned and in what the
 -- lent slice holds. `Post` is the contract itself, as Rattle reads it off the source, so no statement here repeats a clause.
 -- Assumes nothing.
-use mathlib.Core.Path.{_≡_, refl}
+use mathlib.Core.Path.{_≡_, refl, ap}
 use mathlib.Core.List.{List}
 use Prim.Native.Nat.{ℕ}
 use lib.Dec.{eqb}
@@ -9,7 +9,7 @@ use lib.ListN.{getD}
 use denote.Ref.{now}
 use Rattle.codes.specs.Says.{Says, pick}
 use Rattle.codes.specs.SaysLaws.{same, one}
-use Rattle.listing.specs.Listing.{saysLine, Gives}
+use Rattle.listing.specs.Listing.{Judged, saysLine, Gives}
 use Rattle.listing.specs.declared.lines.Line.{Line}
 use Rattle.listing.specs.declared.lines.Line.the-variants as line
 use Rattle.listing.proofs.verdict.judge.Reads as judge
@@ -29,7 +29,7 @@ gives-one : {l before after₁ after₂ : List ℕ} {r₁ r₂ : Line} → Gives
 gives-one p q = (one saysLine lineBack line-back (p .said) (q .said), same (p .holds) (q .holds))
 
 pub judge-one : (κs : _) (a : _) (r₁ r₂ : _) (e₁ e₂ : _) → judge.Post κs a r₁ e₁ → judge.Post κs a r₂ e₂ → r₁ ≡ r₂
-judge-one κs a r₁ r₂ e₁ e₂ p q = same p q
+judge-one κs a r₁ r₂ e₁ e₂ p q = ap (λ (x : Judged). x .listing) (same p q)
 
 pub count-line-one : (κs : _) (a : _) (r₁ r₂ : _) (e₁ e₂ : _) → count-line.Post κs a r₁ e₁ → count-line.Post κs a r₂ e₂ → (r₁ ≡ r₂) × (now (e₁ .1 .0) ≡ now (e₂ .1 .0))
 count-line-one κs a r₁ r₂ e₁ e₂ p q = gives-one p q

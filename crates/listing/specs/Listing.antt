@@ -22,8 +22,23 @@ use Rattle.listing.specs.declared.lines.Line.the-variants as line
 abbrev pub lengthOk : ℕ → Bool
 lengthOk n = leb 4 n && (leb n 4096 && eqb ((n - 4) % 32) 0)
 
-unfoldable pub listingOf : ℕ → List ℕ → Listing
-listingOf n page = guard (lengthOk n) (guard (eqb (numAt 0 4 page) 0x8000) (Streams ((n - 4) / 32)) (Refused IoError)) (Refused BadLength)
+abbrev pub saysListing : Listing → Says
+saysListing (Streams n) = says 0 (n ∷ [])
+saysListing (Refused r) = saysRefusal r
+
+-- what is returned, and document 01's number and values of it
+pub record Judged : Type 0 where
+  pub listing : Listing
+  pub said : Says
+
+abbrev pub judged : Listing → Judged
+judged x = record { listing = x; said = saysListing x }
+
+unfoldable pub listingOf : ℕ → List ℕ → Judged
+listingOf n page =
+    guard (lengthOk n) (judged (Refused BadLength))
+    (guard (eqb (numAt 0 4 page) 0x8000) (judged (Refused IoError))
+    (judged (Streams ((n - 4) / 32))))
 
 -- ---- the lines
 
@@ -80,4 +95,4 @@ lineOf (Refused r) page k = pick (eqb k 0) (refusedLine r) []
 lineOf (Streams n) page k = pick (eqb k 0) (countLine n) (pick (leb k n) (streamLine (k - 1) (recordAt (k - 1) page)) [])
 
 abbrev pub lineAt : ℕ → List ℕ → ℕ → List ℕ
-lineAt n page k = lineOf (listingOf n page) page k
+lineAt n page k = lineOf (listingOf n page .listing) page k

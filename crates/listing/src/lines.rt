@@ -6,6 +6,7 @@ ghost use lib.ListN.{length};
 ghost use lib.Seq.{sets};
 ghost use Rattle.listing.specs.Listing.{decimal, directionWord, countLine, refusedLine, streamLine, lineAt, recordAt, Gives};
 ghost use Rattle.listing.specs.Text.{Adds, textOf};
+use crate::verdict::HEADER;
 use crate::verdict::Listing;
 use crate::verdict::judge;
 use codes::Refusal;
@@ -135,7 +136,7 @@ fn record_line(page: &[u8], i: u8, out: &mut [u8]) -> Line
     requires { ⌜ (length (now page) ≡ 4096) × (i < 127) ⌝ }
     ensures { λ r. ⌜ Gives (streamLine i (recordAt i (now (page .entry)))) r (now (out .entry)) (now (out .exit)) ⌝ }
 {
-    let at = 4 + (i as usize) * PcmInfo::SIZE;
+    let at = HEADER + (i as usize) * PcmInfo::SIZE;
     let ReadPcmInfo::Is(p) = PcmInfo::read(&page[at..]) else {
         return Line::BadLength;
     };

@@ -7,17 +7,13 @@ use Prim.Native.Nat.{ℕ, _+_, _-_, _%_, _^_}
 use lib.Dec.{leb, ltb, eqb}
 use lib.ListN.{length, getD, set, length-set}
 use Rattle.layout.specs.Bytes.{numAt}
-use Rattle.layout.specs.Layout.{read}
+use Rattle.layout.specs.Layout.{size, read}
 use Rattle.codes.specs.Says.{pick}
-use Rattle.codes.specs.declared.requests.RequestCode.{RequestCode}
-use Rattle.codes.specs.declared.requests.RequestCode.the-variants.{RJackInfo, RJackRemap, RPcmInfo, RPcmSetParams, RPcmPrepare, RPcmRelease, RPcmStart, RPcmStop, RChmapInfo}
-use Rattle.codes.specs.declared.requests.FoundRequest.{FoundRequest}
+use Rattle.model.specs.Types.{RequestCode, RJackInfo, RJackRemap, RPcmInfo, RPcmSetParams, RPcmPrepare, RPcmRelease, RPcmStart, RPcmStop, RChmapInfo, FoundRequest, SetParameters, Device}
 use Rattle.codes.specs.declared.requests.FoundRequest.the-variants as found
-use Rattle.records.specs.Records.{query, setParameters, queryOf, setParametersOf, jackBytes, pcmBytes, mapBytes}
+use Rattle.records.specs.Records.{query, pcmCommand, setParameters, transfer, jackInfo, pcmInfo, channelMap, queryOf, setParametersOf, jackBytes, pcmBytes, mapBytes}
 use Rattle.model.specs.Control.{Outcome, bad, ok, queryFits, rowsIn, table, keptBy, settingOf, commandOf, answerBy, answerFound, requestBy, outcomeOf}
-use Rattle.records.specs.declared.control.SetParameters.{SetParameters}
 use Rattle.model.specs.Transfer.{streamOf, plays, playedBy, deviceAfter}
-use Rattle.model.specs.declared.device.Device.{Device}
 
 pub record Kept (d e : Device) : Type 0 where
   pub counts : e .counts ≡ d .counts
@@ -51,21 +47,21 @@ module _ (P : Device → Type 0) (s : List ℕ) (d : Device) (p : P d) where
         either Leaves (queryFits s size n) (record { device = d; bytes = rowsIn g (x .start) (x .count) rows }) (bad d) p p
 
     setting-leaves : Leaves (settingOf s d)
-    setting-leaves = either Leaves (eqb (length s) 24 && ltb (asked .stream) (d .counts .streams)) (ok (keptBy d (asked .stream) (record { known = 1; set = asked }))) (bad d) q p
+    setting-leaves = either Leaves (eqb (length s) (size setParameters) && ltb (asked .stream) (d .counts .streams)) (ok (keptBy d (asked .stream) (record { known = 1; set = asked }))) (bad d) q p
 
     command-leaves : Leaves (commandOf s d)
-    command-leaves = either Leaves (eqb (length s) 8) (ok d) (bad d) p p
+    command-leaves = either Leaves (eqb (length s) (size pcmCommand)) (ok d) (bad d) p p
 
     by-code : (c : RequestCode) → Leaves (answerBy c s d)
-    by-code RJackInfo = table-leaves jackBytes 24 (d .counts .jacks) (d .jacks)
+    by-code RJackInfo = table-leaves jackBytes (size jackInfo) (d .counts .jacks) (d .jacks)
     by-code RJackRemap = p
-    by-code RPcmInfo = table-leaves pcmBytes 32 (d .counts .streams) (d .pcms)
+    by-code RPcmInfo = table-leaves pcmBytes (size pcmInfo) (d .counts .streams) (d .pcms)
     by-code RPcmSetParams = setting-leaves
     by-code RPcmPrepare = command-leaves
     by-code RPcmRelease = command-leaves
     by-code RPcmStart = command-leaves
     by-code RPcmStop = command-leaves
-    by-code RChmapInfo = table-leaves mapBytes 24 (d .counts .maps) (d .maps)
+    by-code RChmapInfo = table-leaves mapBytes (size channelMap) (d .counts .maps) (d .maps)
 
     by-found : (f : FoundRequest) → Leaves (answerFound f s d)
     by-found (found.Is c) = by-code c
@@ -76,8 +72,8 @@ module _ (P : Device → Type 0) (s : List ℕ) (d : Device) (p : P d) where
     control-leaves = either Leaves (leb 4 (length s)) (answerFound (requestBy (numAt 0 4 s)) s d) (bad d) (by-found (requestBy (numAt 0 4 s))) p
 
   -- a transfer leaves the device as it was, or with the bytes of one stream counted
-  pub transfer-leaves : P (playedBy d (streamOf s) (length s - 4)) → P (deviceAfter d s)
-  transfer-leaves q = either P (plays d s) (playedBy d (streamOf s) (length s - 4)) d q p
+  pub transfer-leaves : P (playedBy d (streamOf s) (length s - size transfer)) → P (deviceAfter d s)
+  transfer-leaves q = either P (plays (d .counts) s) (playedBy d (streamOf s) (length s - size transfer)) d q p
 
 module _ (s : List ℕ) (d : Device) where
   pub control-keeps : Kept d (outcomeOf s d .device)
@@ -93,7 +89,7 @@ module _ (s : List ℕ) (d : Device) where
   transfer-keeps =
       let i = streamOf s in
       transfer-leaves (Kept d) s d (stays d)
-      (record { counts = refl; jacks = refl; pcms = refl; maps = refl; params = refl; played = length-set (d .played) i ((getD (d .played) i 0 + (length s - 4)) % 2 ^ 64) })
+      (record { counts = refl; jacks = refl; pcms = refl; maps = refl; params = refl; played = length-set (d .played) i ((getD (d .played) i 0 + (length s - size transfer)) % 2 ^ 64) })
 
   pub transfer-sets-nothing : deviceAfter d s .params ≡ d .params
   transfer-sets-nothing = transfer-leaves (λ (e : Device). e .params ≡ d .params) s d refl refl

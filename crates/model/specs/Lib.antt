@@ -1,4 +1,5 @@
 -- definitions
+pub mod Types
 pub mod Device
 pub mod Control
 pub mod Transfer

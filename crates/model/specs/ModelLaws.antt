@@ -8,7 +8,7 @@ use Prim.Native.Nat.{ℕ, _+_, _-_, _*_, _%_, _^_, _<_, _≤_}
 use native.Mathlib.Nat.{zero-add}
 use native.Mathlib.Omega.{arith}
 use lib.Dec.{lit<, ltb}
-use lib.ListN.{length, getD, take, drop, set, length-append}
+use lib.ListN.{length, getD, take, set, length-append}
 use lib.Seq.{ext-getD, getD-take, getD-set-same, getD-set-other, length-take-le, drop-at}
 use borrow.Author.Tests.{le-leb, lt-ltb, eq-eqb}
 use Rattle.layout.specs.Bytes.{le}
@@ -20,37 +20,26 @@ use Rattle.layout.specs.RowsLaws.{length-rows, rows-at}
 use Rattle.codes.specs.Says.{says, pick}
 use Rattle.codes.specs.SaysLaws.{picks, passes}
 use Rattle.codes.specs.Requests.{requestCode}
-use Rattle.codes.specs.declared.requests.RequestCode.{RequestCode}
-use Rattle.codes.specs.declared.requests.RequestCode.the-variants.{RJackInfo, RPcmInfo, RPcmSetParams, RChmapInfo}
-use Rattle.records.specs.Records.{query, pcmCommand, setParameters, setParametersValues, jackInfo, jackInfoValues, pcmInfo, pcmInfoValues, channelMap, channelMapValues, transfer, jackInfoOf, pcmInfoOf, channelMapOf}
+use Rattle.model.specs.Types.{RequestCode, RJackInfo, RPcmInfo, RPcmSetParams, RChmapInfo, SetParameters, Device, Answer}
+use Rattle.records.specs.Records.{query, pcmCommand, setParameters, setParametersValues, jackInfo, jackInfoValues, pcmInfo, pcmInfoValues, channelMap, channelMapValues, transfer, transferStatus, jackInfoOf, pcmInfoOf, channelMapOf}
 use Rattle.records.specs.SliceLaws.{read-long}
-use Rattle.records.specs.declared.control.SetParameters.{SetParameters}
-use Rattle.model.specs.Device.{withinOf, nothing, streamOk, heldSays, paramsSays, playedSays}
-use Rattle.model.specs.Control.{ok, rangeOf, rowsIn, table, keptBy, commandOf, answerBy, outcomeOf, controlOf, pageAfter}
-use Rattle.model.specs.Transfer.{streamOf, plays, payloadOf, playedBy, statusBy, statusIn, deviceAfter, answered, transferCall, answerAfter}
-use Rattle.model.specs.DeviceLaws.{passed, few-jacks, few-streams, few-maps}
+use Rattle.model.specs.Device.{mostJacks, mostStreams, mostMaps, pageSize, withinOf, nothing, streamOk, heldSays, paramsSays, playedSays}
+use Rattle.model.specs.Control.{given, laid, answering, ok, askedSays, rowsIn, table, keptBy, commandOf, answerBy, outcomeOf, controlOf}
+use Rattle.model.specs.Transfer.{streamOf, plays, payloadOf, playedBy, statusBy, deviceAfter, statusGiven, transferCall}
+use Rattle.model.specs.DeviceLaws.{and-passes, few-jacks, few-streams, few-maps}
 use Rattle.model.specs.PageLaws.{length-rowsIn, row-back}
 use Rattle.model.specs.ControlLaws.{asked-by, table-rows, setting-by, outcome-code}
-use Rattle.model.specs.declared.device.Device.{Device}
-use Rattle.model.specs.declared.said.Control.the-variants.{Answer}
-use Rattle.model.specs.declared.control.Range.the-variants.{Of}
 
 -- ---- the calls, on a page or an answer slice of the right length
 
-pub control-answers : (d : Device) (s page : List ℕ) → length page ≡ 4096 → withinOf (d .counts) ≡ true
-    → (controlOf d s (length page) ≡ record { device = outcomeOf s d .device; said = Answer (length (outcomeOf s d .bytes)) })
-    × (pageAfter d s page ≡ outcomeOf s d .bytes ++ drop (length (outcomeOf s d .bytes)) page)
-unfolding controlOf pageAfter
-control-answers d s page h w =
-    let n = eq-eqb (length page) 4096 h in
-    (sym (passes _ _ _ n (passes _ _ _ w refl)), picks _ _ _ (passed _ _ n ∙ w))
+pub control-answers : (d : Device) (s page : List ℕ) → length page ≡ pageSize → withinOf (d .counts) ≡ true
+    → controlOf d s page ≡ given (record { device = outcomeOf s d .device; said = Answer (length (outcomeOf s d .bytes)) }) (laid (outcomeOf s d .bytes) page)
+unfolding controlOf answering
+control-answers d s page h w = sym (passes _ _ _ (eq-eqb (length page) pageSize h) (passes _ _ _ w refl))
 
-pub transfer-answers : (d : Device) (s answer : List ℕ) → 8 ≤ length answer → withinOf (d .counts) ≡ true
-    → (transferCall d s (length answer) ≡ answered (deviceAfter d s)) × (answerAfter d s answer ≡ statusIn (statusBy d s) answer)
-unfolding transferCall answerAfter
-transfer-answers d s answer h w =
-    let n = le-leb 8 (length answer) h in
-    (sym (passes _ _ _ n (passes _ _ _ w refl)), picks _ _ _ (passed _ _ n ∙ w))
+pub transfer-answers : (d : Device) (s answer : List ℕ) → size transferStatus ≤ length answer → withinOf (d .counts) ≡ true → transferCall d s answer ≡ statusGiven (deviceAfter d s) (statusBy d s) answer
+unfolding transferCall
+transfer-answers d s answer h w = sym (passes _ _ _ (le-leb (size transferStatus) (length answer) h) (passes _ _ _ w refl))
 
 -- ---- requests as they are sent
 
@@ -67,7 +56,7 @@ asks code n size = write query (code ∷ 0 ∷ n ∷ size ∷ [])
 pub record Answers {A : Type 0} (c : RequestCode) (ws : List ℕ) (values : A → List ℕ) (of : List ℕ → A) (n : ℕ) (rows : List A) (d : Device) : Type 0 where
   pub answer : outcomeOf (asks (requestCode c) n (size ws)) d ≡ record { device = d; bytes = rowsIn (λ (x : A). write ws (values x)) 0 n rows }
   pub long : length (rowsIn (λ (x : A). write ws (values x)) 0 n rows) ≡ 4 + n * size ws
-  pub fits : 4 + n * size ws ≤ 4096
+  pub fits : 4 + n * size ws ≤ pageSize
   -- record i stands at 4 + i × size, whatever follows the answer
   pub at : (i : ℕ) (z : A) (rest : List ℕ) → i < n → Fit ws (values (getD rows i z)) → of (readAt (4 + i * size ws) ws (rowsIn (λ (x : A). write ws (values x)) 0 n rows ++ rest)) ≡ getD rows i z
   -- all of them
@@ -81,12 +70,12 @@ module _ {A : Type 0} (c : RequestCode) (ws : List ℕ) (values : A → List ℕ
       let g : A → List ℕ = λ x. write ws (values x) in
       let vs = requestCode c ∷ 0 ∷ n ∷ size ws ∷ [] in
       let s = write query vs in
-      let l : length s ≡ 16 = length-write query vs in
+      let l : length s ≡ size query = length-write query vs in
       let r = read-sent query vs f in
-      let q : rangeOf s (size ws) n ≡ Of 0 n =
+      let q : askedSays s (size ws) n ≡ says 0 (0 ∷ n ∷ []) =
       asked-by s (size ws) n (record { code = requestCode c; start = 0; count = n; size = size ws }) l (sym (read-long query s (omega arith) ∙ ap (says 0) r))
-      ∙ picks _ _ _ (passed _ _ (eq-eqb (size ws) (size ws) refl) ∙ le-leb (0 + n) n (omega arith)) in
-      outcome-code s d c (omega arith) (ap (λ (k : List ℕ). getD k 0 0) r) ∙ by s ∙ table-rows g s (size ws) n rows d 0 n (sym q)
+      ∙ picks _ _ _ (and-passes _ _ (eq-eqb (size ws) (size ws) refl) ∙ le-leb (0 + n) n (omega arith)) in
+      outcome-code s d c (omega arith) (ap (λ (k : List ℕ). getD k 0 0) r) ∙ by s ∙ table-rows s (size ws) n g rows d 0 n (sym q)
 
   module _ (leads : (x : A) → of (values x) ≡ x) (h : n ≤ length rows) where
     record-at : (i : ℕ) (z : A) (rest : List ℕ) → i < n → Fit ws (values (getD rows i z)) → of (readAt (4 + i * size ws) ws (rowsIn (λ (x : A). write ws (values x)) 0 n rows ++ rest)) ≡ getD rows i z
@@ -94,7 +83,7 @@ module _ {A : Type 0} (c : RequestCode) (ws : List ℕ) (values : A → List ℕ
         let e = zero-add i in
         ap of (row-back ws values rows 0 n (omega arith) i z rest k (rw e f) ∙ ap (λ (j : ℕ). values (getD rows j z)) e) ∙ leads (getD rows i z)
 
-    answers : outcomeOf (asks (requestCode c) n (size ws)) d ≡ record { device = d; bytes = rowsIn (λ (x : A). write ws (values x)) 0 n rows } → 4 + n * size ws ≤ 4096 → Answers c ws values of n rows d
+    answers : outcomeOf (asks (requestCode c) n (size ws)) d ≡ record { device = d; bytes = rowsIn (λ (x : A). write ws (values x)) 0 n rows } → 4 + n * size ws ≤ pageSize → Answers c ws values of n rows d
     answers e m =
         record {
           answer = e;
@@ -112,7 +101,7 @@ module _ {A : Type 0} (c : RequestCode) (ws : List ℕ) (values : A → List ℕ
         }
 
 module _ (d : Device) (w : withinOf (d .counts) ≡ true) where
-  pub jacks-answers : length (d .jacks) ≡ 170 → Answers RJackInfo jackInfo jackInfoValues jackInfoOf (d .counts .jacks) (d .jacks) d
+  pub jacks-answers : length (d .jacks) ≡ mostJacks → Answers RJackInfo jackInfo jackInfoValues jackInfoOf (d .counts .jacks) (d .jacks) d
   jacks-answers l =
       let n = d .counts .jacks in
       let h = few-jacks (d .counts) w in
@@ -120,7 +109,7 @@ module _ (d : Device) (w : withinOf (d .counts) ≡ true) where
       (asked-whole RJackInfo jackInfo jackInfoValues jackInfoOf n (d .jacks) d (λ s. refl) (lit< tt, (lit< tt, (omega arith, (lit< tt, tt)))))
       (omega arith)
 
-  pub pcms-answers : length (d .pcms) ≡ 127 → Answers RPcmInfo pcmInfo pcmInfoValues pcmInfoOf (d .counts .streams) (d .pcms) d
+  pub pcms-answers : length (d .pcms) ≡ mostStreams → Answers RPcmInfo pcmInfo pcmInfoValues pcmInfoOf (d .counts .streams) (d .pcms) d
   pcms-answers l =
       let n = d .counts .streams in
       let h = few-streams (d .counts) w in
@@ -128,7 +117,7 @@ module _ (d : Device) (w : withinOf (d .counts) ≡ true) where
       (asked-whole RPcmInfo pcmInfo pcmInfoValues pcmInfoOf n (d .pcms) d (λ s. refl) (lit< tt, (lit< tt, (omega arith, (lit< tt, tt)))))
       (omega arith)
 
-  pub maps-answers : length (d .maps) ≡ 170 → Answers RChmapInfo channelMap channelMapValues channelMapOf (d .counts .maps) (d .maps) d
+  pub maps-answers : length (d .maps) ≡ mostMaps → Answers RChmapInfo channelMap channelMapValues channelMapOf (d .counts .maps) (d .maps) d
   maps-answers l =
       let n = d .counts .maps in
       let h = few-maps (d .counts) w in
@@ -142,7 +131,7 @@ pub setting-answer : (d : Device) (p : SetParameters) → Fit setParameters (set
     → outcomeOf (write setParameters (setParametersValues p)) d ≡ ok (keptBy d (p .stream) (record { known = 1; set = p }))
 setting-answer d p f e h =
     let s = write setParameters (setParametersValues p) in
-    let l : length s ≡ 24 = length-write setParameters (setParametersValues p) in
+    let l : length s ≡ size setParameters = length-write setParameters (setParametersValues p) in
     let r = read-sent setParameters (setParametersValues p) f in
     outcome-code s d RPcmSetParams (omega arith) (ap (λ (k : List ℕ). getD k 0 0) r ∙ e)
     ∙ setting-by s d p l (sym (read-long setParameters s (omega arith) ∙ ap (says 0) r))
@@ -150,13 +139,13 @@ setting-answer d p f e h =
 
 module _ (d : Device) (i : ℕ) (p : SetParameters) where
   -- they are held, and those of another stream stay
-  pub setting-held : withinOf (d .counts) ≡ true → length (d .params) ≡ 127 → i < d .counts .streams → paramsSays (keptBy d i (record { known = 1; set = p })) i ≡ says 0 (setParametersValues p)
+  pub setting-held : withinOf (d .counts) ≡ true → length (d .params) ≡ mostStreams → i < d .counts .streams → paramsSays (keptBy d i (record { known = 1; set = p })) i ≡ says 0 (setParametersValues p)
   setting-held w l h =
       let k = few-streams (d .counts) w in
-      picks _ _ _ (passed _ _ w ∙ lt-ltb i (d .counts .streams) h) ∙ ap heldSays (getD-set-same (d .params) i (record { known = 1; set = p }) nothing (omega arith))
+      picks _ _ _ (and-passes _ _ w ∙ lt-ltb i (d .counts .streams) h) ∙ ap heldSays (getD-set-same (d .params) i (record { known = 1; set = p }) nothing (omega arith))
 
   pub setting-others : (j : ℕ) → (j ≡ i → ⊥) → paramsSays (keptBy d i (record { known = 1; set = p })) j ≡ paramsSays d j
-  setting-others j n = ap (λ x. pick (streamOk d j) (heldSays x) (says 1 [])) (getD-set-other (d .params) i j (record { known = 1; set = p }) nothing n)
+  setting-others j n = ap (λ x. pick (streamOk (d .counts) j) (heldSays x) (says 1 [])) (getD-set-other (d .params) i j (record { known = 1; set = p }) nothing n)
 
 -- the four commands
 pub command-answer : (d : Device) (c : RequestCode) (stream : ℕ) → ((s : List ℕ) → answerBy c s d ≡ commandOf s d) → Fit pcmCommand (requestCode c ∷ stream ∷ [])
@@ -164,8 +153,8 @@ pub command-answer : (d : Device) (c : RequestCode) (stream : ℕ) → ((s : Lis
 command-answer d c stream by f =
     let vs = requestCode c ∷ stream ∷ [] in
     let s = write pcmCommand vs in
-    let l : length s ≡ 8 = length-write pcmCommand vs in
-    outcome-code s d c (omega arith) (ap (λ (k : List ℕ). getD k 0 0) (read-sent pcmCommand vs f)) ∙ by s ∙ picks _ _ _ (eq-eqb (length s) 8 l)
+    let l : length s ≡ size pcmCommand = length-write pcmCommand vs in
+    outcome-code s d c (omega arith) (ap (λ (k : List ℕ). getD k 0 0) (read-sent pcmCommand vs f)) ∙ by s ∙ picks _ _ _ (eq-eqb (length s) (size pcmCommand) l)
 
 -- ---- a transfer: the stream id, then the payload
 
@@ -176,8 +165,8 @@ module _ (d : Device) (stream : ℕ) (payload : List ℕ) (fits : stream < 256 ^
   names : streamOf (le 4 stream ++ payload) ≡ stream
   names = ap (λ (k : List ℕ). getD k 0 0) (ap (λ (b : List ℕ). read transfer (b ++ payload)) (sym (append-nil (le 4 stream))) ∙ read-write transfer (stream ∷ []) payload (fits, tt))
 
-  pub it-plays : plays d (le 4 stream ++ payload) ≡ true
-  it-plays = let n = sent in passed _ _ (le-leb 4 (length (le 4 stream ++ payload)) (omega arith)) ∙ ap (λ (i : ℕ). ltb i (d .counts .streams)) names ∙ lt-ltb stream (d .counts .streams) h
+  pub it-plays : plays (d .counts) (le 4 stream ++ payload) ≡ true
+  it-plays = let n = sent in and-passes _ _ (le-leb 4 (length (le 4 stream ++ payload)) (omega arith)) ∙ ap (λ (i : ℕ). ltb i (d .counts .streams)) names ∙ lt-ltb stream (d .counts .streams) h
 
   pub played-ok : statusBy d (le 4 stream ++ payload) ≡ 0x8000
   played-ok = picks _ _ _ it-plays
@@ -191,11 +180,11 @@ module _ (d : Device) (stream : ℕ) (payload : List ℕ) (fits : stream < 256 ^
       picks _ _ _ it-plays ∙ (λ i. playedBy d (names i) (n i))
 
   -- the count grows by the payload's length, modulo 2^64
-  pub played-count : withinOf (d .counts) ≡ true → length (d .played) ≡ 127
+  pub played-count : withinOf (d .counts) ≡ true → length (d .played) ≡ mostStreams
       → playedSays (deviceAfter d (le 4 stream ++ payload)) stream ≡ says 0 ((getD (d .played) stream 0 + length payload) % 2 ^ 64 ∷ [])
   played-count w l =
       let k = few-streams (d .counts) w in
       let v = (getD (d .played) stream 0 + length payload) % 2 ^ 64 in
       ap (λ (x : Device). playedSays x stream) played-after
-      ∙ picks _ _ _ (passed _ _ w ∙ lt-ltb stream (d .counts .streams) h)
+      ∙ picks _ _ _ (and-passes _ _ w ∙ lt-ltb stream (d .counts .streams) h)
       ∙ ap (λ (x : ℕ). says 0 (x ∷ [])) (getD-set-same (d .played) stream v 0 (omega arith))

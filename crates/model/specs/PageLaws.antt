@@ -17,11 +17,15 @@ use Rattle.layout.specs.RowsLaws.{rowsBytes-more, length-rowsBytes, rows-split}
 use Rattle.layout.specs.StoreLaws.{sets-then}
 use Rattle.records.specs.Slice.{written}
 use Rattle.records.specs.SliceLaws.{written-long}
-use Rattle.model.specs.Control.{Laid, rowsIn}
+use Rattle.model.specs.Control.{laid, Laid, rowsIn}
 
 -- bytes at the front of a page; nothing else changes
-pub front : (page b : List ℕ) → length b ≤ length page → sets page 0 b ≡ b ++ drop (length b) page
+pub front : (page b : List ℕ) → length b ≤ length page → sets page 0 b ≡ laid b page
 front page b h = sets-eq b page 0 (omega arith) ∙ ap (λ (n : ℕ). b ++ drop n page) (zero-add (length b))
+
+-- a status alone
+pub status-laid : (status : ℕ) (page after : List ℕ) → 4 ≤ length page → after ≡ sets page 0 (le 4 status) → Laid (le 4 status) page 4 after
+status-laid status page after h e = let n = length-le 4 status in (sym n, e ∙ front page (le 4 status) (rw n h))
 
 -- a record that is written in the part `&mut page[a..]`
 pub written-in : (ws vs page part : List ℕ) (a : ℕ) → a + size ws ≤ length page → part ≡ written ws vs (midOf a (length page - a) page) → putMid a (length page - a) page part ≡ sets page a (write ws vs)

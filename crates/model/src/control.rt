@@ -3,13 +3,15 @@ ghost use mathlib.Core.Bool.{true};
 ghost use mathlib.Core.Path.{_≡_};
 ghost use Prim.Native.Nat.{_+_, _≤_};
 ghost use lib.ListN.{length};
-ghost use Rattle.model.specs.Device.{withinOf};
-ghost use Rattle.model.specs.Control.{rangeOf, rowsIn, Laid, Gives, told, settingOf, commandOf, table, answerBy, outcomeOf, controlOf, pageAfter};
-ghost use Rattle.records.specs.Records.{jackBytes, pcmBytes, mapBytes};
+ghost use Rattle.model.specs.Device.{mostJacks, mostStreams, mostMaps, pageSize, withinOf};
+ghost use Rattle.model.specs.Control.{saysRange, askedSays, rowsIn, Laid, given, answering, statusAlone, settingOf, commandOf, table, answerBy, outcomeOf, controlOf};
+ghost use Rattle.layout.specs.Layout.{size};
+ghost use Rattle.records.specs.Records.{jackInfo, pcmInfo, channelMap, jackBytes, pcmBytes, mapBytes};
 use crate::device::Counts;
 use crate::device::Device;
 use crate::device::Held;
 use crate::device::within;
+use crate::said::Answered;
 use crate::said::Control;
 use codes::FoundRequest;
 use codes::Refusal;
@@ -25,15 +27,10 @@ use records::ReadSetParameters;
 use records::SetParameters;
 
 // An answer page.
-const PAGE: usize = 4096;
+pub const PAGE: usize = 4096;
 
 // The code of a request, and the status of an answer.
-const HEADER: usize = 4;
-
-pub struct Answered {
-    pub device: Device,
-    pub said: Control,
-}
+pub const HEADER: usize = 4;
 
 // The records that a query asks for: the first one, and how many.
 pub enum Range {
@@ -43,8 +40,8 @@ pub enum Range {
 
 // An answer that is a status alone.
 fn tell(d: Device, status: u32, page: &mut [u8]) -> Answered
-    requires { ⌜ length (now page) ≡ 4096 ⌝ }
-    ensures { λ r. ⌜ Gives (told d status) (now (page .entry)) r (now (page .exit)) ⌝ }
+    requires { ⌜ length (now page) ≡ pageSize ⌝ }
+    ensures { λ r. ⌜ given r (now (page .exit)) ≡ answering (statusAlone d status) (now (page .entry)) ⌝ }
 {
     layout::put_u32(page, 0, status);
     Answered {
@@ -56,7 +53,7 @@ fn tell(d: Device, status: u32, page: &mut [u8]) -> Answered
 // What a query asks for, if that is within the table of `n` records. A start and a count of 32
 // bits each are added in 64.
 pub fn asked(request: &[u8], size: usize, n: u32) -> Range
-    ensures { λ r. ⌜ r ≡ rangeOf (now (request .entry)) size n ⌝ }
+    ensures { λ r. ⌜ saysRange r ≡ askedSays (now (request .entry)) size n ⌝ }
 {
     if request.len() != Query::SIZE {
         return Range::Bad;
@@ -75,7 +72,7 @@ pub fn asked(request: &[u8], size: usize, n: u32) -> Range
 
 // An ok header, then the records of a range one after the other; how many bytes these are.
 fn put_jacks(rows: [JackInfo; 170], start: usize, count: usize, page: &mut [u8]) -> usize
-    requires { ⌜ (start + count ≤ 170) × (length (now page) ≡ 4096) ⌝ }
+    requires { ⌜ (start + count ≤ mostJacks) × (length (now page) ≡ pageSize) ⌝ }
     ensures { λ r. ⌜ Laid (rowsIn jackBytes start count rows) (now (page .entry)) r (now (page .exit)) ⌝ }
 {
     layout::put_u32(page, 0, StatusCode::OK);
@@ -90,7 +87,7 @@ fn put_jacks(rows: [JackInfo; 170], start: usize, count: usize, page: &mut [u8])
 }
 
 fn put_pcms(rows: [PcmInfo; 127], start: usize, count: usize, page: &mut [u8]) -> usize
-    requires { ⌜ (start + count ≤ 127) × (length (now page) ≡ 4096) ⌝ }
+    requires { ⌜ (start + count ≤ mostStreams) × (length (now page) ≡ pageSize) ⌝ }
     ensures { λ r. ⌜ Laid (rowsIn pcmBytes start count rows) (now (page .entry)) r (now (page .exit)) ⌝ }
 {
     layout::put_u32(page, 0, StatusCode::OK);
@@ -105,7 +102,7 @@ fn put_pcms(rows: [PcmInfo; 127], start: usize, count: usize, page: &mut [u8]) -
 }
 
 fn put_maps(rows: [ChannelMap; 170], start: usize, count: usize, page: &mut [u8]) -> usize
-    requires { ⌜ (start + count ≤ 170) × (length (now page) ≡ 4096) ⌝ }
+    requires { ⌜ (start + count ≤ mostMaps) × (length (now page) ≡ pageSize) ⌝ }
     ensures { λ r. ⌜ Laid (rowsIn mapBytes start count rows) (now (page .entry)) r (now (page .exit)) ⌝ }
 {
     layout::put_u32(page, 0, StatusCode::OK);
@@ -121,8 +118,8 @@ fn put_maps(rows: [ChannelMap; 170], start: usize, count: usize, page: &mut [u8]
 
 // A query of a table.
 fn jacks(d: Device, request: &[u8], page: &mut [u8]) -> Answered
-    requires { ⌜ (length (now page) ≡ 4096) × (d .counts .jacks ≤ 170) ⌝ }
-    ensures { λ r. ⌜ Gives (table jackBytes (now (request .entry)) 24 (d .counts .jacks) (d .jacks) d) (now (page .entry)) r (now (page .exit)) ⌝ }
+    requires { ⌜ (length (now page) ≡ pageSize) × (d .counts .jacks ≤ mostJacks) ⌝ }
+    ensures { λ r. ⌜ given r (now (page .exit)) ≡ answering (table jackBytes (now (request .entry)) (size jackInfo) (d .counts .jacks) (d .jacks) d) (now (page .entry)) ⌝ }
 {
     let counts = d.counts;
     let Range::Of(start, count) = asked(request, JackInfo::SIZE, counts.jacks) else {
@@ -137,8 +134,8 @@ fn jacks(d: Device, request: &[u8], page: &mut [u8]) -> Answered
 }
 
 fn pcms(d: Device, request: &[u8], page: &mut [u8]) -> Answered
-    requires { ⌜ (length (now page) ≡ 4096) × (d .counts .streams ≤ 127) ⌝ }
-    ensures { λ r. ⌜ Gives (table pcmBytes (now (request .entry)) 32 (d .counts .streams) (d .pcms) d) (now (page .entry)) r (now (page .exit)) ⌝ }
+    requires { ⌜ (length (now page) ≡ pageSize) × (d .counts .streams ≤ mostStreams) ⌝ }
+    ensures { λ r. ⌜ given r (now (page .exit)) ≡ answering (table pcmBytes (now (request .entry)) (size pcmInfo) (d .counts .streams) (d .pcms) d) (now (page .entry)) ⌝ }
 {
     let counts = d.counts;
     let Range::Of(start, count) = asked(request, PcmInfo::SIZE, counts.streams) else {
@@ -153,8 +150,8 @@ fn pcms(d: Device, request: &[u8], page: &mut [u8]) -> Answered
 }
 
 fn maps(d: Device, request: &[u8], page: &mut [u8]) -> Answered
-    requires { ⌜ (length (now page) ≡ 4096) × (d .counts .maps ≤ 170) ⌝ }
-    ensures { λ r. ⌜ Gives (table mapBytes (now (request .entry)) 24 (d .counts .maps) (d .maps) d) (now (page .entry)) r (now (page .exit)) ⌝ }
+    requires { ⌜ (length (now page) ≡ pageSize) × (d .counts .maps ≤ mostMaps) ⌝ }
+    ensures { λ r. ⌜ given r (now (page .exit)) ≡ answering (table mapBytes (now (request .entry)) (size channelMap) (d .counts .maps) (d .maps) d) (now (page .entry)) ⌝ }
 {
     let counts = d.counts;
     let Range::Of(start, count) = asked(request, ChannelMap::SIZE, counts.maps) else {
@@ -170,8 +167,8 @@ fn maps(d: Device, request: &[u8], page: &mut [u8]) -> Answered
 
 // All 24 bytes are kept, with no period rule.
 fn setting(d: Device, request: &[u8], page: &mut [u8]) -> Answered
-    requires { ⌜ (length (now page) ≡ 4096) × (d .counts .streams ≤ 127) ⌝ }
-    ensures { λ r. ⌜ Gives (settingOf (now (request .entry)) d) (now (page .entry)) r (now (page .exit)) ⌝ }
+    requires { ⌜ (length (now page) ≡ pageSize) × (d .counts .streams ≤ mostStreams) ⌝ }
+    ensures { λ r. ⌜ given r (now (page .exit)) ≡ answering (settingOf (now (request .entry)) d) (now (page .entry)) ⌝ }
 {
     if request.len() != SetParameters::SIZE {
         return tell(d, StatusCode::BAD_MSG, page);
@@ -191,8 +188,8 @@ fn setting(d: Device, request: &[u8], page: &mut [u8]) -> Answered
 
 // The stream of a command is not tested.
 fn command(d: Device, request: &[u8], page: &mut [u8]) -> Answered
-    requires { ⌜ length (now page) ≡ 4096 ⌝ }
-    ensures { λ r. ⌜ Gives (commandOf (now (request .entry)) d) (now (page .entry)) r (now (page .exit)) ⌝ }
+    requires { ⌜ length (now page) ≡ pageSize ⌝ }
+    ensures { λ r. ⌜ given r (now (page .exit)) ≡ answering (commandOf (now (request .entry)) d) (now (page .entry)) ⌝ }
 {
     if request.len() == PcmCommand::SIZE {
         return tell(d, StatusCode::OK, page);
@@ -202,8 +199,8 @@ fn command(d: Device, request: &[u8], page: &mut [u8]) -> Answered
 
 // The device has no remap.
 fn answer(code: RequestCode, d: Device, request: &[u8], page: &mut [u8]) -> Answered
-    requires { ⌜ (length (now page) ≡ 4096) × (withinOf (d .counts) ≡ true) ⌝ }
-    ensures { λ r. ⌜ Gives (answerBy code (now (request .entry)) d) (now (page .entry)) r (now (page .exit)) ⌝ }
+    requires { ⌜ (length (now page) ≡ pageSize) × (withinOf (d .counts) ≡ true) ⌝ }
+    ensures { λ r. ⌜ given r (now (page .exit)) ≡ answering (answerBy code (now (request .entry)) d) (now (page .entry)) ⌝ }
 {
     match code {
         RequestCode::RJackInfo => jacks(d, request, page),
@@ -220,8 +217,8 @@ fn answer(code: RequestCode, d: Device, request: &[u8], page: &mut [u8]) -> Answ
 
 // A request without a code, or with one that is no request's, is a bad message.
 fn outcome(d: Device, request: &[u8], page: &mut [u8]) -> Answered
-    requires { ⌜ (length (now page) ≡ 4096) × (withinOf (d .counts) ≡ true) ⌝ }
-    ensures { λ r. ⌜ Gives (outcomeOf (now (request .entry)) d) (now (page .entry)) r (now (page .exit)) ⌝ }
+    requires { ⌜ (length (now page) ≡ pageSize) × (withinOf (d .counts) ≡ true) ⌝ }
+    ensures { λ r. ⌜ given r (now (page .exit)) ≡ answering (outcomeOf (now (request .entry)) d) (now (page .entry)) ⌝ }
 {
     if request.len() < HEADER {
         return tell(d, StatusCode::BAD_MSG, page);
@@ -234,7 +231,7 @@ fn outcome(d: Device, request: &[u8], page: &mut [u8]) -> Answered
 
 // One request, one answer in the page. Only the answer's own bytes change.
 pub fn control(d: Device, request: &[u8], page: &mut [u8]) -> Answered
-    ensures { λ r. ⌜ (r ≡ controlOf d (now (request .entry)) (length (now (page .entry)))) × (now (page .exit) ≡ pageAfter d (now (request .entry)) (now (page .entry))) ⌝ }
+    ensures { λ r. ⌜ given r (now (page .exit)) ≡ controlOf d (now (request .entry)) (now (page .entry)) ⌝ }
 {
     if page.len() != PAGE {
         return Answered {

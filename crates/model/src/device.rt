@@ -1,12 +1,17 @@
 // The model device by value.
-ghost use mathlib.Core.Bool.{_&&_};
 ghost use mathlib.Core.Path.{_≡_};
-ghost use lib.Dec.{ltb};
-ghost use Rattle.model.specs.Device.{newDevice, withinOf, saysHeld, paramsSays, saysCount, playedSays};
+ghost use Rattle.model.specs.Device.{newDevice, fewOf, withinOf, streamOk, saysHeld, paramsSays, saysCount, playedSays};
 use records::ChannelMap;
 use records::JackInfo;
 use records::PcmInfo;
 use records::SetParameters;
+
+// How many records each table has at the most: as many as a page holds.
+const JACKS: usize = 170;
+
+const STREAMS: usize = 127;
+
+const MAPS: usize = 170;
 
 // How many records each table has.
 pub struct Counts {
@@ -43,22 +48,30 @@ pub enum Count {
     InvalidParam,
 }
 
+// Counts of tables that a page holds each.
+pub fn few(jacks: usize, streams: usize, maps: usize) -> bool
+    ensures { λ r. ⌜ r ≡ fewOf jacks streams maps ⌝ }
+{
+    if JACKS < jacks {
+        return false;
+    }
+    if STREAMS < streams {
+        return false;
+    }
+    maps <= MAPS
+}
+
 // A device with larger tables than a page holds is refused, but for `payload`, which only shows a
 // part of the request.
 pub fn within(n: Counts) -> bool
     ensures { λ r. ⌜ r ≡ withinOf n ⌝ }
 {
-    if 170 < n.jacks {
-        return false;
-    }
-    if 127 < n.streams {
-        return false;
-    }
-    n.maps <= 170
+    few(n.jacks as usize, n.streams as usize, n.maps as usize)
 }
 
-fn stream_ok(n: Counts, stream: u32) -> bool
-    ensures { λ r. ⌜ r ≡ (withinOf n && ltb stream (n .streams)) ⌝ }
+// A stream of a device that is not refused.
+pub fn stream_ok(n: Counts, stream: u32) -> bool
+    ensures { λ r. ⌜ r ≡ streamOk n stream ⌝ }
 {
     if within(n) { stream < n.streams } else { false }
 }

@@ -5,13 +5,14 @@ mod device;
 mod said;
 pub mod transfer;
 
-pub use control::Answered;
 pub use control::Range;
 pub use device::Count;
 pub use device::Counts;
 pub use device::Device;
 pub use device::Held;
 pub use device::HeldRead;
+pub use device::few;
+pub use device::stream_ok;
 pub use device::within;
+pub use said::Answered;
 pub use said::Control;
-pub use transfer::Transferred;

@@ -1,13 +1,16 @@
 // Transfers.
-ghost use mathlib.Core.Bool.{_&&_};
 ghost use mathlib.Core.Path.{_≡_};
 ghost use Prim.Native.Nat.{_≤_};
-ghost use lib.Dec.{leb, ltb};
 ghost use lib.ListN.{length};
-ghost use Rattle.model.specs.Transfer.{streamOf, payloadOf, answered, statusIn, statusBy, deviceAfter, transferCall, answerAfter};
+ghost use Rattle.layout.specs.Layout.{size};
+ghost use Rattle.records.specs.Records.{transferStatus};
+ghost use Rattle.model.specs.Device.{mostStreams};
+ghost use Rattle.model.specs.Control.{given};
+ghost use Rattle.model.specs.Transfer.{plays, payloadOf, statusGiven, statusBy, deviceAfter, transferCall};
 use crate::device::Counts;
 use crate::device::Device;
 use crate::device::within;
+use crate::said::Answered;
 use crate::said::Control;
 use codes::Refusal;
 use codes::StatusCode;
@@ -15,14 +18,9 @@ use records::Transfer;
 use records::TransferStatus;
 use std::num::wrapping_add_u64;
 
-pub struct Transferred {
-    pub device: Device,
-    pub said: Control,
-}
-
 // A request that names a stream of the device.
 pub fn plays(n: Counts, request: &[u8]) -> bool
-    ensures { λ r. ⌜ r ≡ (leb 4 (length (now (request .entry))) && ltb (streamOf (now (request .entry))) (n .streams)) ⌝ }
+    ensures { λ r. ⌜ r ≡ plays n (now (request .entry)) ⌝ }
 {
     if request.len() < Transfer::SIZE {
         return false;
@@ -31,21 +29,21 @@ pub fn plays(n: Counts, request: &[u8]) -> bool
 }
 
 // The status, with no latency.
-fn tell(d: Device, status: u32, answer: &mut [u8]) -> Transferred
-    requires { ⌜ 8 ≤ length (now answer) ⌝ }
-    ensures { λ r. ⌜ (r ≡ answered d) × (now (answer .exit) ≡ statusIn status (now (answer .entry))) ⌝ }
+fn tell(d: Device, status: u32, answer: &mut [u8]) -> Answered
+    requires { ⌜ size transferStatus ≤ length (now answer) ⌝ }
+    ensures { λ r. ⌜ given r (now (answer .exit)) ≡ statusGiven d status (now (answer .entry)) ⌝ }
 {
     let t = TransferStatus { status, latency: 0 };
     t.write(answer);
-    Transferred {
+    Answered {
         device: d,
         said: Control::Answer(TransferStatus::SIZE),
     }
 }
 
-fn done(d: Device, request: &[u8], answer: &mut [u8]) -> Transferred
-    requires { ⌜ (8 ≤ length (now answer)) × (d .counts .streams ≤ 127) ⌝ }
-    ensures { λ r. ⌜ (r ≡ answered (deviceAfter d (now (request .entry)))) × (now (answer .exit) ≡ statusIn (statusBy d (now (request .entry))) (now (answer .entry))) ⌝ }
+fn done(d: Device, request: &[u8], answer: &mut [u8]) -> Answered
+    requires { ⌜ (size transferStatus ≤ length (now answer)) × (d .counts .streams ≤ mostStreams) ⌝ }
+    ensures { λ r. ⌜ given r (now (answer .exit)) ≡ statusGiven (deviceAfter d (now (request .entry))) (statusBy d (now (request .entry))) (now (answer .entry)) ⌝ }
 {
     let counts = d.counts;
     if plays(counts, request) {
@@ -59,11 +57,11 @@ fn done(d: Device, request: &[u8], answer: &mut [u8]) -> Transferred
 }
 
 // One transfer, one status. The stream's count grows by the payload's length.
-pub fn transfer(d: Device, request: &[u8], answer: &mut [u8]) -> Transferred
-    ensures { λ r. ⌜ (r ≡ transferCall d (now (request .entry)) (length (now (answer .entry)))) × (now (answer .exit) ≡ answerAfter d (now (request .entry)) (now (answer .entry))) ⌝ }
+pub fn transfer(d: Device, request: &[u8], answer: &mut [u8]) -> Answered
+    ensures { λ r. ⌜ given r (now (answer .exit)) ≡ transferCall d (now (request .entry)) (now (answer .entry)) ⌝ }
 {
     if answer.len() < TransferStatus::SIZE {
-        return Transferred {
+        return Answered {
             device: d,
             said: Control::Refused(Refusal::BadLength),
         };
@@ -72,7 +70,7 @@ pub fn transfer(d: Device, request: &[u8], answer: &mut [u8]) -> Transferred
     if within(counts) {
         return done(d, request, answer);
     }
-    Transferred {
+    Answered {
         device: d,
         said: Control::Refused(Refusal::InvalidParam),
     }

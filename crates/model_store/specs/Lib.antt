@@ -1,15 +1,16 @@
 -- definitions
+pub mod Types
 pub mod Store
 pub mod Calls
-pub mod Steps
+pub mod Private
 -- theorems
 pub mod Holds
 -- laws
-pub mod PartLaws
+pub mod TableLaws
 pub mod StoreLaws
-pub mod BackLaws
+pub mod RoundLaws
 pub mod AnswerLaws
-pub mod CallLaws
-pub mod PlayLaws
-pub mod LookLaws
+pub mod ControlLaws
+pub mod TransferLaws
+pub mod ReadsLaws
 pub mod NewLaws

@@ -1,31 +1,32 @@
 -- A new device by place: a table is its bytes as they came and zeros, and all that follows the tables is zeros.
 -- Assumes nothing.
 use mathlib.Core.Path.{_≡_, refl, sym, ap, _∙_}
-use mathlib.Core.Bool.{true, false, _&&_}
+use mathlib.Core.Bool.{true, false}
 use mathlib.Core.List.{List, [], _∷_, _++_, append-assoc}
 use Prim.Native.Nat.{ℕ, zero, suc, _+_, _-_, _*_, _/_, _%_, _<_, _≤_}
 use native.Mathlib.Nat.{zero-add, add-zero, zero-mul, suc-mul, add-comm, mul-comm, mul-sub, mul-le-mul-right, div-add-mod'}
 use native.Mathlib.Omega.{arith}
-use lib.Dec.{leb, eqb}
 use lib.ListN.{length, set, replicate, length-append, length-replicate, replicate-append-replicate}
 use lib.Seq.{sets}
 use borrow.Author.Tests.{le-leb, lt-leb, eq-eqb, ne-eqb}
 use Rattle.layout.specs.Bytes.{le, bytesAt, Bytes, zeros}
+use Rattle.layout.specs.Layout.{size}
+use Rattle.layout.specs.Lent.{made}
 use Rattle.layout.specs.Rows.{rowsAt, rowsBytes}
 use Rattle.layout.specs.BytesLaws.{bytesAt-all}
 use Rattle.layout.specs.LayoutLaws.{length-write}
 use Rattle.layout.specs.StoreLaws.{sets-then}
 use Rattle.layout.specs.RowsLaws.{rowsBytes-append, rows-same}
 use Rattle.codes.specs.SaysLaws.{passes, stops}
-use Rattle.records.specs.Records.{jackInfoOf, pcmInfoOf, channelMapOf, jackBytes, pcmBytes, mapBytes}
+use Rattle.records.specs.Records.{jackInfo, pcmInfo, channelMap, jackInfoOf, pcmInfoOf, channelMapOf, jackBytes, pcmBytes, mapBytes}
 use Rattle.tables.specs.Tables.{jackAt, pcmAt, mapAt}
-use Rattle.model.specs.Device.{nothing, withinOf}
-use Rattle.model.specs.DeviceLaws.{passed, stopped, few-jacks, few-streams, few-maps}
-use Rattle.model.specs.declared.device.Counts.{Counts}
-use Rattle.model_store.specs.Store.{countsBytes, heldBytes, deviceBytes}
-use Rattle.model_store.specs.Calls.{Made, countsIn, rowsThen, deviceIn, newIn}
+use Rattle.model.specs.Device.{mostJacks, mostStreams, mostMaps, nothing, withinOf}
+use Rattle.model.specs.DeviceLaws.{and-passes, and-stops, few-jacks, few-streams, few-maps}
+use Rattle.model_store.specs.Types.{Counts}
+use Rattle.model_store.specs.Store.{jacksPlace, pcmsPlace, mapsPlace, paramsPlace, playedPlace, deviceSize, countsRow, countsValues, countsBytes, heldSize, heldBytes, wordSize, deviceBytes}
+use Rattle.model_store.specs.Calls.{countsIn, rowsThen, deviceIn, wholeIn, newIn}
 use Rattle.model_store.specs.StoreLaws.{jack-same, pcm-same, map-same, at-jacks}
-use Rattle.model_store.specs.Steps.{padded}
+use Rattle.model_store.specs.Private.{jacksRoom, pcmsRoom, mapsRoom, restRoom, padded, newBytes}
 
 -- ---- zeros, and a table of which the rest is zeros
 
@@ -83,23 +84,23 @@ module _ {A : Type 0} (g : A → List ℕ) (size : ℕ) (none : A) (z : g none �
       (rows-same f g size same 0 q rows b ∙ bytesAt-all rows (q * size) w) i
       ++ (none-zeros (most - q) ∙ ap zeros (left most q size ∙ ap (λ (n : ℕ). most * size - n) (sym w))) i)
 
-jack-none : jackBytes (jackInfoOf []) ≡ zeros 24
+jack-none : jackBytes (jackInfoOf []) ≡ zeros (size jackInfo)
 unfolding le zeros
 jack-none = refl
 
-pcm-none : pcmBytes (pcmInfoOf []) ≡ zeros 32
+pcm-none : pcmBytes (pcmInfoOf []) ≡ zeros (size pcmInfo)
 unfolding le zeros
 pcm-none = refl
 
-map-none : mapBytes (channelMapOf []) ≡ zeros 24
+map-none : mapBytes (channelMapOf []) ≡ zeros (size channelMap)
 unfolding le zeros
 map-none = refl
 
-held-none : heldBytes nothing ≡ zeros 25
+held-none : heldBytes nothing ≡ zeros heldSize
 unfolding le zeros
 held-none = refl
 
-word-none : le 8 0 ≡ zeros 8
+word-none : le wordSize 0 ≡ zeros wordSize
 unfolding le zeros
 word-none = refl
 
@@ -111,79 +112,74 @@ after s a b s₁ s₂ j e k f = f ∙ ap (λ (l : List ℕ). sets l j b) e ∙ s
 group : (c j p m z : List ℕ) → (((c ++ j) ++ p) ++ m) ++ z ≡ c ++ (j ++ (p ++ (m ++ z)))
 group c j p m z = simp append-assoc
 
-pub made-all : (s s₁ s₂ s₃ s₄ s₅ : List ℕ) (n : Counts) (jacks pcms maps : List ℕ) → length jacks ≤ 4080 → length pcms ≤ 4064 → length maps ≤ 4080
-    → s₁ ≡ sets s 0 (countsBytes n) → s₂ ≡ sets s₁ 12 (padded 4080 jacks) → s₃ ≡ sets s₂ 4092 (padded 4064 pcms) → s₄ ≡ sets s₃ 8156 (padded 4080 maps) → s₅ ≡ sets s₄ 12236 (zeros 4191)
-    → s₅ ≡ sets s 0 (countsBytes n ++ (padded 4080 jacks ++ (padded 4064 pcms ++ (padded 4080 maps ++ zeros 4191))))
+pub made-all : (s s₁ s₂ s₃ s₄ s₅ : List ℕ) (n : Counts) (jacks pcms maps : List ℕ) → length jacks ≤ jacksRoom → length pcms ≤ pcmsRoom → length maps ≤ mapsRoom
+    → s₁ ≡ sets s 0 (countsBytes n) → s₂ ≡ sets s₁ jacksPlace (padded jacksRoom jacks) → s₃ ≡ sets s₂ pcmsPlace (padded pcmsRoom pcms) → s₄ ≡ sets s₃ mapsPlace (padded mapsRoom maps) → s₅ ≡ sets s₄ paramsPlace (zeros restRoom)
+    → s₅ ≡ sets s 0 (newBytes n jacks pcms maps)
 made-all s s₁ s₂ s₃ s₄ s₅ n jacks pcms maps hj hp hm e₁ e₂ e₃ e₄ e₅ =
     let c = countsBytes n in
-    let j = padded 4080 jacks in
-    let p = padded 4064 pcms in
-    let m = padded 4080 maps in
-    let l₁ : length c ≡ 12 = length-write (4 ∷ 4 ∷ 4 ∷ []) (n .jacks ∷ n .streams ∷ n .maps ∷ []) in
-    let l₂ : length (c ++ j) ≡ 4092 = length-append c j ∙ (λ i. l₁ i + length-padded 4080 jacks hj i) in
-    let l₃ : length ((c ++ j) ++ p) ≡ 8156 = length-append (c ++ j) p ∙ (λ i. l₂ i + length-padded 4064 pcms hp i) in
-    let l₄ : length (((c ++ j) ++ p) ++ m) ≡ 12236 = length-append ((c ++ j) ++ p) m ∙ (λ i. l₃ i + length-padded 4080 maps hm i) in
-    let f₂ = after s c j s₁ s₂ 12 e₁ l₁ e₂ in
-    let f₃ = after s (c ++ j) p s₂ s₃ 4092 f₂ l₂ e₃ in
-    let f₄ = after s ((c ++ j) ++ p) m s₃ s₄ 8156 f₃ l₃ e₄ in
-    after s (((c ++ j) ++ p) ++ m) (zeros 4191) s₄ s₅ 12236 f₄ l₄ e₅ ∙ ap (sets s 0) (group c j p m (zeros 4191))
+    let j = padded jacksRoom jacks in
+    let p = padded pcmsRoom pcms in
+    let m = padded mapsRoom maps in
+    let l₁ : length c ≡ jacksPlace = length-write countsRow (countsValues n) in
+    let l₂ : length (c ++ j) ≡ pcmsPlace = length-append c j ∙ (λ i. l₁ i + length-padded jacksRoom jacks hj i) in
+    let l₃ : length ((c ++ j) ++ p) ≡ mapsPlace = length-append (c ++ j) p ∙ (λ i. l₂ i + length-padded pcmsRoom pcms hp i) in
+    let l₄ : length (((c ++ j) ++ p) ++ m) ≡ paramsPlace = length-append ((c ++ j) ++ p) m ∙ (λ i. l₃ i + length-padded mapsRoom maps hm i) in
+    let f₂ = after s c j s₁ s₂ jacksPlace e₁ l₁ e₂ in
+    let f₃ = after s (c ++ j) p s₂ s₃ pcmsPlace f₂ l₂ e₃ in
+    let f₄ = after s ((c ++ j) ++ p) m s₃ s₄ mapsPlace f₃ l₃ e₄ in
+    after s (((c ++ j) ++ p) ++ m) (zeros restRoom) s₄ s₅ paramsPlace f₄ l₄ e₅ ∙ ap (sets s 0) (group c j p m (zeros restRoom))
 
 -- ---- the call
 
--- what a call answers and leaves, one equation, is two
-pub made : {n : ℕ} {s : List ℕ} {t : Made} → record { answer = n; device = s } ≡ t → (n ≡ t .answer) × (s ≡ t .device)
-made e = (ap (λ (t : Made). t .answer) e, ap (λ (t : Made). t .device) e)
-
 module _ (s jacks pcms maps : List ℕ) where
-  pub new-short : length s < 16427 → record { answer = 10; device = s } ≡ newIn s jacks pcms maps
+  pub new-short : length s < deviceSize → made 10 s ≡ newIn s jacks pcms maps
   unfolding newIn
-  new-short h = stops _ _ _ (stopped _ _ (lt-leb 16427 (length s) h)) refl
+  new-short h = stops _ _ _ (and-stops _ _ (lt-leb deviceSize (length s) h)) refl
 
-  module _ (l : 16427 ≤ length s) where
-    pub new-jacks : (length jacks % 24 ≡ 0 → ⊥) → record { answer = 10; device = s } ≡ newIn s jacks pcms maps
+  module _ (l : deviceSize ≤ length s) where
+    pub new-jacks : (length jacks % size jackInfo ≡ 0 → ⊥) → made 10 s ≡ newIn s jacks pcms maps
     unfolding newIn
-    new-jacks h = stops _ _ _ (passed _ _ (le-leb 16427 (length s) l) ∙ stopped _ _ (ne-eqb _ 0 h)) refl
+    new-jacks h = stops _ _ _ (and-passes _ _ (le-leb deviceSize (length s) l) ∙ and-stops _ _ (ne-eqb _ 0 h)) refl
 
-    module _ (j : length jacks % 24 ≡ 0) where
-      pub new-pcms : (length pcms % 32 ≡ 0 → ⊥) → record { answer = 10; device = s } ≡ newIn s jacks pcms maps
+    module _ (j : length jacks % size jackInfo ≡ 0) where
+      pub new-pcms : (length pcms % size pcmInfo ≡ 0 → ⊥) → made 10 s ≡ newIn s jacks pcms maps
       unfolding newIn
-      new-pcms h = stops _ _ _ (passed _ _ (le-leb 16427 (length s) l) ∙ passed _ _ (eq-eqb _ 0 j) ∙ stopped _ _ (ne-eqb _ 0 h)) refl
+      new-pcms h = stops _ _ _ (and-passes _ _ (le-leb deviceSize (length s) l) ∙ and-passes _ _ (eq-eqb _ 0 j) ∙ and-stops _ _ (ne-eqb _ 0 h)) refl
 
-      module _ (p : length pcms % 32 ≡ 0) where
-        pub new-maps : (length maps % 24 ≡ 0 → ⊥) → record { answer = 10; device = s } ≡ newIn s jacks pcms maps
+      module _ (p : length pcms % size pcmInfo ≡ 0) where
+        pub new-maps : (length maps % size channelMap ≡ 0 → ⊥) → made 10 s ≡ newIn s jacks pcms maps
         unfolding newIn
-        new-maps h = stops _ _ _ (passed _ _ (le-leb 16427 (length s) l) ∙ passed _ _ (eq-eqb _ 0 j) ∙ passed _ _ (eq-eqb _ 0 p) ∙ ne-eqb _ 0 h) refl
+        new-maps h = stops _ _ _ (and-passes _ _ (le-leb deviceSize (length s) l) ∙ and-passes _ _ (eq-eqb _ 0 j) ∙ and-passes _ _ (eq-eqb _ 0 p) ∙ ne-eqb _ 0 h) refl
 
-        module _ (m : length maps % 24 ≡ 0) where
-          lengths-pass : (leb 16427 (length s) && (eqb (length jacks % 24) 0 && (eqb (length pcms % 32) 0 && eqb (length maps % 24) 0))) ≡ true
-          lengths-pass = passed _ _ (le-leb 16427 (length s) l) ∙ passed _ _ (eq-eqb _ 0 j) ∙ passed _ _ (eq-eqb _ 0 p) ∙ eq-eqb _ 0 m
+        module _ (m : length maps % size channelMap ≡ 0) where
+          lengths-pass : wholeIn s jacks pcms maps ≡ true
+          lengths-pass = and-passes _ _ (le-leb deviceSize (length s) l) ∙ and-passes _ _ (eq-eqb _ 0 j) ∙ and-passes _ _ (eq-eqb _ 0 p) ∙ eq-eqb _ 0 m
 
-          pub new-many : withinOf (countsIn jacks pcms maps) ≡ false → record { answer = 1; device = s } ≡ newIn s jacks pcms maps
+          pub new-many : withinOf (countsIn jacks pcms maps) ≡ false → made 1 s ≡ newIn s jacks pcms maps
           unfolding newIn
           new-many w = passes _ _ _ lengths-pass (stops _ _ _ w refl)
 
           module _ (w : withinOf (countsIn jacks pcms maps) ≡ true) where
             -- the tables fit their rooms
-            pub rooms : (length jacks ≤ 4080) × (length pcms ≤ 4064) × (length maps ≤ 4080)
+            pub rooms : (length jacks ≤ jacksRoom) × (length pcms ≤ pcmsRoom) × (length maps ≤ mapsRoom)
             rooms =
                 let n = countsIn jacks pcms maps in
-                (room 24 170 jacks j (few-jacks n w), room 32 127 pcms p (few-streams n w), room 24 170 maps m (few-maps n w))
+                (room (size jackInfo) mostJacks jacks j (few-jacks n w), room (size pcmInfo) mostStreams pcms p (few-streams n w), room (size channelMap) mostMaps maps m (few-maps n w))
 
-            new-bytes : Bytes jacks → Bytes pcms → Bytes maps → deviceBytes (deviceIn jacks pcms maps) ≡ countsBytes (countsIn jacks pcms maps) ++ (padded 4080 jacks ++ (padded 4064 pcms ++ (padded 4080 maps ++ zeros 4191)))
+            new-bytes : Bytes jacks → Bytes pcms → Bytes maps → deviceBytes (deviceIn jacks pcms maps) ≡ newBytes (countsIn jacks pcms maps) jacks pcms maps
             new-bytes bj bp bm =
                 at-jacks (deviceIn jacks pcms maps)
                 ∙ (λ i.
                 countsBytes (countsIn jacks pcms maps)
-                ++ (table-new jackBytes 24 (jackInfoOf []) jack-none jackAt jack-same 170 jacks bj j i
-                ++ (table-new pcmBytes 32 (pcmInfoOf []) pcm-none pcmAt pcm-same 127 pcms bp p i
-                ++ (table-new mapBytes 24 (channelMapOf []) map-none mapAt map-same 170 maps bm m i
-                ++ ((λ k. none-zeros heldBytes 25 nothing held-none 127 k ++ none-zeros (le 8) 8 0 word-none 127 k) ∙ zeros-add 3175 1016) i))))
+                ++ (table-new jackBytes (size jackInfo) (jackInfoOf []) jack-none jackAt jack-same mostJacks jacks bj j i
+                ++ (table-new pcmBytes (size pcmInfo) (pcmInfoOf []) pcm-none pcmAt pcm-same mostStreams pcms bp p i
+                ++ (table-new mapBytes (size channelMap) (channelMapOf []) map-none mapAt map-same mostMaps maps bm m i
+                ++ ((λ k. none-zeros heldBytes heldSize nothing held-none mostStreams k ++ none-zeros (le wordSize) wordSize 0 word-none mostStreams k) ∙ zeros-add (playedPlace - paramsPlace) (deviceSize - playedPlace)) i))))
 
             pub new-made : Bytes jacks → Bytes pcms → Bytes maps → (n : Counts) (after : List ℕ) → n ≡ countsIn jacks pcms maps
-                → after ≡ sets s 0 (countsBytes n ++ (padded 4080 jacks ++ (padded 4064 pcms ++ (padded 4080 maps ++ zeros 4191))))
-                → record { answer = 0; device = after } ≡ newIn s jacks pcms maps
+                → after ≡ sets s 0 (newBytes n jacks pcms maps)
+                → made 0 after ≡ newIn s jacks pcms maps
             unfolding newIn
             new-made bj bp bm n after e f =
-                let rest = padded 4080 jacks ++ (padded 4064 pcms ++ (padded 4080 maps ++ zeros 4191)) in
                 passes _ _ _ lengths-pass
-                (passes _ _ _ w (ap (λ (z : List ℕ). record { answer = 0; device = z }) (f ∙ ap (λ (c : Counts). sets s 0 (countsBytes c ++ rest)) e ∙ ap (sets s 0) (sym (new-bytes bj bp bm)))))
+                (passes _ _ _ w (ap (made 0) (f ∙ ap (λ (c : Counts). sets s 0 (newBytes c jacks pcms maps)) e ∙ ap (sets s 0) (sym (new-bytes bj bp bm)))))

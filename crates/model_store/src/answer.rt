@@ -5,11 +5,13 @@ ghost use Prim.Native.Nat.{_+_, _*_, _≤_};
 ghost use lib.Dec.{eqb};
 ghost use lib.ListN.{length};
 ghost use Rattle.layout.specs.Bytes.{le};
+ghost use Rattle.layout.specs.Layout.{size};
 ghost use Rattle.codes.specs.Says.{pick};
-ghost use Rattle.model.specs.Device.{withinOf};
-ghost use Rattle.model.specs.Control.{rangeOf, Laid, settingOf, answerBy, outcomeOf};
-ghost use Rattle.model_store.specs.Store.{countsAt, deviceOf};
-ghost use Rattle.model_store.specs.Steps.{rangeBytes, Gave};
+ghost use Rattle.records.specs.Records.{pcmCommand};
+ghost use Rattle.model.specs.Device.{mostStreams, pageSize, withinOf};
+ghost use Rattle.model.specs.Control.{Laid, settingOf, answerBy, outcomeOf};
+ghost use Rattle.model_store.specs.Store.{deviceSize, countsAt, deviceOf};
+ghost use Rattle.model_store.specs.Private.{rangeBytes, Gave};
 use crate::place::HELD;
 use crate::place::JACKS;
 use crate::place::MAPS;
@@ -21,6 +23,7 @@ use codes::RequestCode;
 use codes::StatusCode;
 use model::Counts;
 use model::Range;
+use model::control::HEADER;
 use model::control::asked;
 use records::ChannelMap;
 use records::JackInfo;
@@ -28,12 +31,12 @@ use records::PcmCommand;
 use records::PcmInfo;
 use records::SetParameters;
 
-// The code of a request, and the status of an answer.
-const HEADER: usize = 4;
+// Where the stream stands in a request to set parameters.
+const STREAM: usize = 4;
 
 // An answer that is a status alone; its length.
 fn tell(status: u32, page: &mut [u8]) -> usize
-    requires { ⌜ length (now page) ≡ 4096 ⌝ }
+    requires { ⌜ length (now page) ≡ pageSize ⌝ }
     ensures { λ r. ⌜ Laid (le 4 status) (now (page .entry)) r (now (page .exit)) ⌝ }
 {
     layout::put_u32(page, 0, status);
@@ -43,8 +46,8 @@ fn tell(status: u32, page: &mut [u8]) -> usize
 // A query of the table of `n` records that stands at a place: an ok header, then a copy of the
 // records' bytes.
 fn rows(device: &[u8], place: usize, size: usize, n: u32, request: &[u8], page: &mut [u8]) -> usize
-    requires { ⌜ (length (now page) ≡ 4096) × (4 + n * size ≤ 4096) × (place + n * size ≤ length (now device)) ⌝ }
-    ensures { λ r. ⌜ Laid (rangeBytes (rangeOf (now (request .entry)) size n) size place (now (device .entry))) (now (page .entry)) r (now (page .exit)) ⌝ }
+    requires { ⌜ (length (now page) ≡ pageSize) × (4 + n * size ≤ pageSize) × (place + n * size ≤ length (now device)) ⌝ }
+    ensures { λ r. ⌜ Laid (rangeBytes (now (request .entry)) size n place (now (device .entry))) (now (page .entry)) r (now (page .exit)) ⌝ }
 {
     let Range::Of(start, count) = asked(request, size, n) else {
         return tell(StatusCode::BAD_MSG, page);
@@ -57,13 +60,13 @@ fn rows(device: &[u8], place: usize, size: usize, n: u32, request: &[u8], page: 
 
 // All 24 bytes are kept as they came.
 fn setting(streams: u32, device: &mut [u8], request: &[u8], page: &mut [u8]) -> usize
-    requires { ⌜ (length (now page) ≡ 4096) × (16427 ≤ length (now device)) × (streams ≡ countsAt (now device) .streams) × (streams ≤ 127) ⌝ }
+    requires { ⌜ (length (now page) ≡ pageSize) × (deviceSize ≤ length (now device)) × (streams ≡ countsAt (now device) .streams) × (streams ≤ mostStreams) ⌝ }
     ensures { λ r. ⌜ Gave (settingOf (now (request .entry)) (deviceOf (now (device .entry)))) (now (device .entry)) (now (page .entry)) r (now (device .exit)) (now (page .exit)) ⌝ }
 {
     if request.len() != SetParameters::SIZE {
         return tell(StatusCode::BAD_MSG, page);
     }
-    let stream = layout::get_u32(request, 4);
+    let stream = layout::get_u32(request, STREAM);
     if streams <= stream {
         return tell(StatusCode::BAD_MSG, page);
     }
@@ -75,8 +78,8 @@ fn setting(streams: u32, device: &mut [u8], request: &[u8], page: &mut [u8]) -> 
 
 // The stream of a command is not tested.
 fn command(request: &[u8], page: &mut [u8]) -> usize
-    requires { ⌜ length (now page) ≡ 4096 ⌝ }
-    ensures { λ r. ⌜ Laid (pick (eqb (length (now (request .entry))) 8) (le 4 0x8000) (le 4 0x8001)) (now (page .entry)) r (now (page .exit)) ⌝ }
+    requires { ⌜ length (now page) ≡ pageSize ⌝ }
+    ensures { λ r. ⌜ Laid (pick (eqb (length (now (request .entry))) (size pcmCommand)) (le 4 0x8000) (le 4 0x8001)) (now (page .entry)) r (now (page .exit)) ⌝ }
 {
     if request.len() == PcmCommand::SIZE {
         return tell(StatusCode::OK, page);
@@ -86,7 +89,7 @@ fn command(request: &[u8], page: &mut [u8]) -> usize
 
 // The device has no remap.
 fn answer(code: RequestCode, n: Counts, device: &mut [u8], request: &[u8], page: &mut [u8]) -> usize
-    requires { ⌜ (length (now page) ≡ 4096) × (16427 ≤ length (now device)) × (n ≡ countsAt (now device)) × (withinOf n ≡ true) ⌝ }
+    requires { ⌜ (length (now page) ≡ pageSize) × (deviceSize ≤ length (now device)) × (n ≡ countsAt (now device)) × (withinOf n ≡ true) ⌝ }
     ensures { λ r. ⌜ Gave (answerBy code (now (request .entry)) (deviceOf (now (device .entry)))) (now (device .entry)) (now (page .entry)) r (now (device .exit)) (now (page .exit)) ⌝ }
 {
     match code {
@@ -104,7 +107,7 @@ fn answer(code: RequestCode, n: Counts, device: &mut [u8], request: &[u8], page:
 
 // A request without a code, or with one that is no request's, is a bad message.
 pub(crate) fn outcome(counts: Counts, device: &mut [u8], request: &[u8], page: &mut [u8]) -> usize
-    requires { ⌜ (length (now page) ≡ 4096) × (16427 ≤ length (now device)) × (counts ≡ countsAt (now device)) × (withinOf counts ≡ true) ⌝ }
+    requires { ⌜ (length (now page) ≡ pageSize) × (deviceSize ≤ length (now device)) × (counts ≡ countsAt (now device)) × (withinOf counts ≡ true) ⌝ }
     ensures { λ r. ⌜ Gave (outcomeOf (now (request .entry)) (deviceOf (now (device .entry)))) (now (device .entry)) (now (page .entry)) r (now (device .exit)) (now (page .exit)) ⌝ }
 {
     if request.len() < HEADER {

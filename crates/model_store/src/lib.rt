@@ -9,11 +9,15 @@ ghost use mathlib.Core.List.{[], _∷_};
 ghost use mathlib.Core.Path.{_≡_};
 ghost use lib.Seq.{sets};
 ghost use Rattle.layout.specs.Layout.{write};
-ghost use Rattle.model_store.specs.Calls.{newIn, controlIn, transferIn, payloadIn, paramsIn, playedIn};
+ghost use Rattle.layout.specs.Lent.{made, shown};
+ghost use Rattle.model_store.specs.Store.{deviceSize};
+ghost use Rattle.model_store.specs.Calls.{newIn, told, controlIn, transferred, transferIn, payloadIn, paramsIn, playedIn};
 use answer::outcome;
-use made::few;
 use made::make;
 use model::Counts;
+use model::control::PAGE;
+use model::few;
+use model::stream_ok;
 use model::transfer::plays;
 use model::within;
 use place::HELD;
@@ -22,7 +26,6 @@ use place::PLAYED;
 use place::WORD;
 use place::copy;
 use place::counts_at;
-use place::stream_ok;
 use play::play;
 use records::ChannelMap;
 use records::JackInfo;
@@ -37,9 +40,6 @@ pub const SIZE: usize = 16427;
 // The least length of a result slice.
 const RESULT: usize = 512;
 
-// An answer page.
-const PAGE: usize = 4096;
-
 // What a call says, by its number.
 const OK: u64 = 0;
 
@@ -48,7 +48,7 @@ const INVALID_PARAM: u64 = 1;
 const BAD_LENGTH: u64 = 10;
 
 pub fn size() -> u64
-    ensures { λ r. ⌜ r ≡ 16427 ⌝ }
+    ensures { λ r. ⌜ r ≡ deviceSize ⌝ }
 {
     SIZE as u64
 }
@@ -56,8 +56,7 @@ pub fn size() -> u64
 // A new device, from three tables as they stand in an answer. No stream has parameters, and nothing
 // was played.
 pub fn new(device: &mut [u8], jacks: &[u8], pcms: &[u8], maps: &[u8]) -> u64
-    ensures answer { λ r. ⌜ r ≡ newIn (now (device .entry)) (now (jacks .entry)) (now (pcms .entry)) (now (maps .entry)) .answer ⌝ }
-    ensures device { λ _. ⌜ now (device .exit) ≡ newIn (now (device .entry)) (now (jacks .entry)) (now (pcms .entry)) (now (maps .entry)) .device ⌝ }
+    ensures { λ r. ⌜ made r (now (device .exit)) ≡ newIn (now (device .entry)) (now (jacks .entry)) (now (pcms .entry)) (now (maps .entry)) ⌝ }
 {
     if device.len() < SIZE {
         return BAD_LENGTH;
@@ -88,10 +87,7 @@ pub fn new(device: &mut [u8], jacks: &[u8], pcms: &[u8], maps: &[u8]) -> u64
 
 // One request, one answer in the page; the answer's length stands in the result.
 pub fn control(device: &mut [u8], request: &[u8], page: &mut [u8], result: &mut [u8]) -> u64
-    ensures answer { λ r. ⌜ r ≡ controlIn (now (device .entry)) (now (request .entry)) (now (page .entry)) (now (result .entry)) .answer ⌝ }
-    ensures device { λ _. ⌜ now (device .exit) ≡ controlIn (now (device .entry)) (now (request .entry)) (now (page .entry)) (now (result .entry)) .device ⌝ }
-    ensures page { λ _. ⌜ now (page .exit) ≡ controlIn (now (device .entry)) (now (request .entry)) (now (page .entry)) (now (result .entry)) .page ⌝ }
-    ensures result { λ _. ⌜ now (result .exit) ≡ controlIn (now (device .entry)) (now (request .entry)) (now (page .entry)) (now (result .entry)) .result ⌝ }
+    ensures { λ r. ⌜ told r (now (device .exit)) (now (page .exit)) (now (result .exit)) ≡ controlIn (now (device .entry)) (now (request .entry)) (now (page .entry)) (now (result .entry)) ⌝ }
 {
     if device.len() < SIZE {
         return BAD_LENGTH;
@@ -113,9 +109,7 @@ pub fn control(device: &mut [u8], request: &[u8], page: &mut [u8], result: &mut 
 
 // One transfer, one status in the answer slice.
 pub fn transfer(device: &mut [u8], request: &[u8], answer: &mut [u8]) -> u64
-    ensures answer { λ r. ⌜ r ≡ transferIn (now (device .entry)) (now (request .entry)) (now (answer .entry)) .answer ⌝ }
-    ensures device { λ _. ⌜ now (device .exit) ≡ transferIn (now (device .entry)) (now (request .entry)) (now (answer .entry)) .device ⌝ }
-    ensures status { λ _. ⌜ now (answer .exit) ≡ transferIn (now (device .entry)) (now (request .entry)) (now (answer .entry)) .status ⌝ }
+    ensures { λ r. ⌜ transferred r (now (device .exit)) (now (answer .exit)) ≡ transferIn (now (device .entry)) (now (request .entry)) (now (answer .entry)) ⌝ }
 {
     if device.len() < SIZE {
         return BAD_LENGTH;
@@ -138,13 +132,12 @@ fn put_part(result: &mut [u8], offset: u64, length: u64)
     ensures { λ _. ⌜ now (result .exit) ≡ sets (now (result .entry)) 0 (write (8 ∷ 8 ∷ []) (offset ∷ length ∷ [])) ⌝ }
 {
     layout::put_u64(result, 0, offset);
-    layout::put_u64(result, 8, length);
+    layout::put_u64(result, WORD, length);
 }
 
 // What a transfer plays, as a part of the request; 0 twice where it plays nothing.
 pub fn payload(device: &[u8], request: &[u8], result: &mut [u8]) -> u64
-    ensures answer { λ r. ⌜ r ≡ payloadIn (now (device .entry)) (now (request .entry)) (now (result .entry)) .answer ⌝ }
-    ensures result { λ _. ⌜ now (result .exit) ≡ payloadIn (now (device .entry)) (now (request .entry)) (now (result .entry)) .result ⌝ }
+    ensures { λ r. ⌜ shown r (now (result .exit)) ≡ payloadIn (now (device .entry)) (now (request .entry)) (now (result .entry)) ⌝ }
 {
     if device.len() < SIZE {
         return BAD_LENGTH;
@@ -167,8 +160,7 @@ pub fn payload(device: &[u8], request: &[u8], result: &mut [u8]) -> u64
 
 // The parameters of a stream: 1 and the 24 bytes as received, or 0 where it has none.
 pub fn params(device: &[u8], stream: u32, result: &mut [u8]) -> u64
-    ensures answer { λ r. ⌜ r ≡ paramsIn (now (device .entry)) stream (now (result .entry)) .answer ⌝ }
-    ensures result { λ _. ⌜ now (result .exit) ≡ paramsIn (now (device .entry)) stream (now (result .entry)) .result ⌝ }
+    ensures { λ r. ⌜ shown r (now (result .exit)) ≡ paramsIn (now (device .entry)) stream (now (result .entry)) ⌝ }
 {
     if device.len() < SIZE {
         return BAD_LENGTH;
@@ -184,7 +176,7 @@ pub fn params(device: &[u8], stream: u32, result: &mut [u8]) -> u64
             return OK;
         }
         layout::put_u64(result, 0, 1);
-        copy(result, 8, device, at, SetParameters::SIZE);
+        copy(result, WORD, device, at, SetParameters::SIZE);
         return OK;
     }
     INVALID_PARAM
@@ -192,8 +184,7 @@ pub fn params(device: &[u8], stream: u32, result: &mut [u8]) -> u64
 
 // How many bytes a stream has played, modulo 2^64.
 pub fn played(device: &[u8], stream: u32, result: &mut [u8]) -> u64
-    ensures answer { λ r. ⌜ r ≡ playedIn (now (device .entry)) stream (now (result .entry)) .answer ⌝ }
-    ensures result { λ _. ⌜ now (result .exit) ≡ playedIn (now (device .entry)) stream (now (result .entry)) .result ⌝ }
+    ensures { λ r. ⌜ shown r (now (result .exit)) ≡ playedIn (now (device .entry)) stream (now (result .entry)) ⌝ }
 {
     if device.len() < SIZE {
         return BAD_LENGTH;

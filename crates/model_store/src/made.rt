@@ -1,19 +1,19 @@
 // A new device: its three tables as they came, and zeros.
-ghost use mathlib.Core.Bool.{_&&_};
-ghost use mathlib.Core.List.{_++_};
 ghost use mathlib.Core.Path.{_≡_};
 ghost use Prim.Native.Nat.{_+_, _≤_};
-ghost use lib.Dec.{leb};
 ghost use lib.ListN.{length};
 ghost use lib.Seq.{sets};
-ghost use Rattle.model_store.specs.Store.{countsBytes};
+ghost use Rattle.model_store.specs.Store.{deviceSize, countsBytes};
 ghost use Rattle.layout.specs.Bytes.{zeros};
-ghost use Rattle.model_store.specs.Steps.{padded};
+ghost use Rattle.model_store.specs.Private.{jacksRoom, pcmsRoom, mapsRoom, padded, newBytes};
 use crate::SIZE;
+use crate::place::JACK_COUNT;
 use crate::place::JACKS;
+use crate::place::MAP_COUNT;
 use crate::place::MAPS;
 use crate::place::PARAMS;
 use crate::place::PCMS;
+use crate::place::STREAM_COUNT;
 use crate::place::copy;
 use model::Counts;
 
@@ -41,32 +41,19 @@ fn fill(device: &mut [u8], place: usize, room: usize, rows: &[u8])
 fn put_counts(device: &mut [u8], n: Counts)
     ensures { λ _. ⌜ now (device .exit) ≡ sets (now (device .entry)) 0 (countsBytes n) ⌝ }
 {
-    layout::put_u32(device, 0, n.jacks);
-    layout::put_u32(device, 4, n.streams);
-    layout::put_u32(device, 8, n.maps);
+    layout::put_u32(device, JACK_COUNT, n.jacks);
+    layout::put_u32(device, STREAM_COUNT, n.streams);
+    layout::put_u32(device, MAP_COUNT, n.maps);
 }
 
 // No stream has parameters, and nothing was played.
 pub(crate) fn make(device: &mut [u8], n: Counts, jacks: &[u8], pcms: &[u8], maps: &[u8])
-    requires { ⌜ (16427 ≤ length (now device)) × (length (now jacks) ≤ 4080) × (length (now pcms) ≤ 4064) × (length (now maps) ≤ 4080) ⌝ }
-    ensures { λ _. ⌜ now (device .exit) ≡ sets (now (device .entry)) 0 (countsBytes n ++ (padded 4080 (now (jacks .entry)) ++ (padded 4064 (now (pcms .entry)) ++ (padded 4080 (now (maps .entry)) ++ zeros 4191)))) ⌝ }
+    requires { ⌜ (deviceSize ≤ length (now device)) × (length (now jacks) ≤ jacksRoom) × (length (now pcms) ≤ pcmsRoom) × (length (now maps) ≤ mapsRoom) ⌝ }
+    ensures { λ _. ⌜ now (device .exit) ≡ sets (now (device .entry)) 0 (newBytes n (now (jacks .entry)) (now (pcms .entry)) (now (maps .entry))) ⌝ }
 {
     put_counts(device, n);
     fill(device, JACKS, PCMS - JACKS, jacks);
     fill(device, PCMS, MAPS - PCMS, pcms);
     fill(device, MAPS, PARAMS - MAPS, maps);
     clear(device, PARAMS, SIZE - PARAMS);
-}
-
-// The counts of a device, before they are numbers of 32 bits.
-pub(crate) fn few(jacks: usize, streams: usize, maps: usize) -> bool
-    ensures { λ r. ⌜ r ≡ (leb jacks 170 && (leb streams 127 && leb maps 170)) ⌝ }
-{
-    if 170 < jacks {
-        return false;
-    }
-    if 127 < streams {
-        return false;
-    }
-    maps <= 170
 }

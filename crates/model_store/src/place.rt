@@ -1,18 +1,20 @@
 // Where the parts of a device stand in its store, and copies between places.
-ghost use mathlib.Core.Bool.{_&&_};
 ghost use mathlib.Core.Path.{_≡_};
 ghost use Prim.Native.Nat.{_+_, _≤_};
-ghost use lib.Dec.{ltb};
 ghost use lib.ListN.{length};
 ghost use lib.Seq.{sets};
 ghost use Rattle.layout.specs.Bytes.{bytesAt};
-ghost use Rattle.model.specs.Device.{withinOf};
 ghost use Rattle.model_store.specs.Store.{countsAt};
 use model::Counts;
-use model::within;
 
 // The three counts stand at the front. A row of parameters is the 24 bytes as received, then one
 // byte that says whether there are any.
+pub(crate) const JACK_COUNT: usize = 0;
+
+pub(crate) const STREAM_COUNT: usize = 4;
+
+pub(crate) const MAP_COUNT: usize = 8;
+
 pub(crate) const JACKS: usize = 12;
 
 pub(crate) const PCMS: usize = 4092;
@@ -31,9 +33,9 @@ pub(crate) fn counts_at(s: &[u8]) -> Counts
     ensures { λ r. ⌜ r ≡ countsAt (now (s .entry)) ⌝ }
 {
     Counts {
-        jacks: layout::get_u32(s, 0),
-        streams: layout::get_u32(s, 4),
-        maps: layout::get_u32(s, 8),
+        jacks: layout::get_u32(s, JACK_COUNT),
+        streams: layout::get_u32(s, STREAM_COUNT),
+        maps: layout::get_u32(s, MAP_COUNT),
     }
 }
 
@@ -47,11 +49,4 @@ pub(crate) fn copy(to: &mut [u8], at: usize, from: &[u8], start: usize, n: usize
         to[at + i] = from[start + i];
         i += 1;
     }
-}
-
-// A stream of a device whose tables are no larger than a page holds.
-pub(crate) fn stream_ok(n: Counts, stream: u32) -> bool
-    ensures { λ r. ⌜ r ≡ (withinOf n && ltb stream (n .streams)) ⌝ }
-{
-    if within(n) { stream < n.streams } else { false }
 }

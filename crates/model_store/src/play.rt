@@ -6,7 +6,7 @@ ghost use lib.ListN.{length};
 ghost use lib.Seq.{sets};
 ghost use Rattle.model.specs.Device.{withinOf};
 ghost use Rattle.model.specs.Transfer.{statusBy, deviceAfter};
-ghost use Rattle.model_store.specs.Store.{countsAt, deviceOf, deviceBytes};
+ghost use Rattle.model_store.specs.Store.{deviceSize, countsAt, deviceOf, deviceBytes};
 use crate::place::PLAYED;
 use crate::place::WORD;
 use codes::StatusCode;
@@ -17,7 +17,7 @@ use std::num::wrapping_add_u64;
 
 // The status of a transfer. The stream's count grows by the payload's length.
 pub(crate) fn play(counts: Counts, device: &mut [u8], request: &[u8]) -> u32
-    requires { ⌜ (16427 ≤ length (now device)) × (counts ≡ countsAt (now device)) × (withinOf counts ≡ true) ⌝ }
+    requires { ⌜ (deviceSize ≤ length (now device)) × (counts ≡ countsAt (now device)) × (withinOf counts ≡ true) ⌝ }
     ensures { λ r. ⌜ (r ≡ statusBy (deviceOf (now (device .entry))) (now (request .entry))) × (now (device .exit) ≡ sets (now (device .entry)) 0 (deviceBytes (deviceAfter (deviceOf (now (device .entry))) (now (request .entry))))) ⌝ }
 {
     if plays(counts, request) {

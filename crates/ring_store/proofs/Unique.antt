@@ -1,10 +1,11 @@
 -- A public function's contract leaves one outcome: any two that it permits, for the same arguments, are equal, in what is returned and in what the
 -- lent slice holds. `Post` is the contract itself, as Rattle reads it off the source, so no statement here repeats a clause.
 -- Assumes nothing.
-use mathlib.Core.Path.{_≡_}
+use mathlib.Core.Path.{_≡_, ap}
 use mathlib.Core.List.{List}
 use Prim.Native.Nat.{ℕ}
 use denote.Ref.{now}
+use Rattle.layout.specs.Lent.{Made, made, Shown, shown}
 use Rattle.codes.specs.SaysLaws.{same}
 use Rattle.ring_store.proofs.size.Reads as size
 use Rattle.ring_store.proofs.store.track.Reads as track
@@ -22,8 +23,11 @@ use Rattle.ring_store.proofs.reads.carried.Reads as carried
 use Rattle.ring_store.proofs.reads.oldest.Reads as oldest
 
 -- what is answered, and what the lent slice then holds
-both : {m n answer : ℕ} {x y bytes : List ℕ} → (m ≡ answer) × (x ≡ bytes) → (n ≡ answer) × (y ≡ bytes) → (m ≡ n) × (x ≡ y)
-both p q = (same (p .0) (q .0), same (p .1) (q .1))
+changes : {m n : ℕ} {x y : List ℕ} {l : Made} → made m x ≡ l → made n y ≡ l → (m ≡ n) × (x ≡ y)
+changes p q = (ap (λ (l : Made). l .answer) (same p q), ap (λ (l : Made). l .store) (same p q))
+
+tells : {m n : ℕ} {x y : List ℕ} {l : Shown} → shown m x ≡ l → shown n y ≡ l → (m ≡ n) × (x ≡ y)
+tells p q = (ap (λ (l : Shown). l .answer) (same p q), ap (λ (l : Shown). l .result) (same p q))
 
 pub size-one : (κs : _) (a : _) (r₁ r₂ : _) (e₁ e₂ : _) → size.Post κs a r₁ e₁ → size.Post κs a r₂ e₂ → r₁ ≡ r₂
 size-one κs a r₁ r₂ e₁ e₂ p q = same p q
@@ -32,37 +36,37 @@ pub track-one : (κs : _) (a : _) (r₁ r₂ : _) (e₁ e₂ : _) → track.Post
 track-one κs a r₁ r₂ e₁ e₂ p q = same p q
 
 pub new-one : (κs : _) (a : _) (r₁ r₂ : _) (e₁ e₂ : _) → new.Post κs a r₁ e₁ → new.Post κs a r₂ e₂ → (r₁ ≡ r₂) × (now (e₁ .0) ≡ now (e₂ .0))
-new-one κs a r₁ r₂ e₁ e₂ p q = both p q
+new-one κs a r₁ r₂ e₁ e₂ p q = changes p q
 
 pub turn-one : (κs : _) (a : _) (r₁ r₂ : _) (e₁ e₂ : _) → turn.Post κs a r₁ e₁ → turn.Post κs a r₂ e₂ → (r₁ ≡ r₂) × (now (e₁ .0) ≡ now (e₂ .0))
-turn-one κs a r₁ r₂ e₁ e₂ p q = both p q
+turn-one κs a r₁ r₂ e₁ e₂ p q = changes p q
 
 pub drain-turn-one : (κs : _) (a : _) (r₁ r₂ : _) (e₁ e₂ : _) → drain-turn.Post κs a r₁ e₁ → drain-turn.Post κs a r₂ e₂ → (r₁ ≡ r₂) × (now (e₁ .0) ≡ now (e₂ .0))
-drain-turn-one κs a r₁ r₂ e₁ e₂ p q = both p q
+drain-turn-one κs a r₁ r₂ e₁ e₂ p q = changes p q
 
 pub start-one : (κs : _) (a : _) (r₁ r₂ : _) (e₁ e₂ : _) → start.Post κs a r₁ e₁ → start.Post κs a r₂ e₂ → (r₁ ≡ r₂) × (now (e₁ .0) ≡ now (e₂ .0))
-start-one κs a r₁ r₂ e₁ e₂ p q = both p q
+start-one κs a r₁ r₂ e₁ e₂ p q = changes p q
 
 pub offered-one : (κs : _) (a : _) (r₁ r₂ : _) (e₁ e₂ : _) → offered.Post κs a r₁ e₁ → offered.Post κs a r₂ e₂ → (r₁ ≡ r₂) × (now (e₁ .1 .1 .0) ≡ now (e₂ .1 .1 .0))
-offered-one κs a r₁ r₂ e₁ e₂ p q = both p q
+offered-one κs a r₁ r₂ e₁ e₂ p q = tells p q
 
 pub running-one : (κs : _) (a : _) (r₁ r₂ : _) (e₁ e₂ : _) → running.Post κs a r₁ e₁ → running.Post κs a r₂ e₂ → (r₁ ≡ r₂) × (now (e₁ .1 .0) ≡ now (e₂ .1 .0))
-running-one κs a r₁ r₂ e₁ e₂ p q = both p q
+running-one κs a r₁ r₂ e₁ e₂ p q = tells p q
 
 pub in-flight-one : (κs : _) (a : _) (r₁ r₂ : _) (e₁ e₂ : _) → in-flight.Post κs a r₁ e₁ → in-flight.Post κs a r₂ e₂ → (r₁ ≡ r₂) × (now (e₁ .1 .0) ≡ now (e₂ .1 .0))
-in-flight-one κs a r₁ r₂ e₁ e₂ p q = both p q
+in-flight-one κs a r₁ r₂ e₁ e₂ p q = tells p q
 
 pub free-descriptors-one : (κs : _) (a : _) (r₁ r₂ : _) (e₁ e₂ : _) → free-descriptors.Post κs a r₁ e₁ → free-descriptors.Post κs a r₂ e₂ → (r₁ ≡ r₂) × (now (e₁ .1 .0) ≡ now (e₂ .1 .0))
-free-descriptors-one κs a r₁ r₂ e₁ e₂ p q = both p q
+free-descriptors-one κs a r₁ r₂ e₁ e₂ p q = tells p q
 
 pub turns-run-one : (κs : _) (a : _) (r₁ r₂ : _) (e₁ e₂ : _) → turns-run.Post κs a r₁ e₁ → turns-run.Post κs a r₂ e₂ → (r₁ ≡ r₂) × (now (e₁ .1 .0) ≡ now (e₂ .1 .0))
-turns-run-one κs a r₁ r₂ e₁ e₂ p q = both p q
+turns-run-one κs a r₁ r₂ e₁ e₂ p q = tells p q
 
 pub stream-one : (κs : _) (a : _) (r₁ r₂ : _) (e₁ e₂ : _) → stream.Post κs a r₁ e₁ → stream.Post κs a r₂ e₂ → (r₁ ≡ r₂) × (now (e₁ .1 .0) ≡ now (e₂ .1 .0))
-stream-one κs a r₁ r₂ e₁ e₂ p q = both p q
+stream-one κs a r₁ r₂ e₁ e₂ p q = tells p q
 
 pub carried-one : (κs : _) (a : _) (r₁ r₂ : _) (e₁ e₂ : _) → carried.Post κs a r₁ e₁ → carried.Post κs a r₂ e₂ → (r₁ ≡ r₂) × (now (e₁ .1 .1 .0) ≡ now (e₂ .1 .1 .0))
-carried-one κs a r₁ r₂ e₁ e₂ p q = both p q
+carried-one κs a r₁ r₂ e₁ e₂ p q = tells p q
 
 pub oldest-one : (κs : _) (a : _) (r₁ r₂ : _) (e₁ e₂ : _) → oldest.Post κs a r₁ e₁ → oldest.Post κs a r₂ e₂ → (r₁ ≡ r₂) × (now (e₁ .1 .0) ≡ now (e₂ .1 .0))
-oldest-one κs a r₁ r₂ e₁ e₂ p q = both p q
+oldest-one κs a r₁ r₂ e₁ e₂ p q = tells p q

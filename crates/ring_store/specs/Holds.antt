@@ -11,39 +11,28 @@ use lib.ListN.{length, replicate}
 use lib.Seq.{sets}
 use Rattle.layout.specs.Bytes.{Bytes}
 use Rattle.layout.specs.Layout.{Fit}
+use Rattle.layout.specs.Lent.{Made}
 use Rattle.layout.specs.Rows.{rowsAt}
 use Rattle.layout.specs.AllLaws.{set-ok, rows-ok}
 use Rattle.layout.specs.LayoutLaws.{read-fits}
 use Rattle.codes.specs.Says.{pick}
 use Rattle.codes.specs.SaysLaws.{guarded-by}
-use Rattle.turns.specs.Ring.{blankSlot, newRing}
-use Rattle.turns.specs.Rules.{chooseOf, judgeOf, submit, sentOf, release, act, turnOf, countedOf}
+use Rattle.turns.specs.Ring.{blankSlot, direct, newRing, isRefused}
+use Rattle.turns.specs.Rules.{chooseOf, submit, sentOf, release, act, turnOf, countedOf}
 use Rattle.turns.specs.CaseLaws.{Plain, hear-cases, counted-cases}
 use Rattle.turns.specs.Consistent.{consistentOf}
 use Rattle.turns.specs.ConsistentLaws.{Consistent, consistent-facts, few}
 use Rattle.turns.specs.KeepLaws.{fixed, turn-plain, turn-keeps, turn-after}
 use Rattle.turns.specs.RefusalLaws.{Untouched, turn-refused, drain-refused, start-refused, ring-untouched}
-use Rattle.turns.specs.Calls.{turnCall, drainBy, drained, drainCall, startCall, carry, ringAfter, startedOf}
+use Rattle.turns.specs.Calls.{turnCall, drained, drainCall, startCall, carry, ringAfter, startedOf}
 use Rattle.turns.specs.InPlace.{turnWords, drainWords}
 use Rattle.turns.specs.Script.{readingOf}
-use Rattle.turns.specs.declared.ring.Slot.{Slot}
-use Rattle.turns.specs.declared.ring.Track.{Track}
-use Rattle.turns.specs.declared.ring.Step.{Step}
-use Rattle.turns.specs.declared.ring.Sent.{Sent}
-use Rattle.turns.specs.declared.ring.Sent.the-variants.{Nothing, Period}
-use Rattle.turns.specs.declared.ring.Said.{Said}
-use Rattle.turns.specs.declared.ring.Said.the-variants.{Going, Ended, Refused}
-use Rattle.turns.specs.declared.reading.Reading.{Reading}
-use Rattle.turns.specs.declared.reading.Reading.the-variants.{Quiet, Completed}
-use Rattle.turns.specs.declared.rules.Choice.{Choice}
-use Rattle.turns.specs.declared.rules.Choice.the-variants.{Submit, Finish, Wait}
-use Rattle.turns.specs.declared.rules.Verdict.{Verdict}
-use Rattle.turns.specs.declared.rules.Verdict.the-variants.{Stranger, Good, Bad}
-use Rattle.ring_store.specs.Store.{trackRow, trackValues, trackAt, slotRow, slotAt, ringOf, ringBytes}
-use Rattle.ring_store.specs.Calls.{Left, unlessRefused, newIn, turnIn, drainIn, startIn}
+use Rattle.ring_store.specs.Types.{Slot, Track, Sent, Nothing, Period, Said, Going, Done, Ended, Refused, Step, Reading, Quiet, Completed, Choice, Submit, Finish, Wait}
+use Rattle.ring_store.specs.Store.{trackSize, slotSize, ringSize, trackRow, trackValues, trackAt, slotRow, slotAt, ringOf, ringBytes}
+use Rattle.ring_store.specs.Calls.{newIn, turnIn, drainIn, startIn}
 use Rattle.ring_store.specs.StoreLaws.{slots-long}
 use Rattle.ring_store.specs.RoundLaws.{SlotFits, SlotsFit, Fits, track-values, store-back}
-use Rattle.ring_store.specs.KeepLaws.{turnStep, drainStep, startStep, leaves, turn-leaves, drain-leaves, start-leaves, carry-long, flag-consistent}
+use Rattle.ring_store.specs.KeepLaws.{turnStep, drainStep, startStep, leaves, turn-leaves, drain-leaves, start-leaves, carry-long, whole-consistent}
 
 abbrev pub TrackFits : Track → Type 0
 TrackFits t = Fit trackRow (trackValues t)
@@ -54,12 +43,12 @@ SentFits (Period slot offset len) = SlotFits (record { offset = offset; len = le
 
 -- ---- what was read fits
 
-slots-fit : (o n : ℕ) (s : List ℕ) → Bytes s → SlotsFit (rowsAt slotAt 16 o n s)
+slots-fit : (o n : ℕ) (s : List ℕ) → Bytes s → SlotsFit (rowsAt slotAt slotSize o n s)
 unfolding slotAt
-slots-fit o n s b = rows-ok SlotFits slotAt 16 (λ o s b. read-fits o slotRow s b) o n s b
+slots-fit o n s b = rows-ok SlotFits slotAt slotSize (λ o s b. read-fits o slotRow s b) o n s b
 
 track-fits : (s : List ℕ) → Bytes s → consistentOf (trackAt s) ≡ true → TrackFits (trackAt s)
-track-fits s b c = subst (Fit trackRow) (sym (track-values s (flag-consistent s c))) (read-fits 0 trackRow s b)
+track-fits s b c = subst (Fit trackRow) (sym (track-values s (whole-consistent s c))) (read-fits 0 trackRow s b)
 
 -- ---- a step that fits is held
 
@@ -71,22 +60,23 @@ carry-fits slots (Period slot offset len) p q = set-ok SlotFits slots slot (reco
 abbrev StepFits : Step → Type 0
 StepFits x = Plain (x .said) → TrackFits (x .track) × SentFits (x .sent)
 
-module _ (s : List ℕ) (x : Step) (b : Bytes s) (h : 592 ≤ length s) (f : StepFits x) (u : Untouched (trackAt s) x) where
+module _ (s : List ℕ) (x : Step) (b : Bytes s) (h : ringSize ≤ length s) (f : StepFits x) (u : Untouched (trackAt s) x) where
   after-fits : Plain (x .said) → Fits (ringAfter (ringOf s) x)
   unfolding ringOf
-  after-fits p = record { track = f p .0; slots = carry-fits (ringOf s .slots) (x .sent) (slots-fit 80 32 s b) (f p .1); long = carry-long (ringOf s .slots) (x .sent) (slots-long s) }
+  after-fits p = record { track = f p .0; slots = carry-fits (ringOf s .slots) (x .sent) (slots-fit trackSize 32 s b) (f p .1); long = carry-long (ringOf s .slots) (x .sent) (slots-long s) }
 
-  unless-holds : (said : Said) → x .said ≡ said → ringOf (unlessRefused said s (sets s 0 (ringBytes (ringAfter (ringOf s) x)))) ≡ ringAfter (ringOf s) x
+  unless-holds : (said : Said) → x .said ≡ said → ringOf (pick (isRefused said) s (sets s 0 (ringBytes (ringAfter (ringOf s) x)))) ≡ ringAfter (ringOf s) x
   unfolding ringOf
   unless-holds Going e = store-back s (ringAfter (ringOf s) x) (after-fits (subst Plain (sym e) tt)) h
-  unless-holds (Ended a) e = store-back s (ringAfter (ringOf s) x) (after-fits (subst Plain (sym e) tt)) h
+  unless-holds Done e = store-back s (ringAfter (ringOf s) x) (after-fits (subst Plain (sym e) tt)) h
+  unless-holds (Ended r) e = store-back s (ringAfter (ringOf s) x) (after-fits (subst Plain (sym e) tt)) h
   unless-holds (Refused r) e = sym (ring-untouched (ringOf s) x u r e)
 
-  holds : ringOf (leaves s x .ring) ≡ ringAfter (ringOf s) x
+  holds : ringOf (leaves s x .store) ≡ ringAfter (ringOf s) x
   holds =
-      guarded-by (λ (l : Left). ringOf (l .ring) ≡ ringAfter (ringOf s) x) (leb 592 (length s)) _ _
+      guarded-by (λ (l : Made). ringOf (l .store) ≡ ringAfter (ringOf s) x) (leb ringSize (length s)) _ _
       (λ _. unless-holds (x .said) refl)
-      (λ e. absurd (omega (arith, leb-false 592 (length s) e)))
+      (λ e. absurd (omega (arith, leb-false ringSize (length s) e)))
 
 -- ---- each step fits
 
@@ -97,16 +87,16 @@ flag-fits false = omega arith
 -- a consistent track of the same transfer
 same-fits : (t n : Track) → TrackFits t → Consistent n → fixed n ≡ fixed t → n .turns ≤ t .budget → TrackFits n
 same-fits t n f c e k =
-    let per : n .per ≡ t .per = ap (λ (x : ℕ × ℕ × ℕ × ℕ × ℕ). x .0) e in
+    let size : n .descriptors ≡ t .descriptors = ap (λ (x : ℕ × ℕ × ℕ × ℕ × ℕ). x .0) e in
     let stream : n .stream ≡ t .stream = ap (λ (x : ℕ × ℕ × ℕ × ℕ × ℕ). x .1) e in
     let total : n .total ≡ t .total = ap (λ (x : ℕ × ℕ × ℕ × ℕ × ℕ). x .2) e in
     let period : n .period ≡ t .period = ap (λ (x : ℕ × ℕ × ℕ × ℕ × ℕ). x .3) e in
     let budget : n .budget ≡ t .budget = ap (λ (x : ℕ × ℕ × ℕ × ℕ × ℕ). x .4) e in
-    let held : n .held ≤ 10 = few n (c .placed) in
+    let inflight : n .inflight ≤ 10 = few n (c .placed) in
     let head : n .head < 32 = c .placed .head-in in
     let tail : n .tail < 32 = c .placed .tail-in in
     let within : n .next ≤ n .total = c .paced .within in
-    (omega arith, (omega arith, (omega arith, (omega arith, (omega arith, (omega arith, (omega arith, (omega arith, (omega arith, (omega arith, (flag-fits (n .running), tt)))))))))))
+    (omega arith, (omega arith, (omega arith, (omega arith, (omega arith, (omega arith, (omega arith, (omega arith, (omega arith, (omega arith, (flag-fits (n .running), (omega arith, (omega arith, tt)))))))))))))
 
 sent-fits : (t : Track) → TrackFits t → SentFits (sentOf t)
 sent-fits t f = (f .1 .1 .1 .1 .1 .1 .0, (omega arith, tt))
@@ -116,14 +106,14 @@ act-fits Submit t reading f = hear-cases (λ x. SentFits (x .sent)) (sentOf t) (
 act-fits Finish t reading f = tt
 act-fits Wait t reading f = hear-cases (λ x. SentFits (x .sent)) Nothing t reading (λ _ _. tt) (λ _ _ _ _ _. tt)
 
-counted-sent : (t : Track) (reading : Reading) → TrackFits t → SentFits (countedOf (turnOf 3 t reading) .sent)
+counted-sent : (t : Track) (reading : Reading) → TrackFits t → SentFits (countedOf (turnOf (t .descriptors) t reading) .sent)
 unfolding turnOf
 counted-sent t reading f =
-    let p = act-fits (chooseOf 3 t) t reading f in
-    counted-cases (λ x. SentFits (x .sent)) (turnOf 3 t reading) (turn-plain 3 t reading) (λ _. p) (λ _. p)
+    let p = act-fits (chooseOf (t .descriptors) t) t reading f in
+    counted-cases (λ x. SentFits (x .sent)) (turnOf (t .descriptors) t reading) (turn-plain (t .descriptors) t reading) (λ _. p) (λ _ _. p)
 
 module _ (t : Track) (f : consistentOf t ≡ true → TrackFits t) where
-  turn-step-fits : (len : ℕ) (reading : Reading) → StepFits (turnCall 3 t len reading)
+  turn-step-fits : (len : ℕ) (reading : Reading) → StepFits (turnCall t len reading)
   unfolding turnCall
   turn-step-fits len reading =
       guarded-by StepFits _ _ _
@@ -132,24 +122,19 @@ module _ (t : Track) (f : consistentOf t ≡ true → TrackFits t) where
       (λ _ p. absurd p))
       (λ _ p. absurd p)
     where
-      runs : consistentOf t ≡ true → t .running ≡ true → TrackFits (countedOf (turnOf 3 t reading) .track) × SentFits (countedOf (turnOf 3 t reading) .sent)
+      runs : consistentOf t ≡ true → t .running ≡ true → TrackFits (countedOf (turnOf (t .descriptors) t reading) .track) × SentFits (countedOf (turnOf (t .descriptors) t reading) .sent)
       runs c on =
           let k = consistent-facts t c in
-          let a = turn-after 3 t reading in
+          let a = turn-after (t .descriptors) t reading in
           let left = k .paced .left on in
-          (same-fits t _ (f c) (turn-keeps 3 t reading (omega arith) k on) (a .0) (omega arith), counted-sent t reading (f c))
+          (same-fits t _ (f c) (turn-keeps (t .descriptors) t reading (omega arith) k on) (a .0) (omega arith), counted-sent t reading (f c))
 
   release-fits : TrackFits t → TrackFits (release t)
   release-fits f = (f .0, (f .1 .0, (omega arith, (omega arith, f .1 .1 .1 .1))))
 
-  drain-fits-by : (v : Verdict) (slot status : ℕ) → TrackFits t → StepFits (drainBy v t slot status)
-  drain-fits-by Stranger slot status f _ = (f, tt)
-  drain-fits-by Good slot status f _ = (release-fits f, tt)
-  drain-fits-by (Bad a) slot status f _ = (release-fits f, tt)
-
   drained-fits : (reading : Reading) → TrackFits t → StepFits (drained t reading)
-  drained-fits Quiet f _ = (f, tt)
-  drained-fits (Completed slot status) f p = drain-fits-by (judgeOf t slot status) slot status f p
+  drained-fits Quiet f = λ _. (f, tt)
+  drained-fits (Completed slot status) f = guarded-by StepFits _ _ _ (λ _ _. (release-fits f, tt)) (λ _ _. (f, tt))
 
   drain-step-fits : (reading : Reading) → StepFits (drainCall t reading)
   unfolding drainCall
@@ -161,42 +146,42 @@ module _ (t : Track) (f : consistentOf t ≡ true → TrackFits t) where
       guarded-by StepFits _ _ _
       (λ c. guarded-by StepFits _ _ _
       (λ _. guarded-by StepFits _ _ _
-      (λ _. guarded-by StepFits _ _ _ (λ _ _. ((f c .0, (omega arith, (omega arith, (omega arith, (n, (p, (omega arith, (q, (omega arith, (m, (omega arith, tt))))))))))), tt)) (λ _ p. absurd p))
+      (λ _. guarded-by StepFits _ _ _ (λ _ _. ((f c .0, (omega arith, (omega arith, (omega arith, (n, (p, (omega arith, (q, (omega arith, (m, (omega arith, (omega arith, (omega arith, tt))))))))))))), tt)) (λ _ p. absurd p))
       (λ _ p. absurd p))
       (λ _ p. absurd p))
       (λ _ p. absurd p)
 
 -- ---- THE RING THAT A CALL LEAVES IN A STORE is the one that the call by value leaves
 
-pub turn-holds : (s : List ℕ) (len kind slot status : ℕ) → Bytes s → 592 ≤ length s → ringOf (turnIn s len kind slot status .ring) ≡ turnWords (ringOf s) len kind slot status .ring
+pub turn-holds : (s : List ℕ) (len kind slot status : ℕ) → Bytes s → ringSize ≤ length s → ringOf (turnIn s len kind slot status .store) ≡ turnWords (ringOf s) len kind slot status .ring
 unfolding turnWords ringOf
 turn-holds s len kind slot status b h =
     let reading = readingOf kind slot status in
-    ap (λ (l : Left). ringOf (l .ring)) (turn-leaves s len kind slot status)
-    ∙ holds s (turnStep s len kind slot status) b h (turn-step-fits (trackAt s) (track-fits s b) len reading) (turn-refused (trackAt s) 3 len reading)
+    ap (λ (l : Made). ringOf (l .store)) (turn-leaves s len kind slot status)
+    ∙ holds s (turnStep s len kind slot status) b h (turn-step-fits (trackAt s) (track-fits s b) len reading) (turn-refused (trackAt s) len reading)
 
-pub drain-holds : (s : List ℕ) (kind slot status : ℕ) → Bytes s → 592 ≤ length s → ringOf (drainIn s kind slot status .ring) ≡ drainWords (ringOf s) kind slot status .ring
+pub drain-holds : (s : List ℕ) (kind slot status : ℕ) → Bytes s → ringSize ≤ length s → ringOf (drainIn s kind slot status .store) ≡ drainWords (ringOf s) kind slot status .ring
 unfolding drainWords ringOf
 drain-holds s kind slot status b h =
     let reading = readingOf kind slot status in
-    ap (λ (l : Left). ringOf (l .ring)) (drain-leaves s kind slot status)
+    ap (λ (l : Made). ringOf (l .store)) (drain-leaves s kind slot status)
     ∙ holds s (drainStep s kind slot status) b h (drain-step-fits (trackAt s) (track-fits s b) reading) (drain-refused (trackAt s) reading)
 
 -- the arguments are machine numbers
-pub start-holds : (s : List ℕ) (stream len period budget : ℕ) → Bytes s → 592 ≤ length s → stream < 256 ^ 4 → len < 256 ^ 8 → period < 256 ^ 8 → budget < 256 ^ 8
-    → ringOf (startIn s stream len period budget .ring) ≡ startedOf (ringOf s) (startCall (trackAt s) stream len period budget) .ring
+pub start-holds : (s : List ℕ) (stream len period budget : ℕ) → Bytes s → ringSize ≤ length s → stream < 256 ^ 4 → len < 256 ^ 8 → period < 256 ^ 8 → budget < 256 ^ 8
+    → ringOf (startIn s stream len period budget .store) ≡ startedOf (ringOf s) (startCall (trackAt s) stream len period budget) .ring
 start-holds s stream len period budget b h m n p q =
-    ap (λ (l : Left). ringOf (l .ring)) (start-leaves s stream len period budget)
+    ap (λ (l : Made). ringOf (l .store)) (start-leaves s stream len period budget)
     ∙ holds s (startStep s stream len period budget) b h (start-step-fits (trackAt s) (track-fits s b) stream len period budget m n p q) (start-refused (trackAt s) stream len period budget)
 
-pub new-holds : (s : List ℕ) → 592 ≤ length s → ringOf (newIn s .ring) ≡ newRing 3
+pub new-holds : (s : List ℕ) → ringSize ≤ length s → ringOf (newIn s .store) ≡ newRing direct
 new-holds s h =
-    guarded-by (λ (l : Left). ringOf (l .ring) ≡ newRing 3) (leb 592 (length s)) _ _
-    (λ _. store-back s (newRing 3) (record { track = new-track; slots = blank-fits 32; long = refl }) h)
-    (λ e. absurd (omega (arith, leb-false 592 (length s) e)))
+    guarded-by (λ (l : Made). ringOf (l .store) ≡ newRing direct) (leb ringSize (length s)) _ _
+    (λ _. store-back s (newRing direct) (record { track = new-track; slots = blank-fits 32; long = refl }) h)
+    (λ e. absurd (omega (arith, leb-false ringSize (length s) e)))
   where
-    new-track : TrackFits (newRing 3 .track)
-    new-track = (omega arith, (omega arith, (omega arith, (omega arith, (omega arith, (omega arith, (omega arith, (omega arith, (omega arith, (omega arith, (omega arith, tt)))))))))))
+    new-track : TrackFits (newRing direct .track)
+    new-track = (omega arith, (omega arith, (omega arith, (omega arith, (omega arith, (omega arith, (omega arith, (omega arith, (omega arith, (omega arith, (omega arith, (omega arith, (omega arith, tt)))))))))))))
 
     blank-fits : (n : ℕ) → SlotsFit (replicate n blankSlot)
     blank-fits zero = tt

@@ -1,7 +1,8 @@
 -- definitions
+pub mod Types
 pub mod Store
 pub mod Calls
-pub mod Steps
+pub mod Private
 -- theorems
 pub mod Holds
 pub mod Run

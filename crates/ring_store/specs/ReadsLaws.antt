@@ -4,12 +4,11 @@ use mathlib.Core.Path.{_≡_, refl, sym, ap, _∙_}
 use mathlib.Core.Bool.{Bool, true, false, _&&_}
 use mathlib.Core.List.{List, [], _∷_, _++_}
 use Prim.Native.Nat.{ℕ}
-use lib.Dec.{leb}
-use lib.ListN.{length}
 use lib.Seq.{sets}
 use Rattle.layout.specs.Bytes.{le}
 use Rattle.layout.specs.Layout.{write}
 use Rattle.layout.specs.Rows.{rowsBytes}
+use Rattle.layout.specs.Lent.{Shown, shown}
 use Rattle.layout.specs.ChainLaws.{Stored, stored}
 use Rattle.codes.specs.Says.{Says, says, guard}
 use Rattle.codes.specs.SaysLaws.{passes, stops}
@@ -18,32 +17,19 @@ use Rattle.codes.specs.declared.answers.Refusal.{Refusal}
 use Rattle.codes.specs.declared.answers.Refusal.the-variants as refusal
 use Rattle.turns.specs.Consistent.{consistentOf}
 use Rattle.turns.specs.Reads.{readOf}
-use Rattle.turns.specs.declared.ring.Track.{Track}
-use Rattle.ring_store.specs.Calls.{Shown, words, shown}
+use Rattle.ring_store.specs.Types.{Track}
+use Rattle.ring_store.specs.Calls.{words, roomyIn, toldIn}
 
--- both slices are long enough
-abbrev pub Roomy : List ℕ → List ℕ → Bool
-Roomy s r = leb 592 (length s) && leb 512 (length r)
+pub unroomy : (s r : List ℕ) (x : Says) → roomyIn s r ≡ false → shown 10 r ≡ toldIn s r x
+unfolding toldIn
+unroomy s r x e = stops _ _ _ e refl
 
-abbrev pub Shows : ℕ → List ℕ → Shown → Type 0
-Shows answer result x = (answer ≡ x .answer) × (result ≡ x .result)
-
-shows : {x y : Shown} → x ≡ y → Shows (x .answer) (x .result) y
-shows e = (ap (λ (z : Shown). z .answer) e, ap (λ (z : Shown). z .result) e)
-
-abbrev full : List ℕ → Says → Shown
-full r x = record { answer = x .number; result = sets r 0 (words (x .values)) }
-
-pub unroomy : (s r : List ℕ) (x : Says) → Roomy s r ≡ false → Shows 10 r (shown s r x)
-unfolding shown
-unroomy s r x e = shows (stops {x = record { answer = 10; result = r }} (Roomy s r) (full r x) (record { answer = 10; result = r }) e refl)
-
-roomy : (s r : List ℕ) (x y : Says) → Roomy s r ≡ true → x ≡ y → Shows (x .number) (sets r 0 (words (x .values))) (shown s r y)
-unfolding shown
-roomy s r x y e p = shows (passes {x = full r x} (Roomy s r) (full r y) (record { answer = 10; result = r }) e (ap (full r) p))
+roomy : (s r : List ℕ) (x y : Says) → roomyIn s r ≡ true → x ≡ y → shown (x .number) (sets r 0 (words (x .values))) ≡ toldIn s r y
+unfolding toldIn
+roomy s r x y e p = passes _ _ _ e (ap (λ (z : Says). shown (z .number) (sets r 0 (words (z .values)))) p)
 
 -- an answer with no values stores nothing
-pub bare : (s r : List ℕ) (n : ℕ) (x : Says) → Roomy s r ≡ true → says n [] ≡ x → Shows n r (shown s r x)
+pub bare : (s r : List ℕ) (n : ℕ) (x : Says) → roomyIn s r ≡ true → says n [] ≡ x → shown n r ≡ toldIn s r x
 unfolding rowsBytes
 bare s r n x e p = roomy s r (says n []) x e p
 
@@ -57,23 +43,20 @@ unfolding rowsBytes
 words-written [] = refl
 words-written (v ∷ vs) = ap (λ (l : List ℕ). le 8 v ++ l) (words-written vs)
 
-pub tells : (s r n vs : List ℕ) (x : Says) → Roomy s r ≡ true → Stored n r 0 (eights vs) vs → says 0 vs ≡ x → Shows 0 n (shown s r x)
-tells s r n vs x e p q =
-    let h = roomy s r (says 0 vs) x e q in
-    (h .0, stored n r 0 (eights vs) vs p ∙ ap (sets r 0) (words-written vs) ∙ h .1)
+pub tells : (s r n vs : List ℕ) (x : Says) → roomyIn s r ≡ true → Stored n r 0 (eights vs) vs → says 0 vs ≡ x → shown 0 n ≡ toldIn s r x
+tells s r n vs x e p q = ap (shown 0) (stored n r 0 (eights vs) vs p ∙ ap (sets r 0) (words-written vs)) ∙ roomy s r (says 0 vs) x e q
 
 -- ---- from what was told to what is said of the ring
 
-pub told : (s r : List ℕ) (x y : Says) (n : ℕ) (l : List ℕ) → x ≡ y → Shows n l (shown s r x) → Shows n l (shown s r y)
-told s r x y n l e p = (p .0 ∙ ap (λ (z : Says). shown s r z .answer) e, p .1 ∙ ap (λ (z : Says). shown s r z .result) e)
+pub told : (s r : List ℕ) (x y : Says) {l : Shown} → x ≡ y → l ≡ toldIn s r x → l ≡ toldIn s r y
+told s r x y e p = p ∙ ap (toldIn s r) e
 
 -- a value of a track that was read, where it was found sound
-pub read-by : (t u : Track) (sound : Bool) (f : Track → List ℕ) (vs : List ℕ) → t ≡ u → sound ≡ consistentOf t → vs ≡ f t → guard sound (says 0 vs) (says 1 []) ≡ readOf u (f u)
+pub read-by : (t u : Track) (sound : Bool) (f : Track → List ℕ) (vs : List ℕ) → t ≡ u → sound ≡ consistentOf t → vs ≡ f t → guard sound (says 1 []) (says 0 vs) ≡ readOf u (f u)
 read-by t u sound f vs e c p =
-    (λ i. guard (c i) (says 0 (p i)) (says 1 []))
-    ∙ ap (λ (x : Track). readOf x (f x)) e
+    (λ i. guard (c i) (says 1 []) (says 0 (p i))) ∙ ap (λ (x : Track). readOf x (f x)) e
 
-pub read-barred : (t u : Track) (vs ws : List ℕ) → t ≡ u → consistentOf t ≡ false → guard false (says 0 vs) (says 1 []) ≡ readOf u ws
+pub read-barred : (t u : Track) (vs ws : List ℕ) → t ≡ u → consistentOf t ≡ false → guard false (says 1 []) (says 0 vs) ≡ readOf u ws
 unfolding guard
 read-barred t u vs ws e c = stops _ _ _ (ap consistentOf (sym e) ∙ c) refl
 
@@ -91,7 +74,7 @@ refusal-bare refusal.OutOfTurns = refl
 refusal-bare refusal.BadLength = refl
 
 -- one guard for two tests
-pub guards : {A : Type 0} (a b : Bool) (x y : A) → guard (a && b) x y ≡ guard a (guard b x y) y
+pub guards : {A : Type 0} (a b : Bool) (x y : A) → guard (a && b) x y ≡ guard a x (guard b x y)
 unfolding guard
 guards true b x y = refl
 guards false b x y = refl

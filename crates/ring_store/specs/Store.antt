@@ -1,6 +1,6 @@
--- The ring as bytes in its owner's storage: 80 bytes of track, then 32 slots of 16.
+-- The ring as bytes in its owner's storage: the track, then 32 slots. 608 bytes.
 -- Assumes nothing.
-use mathlib.Core.Bool.{not}
+use mathlib.Core.Bool.{Bool, not, _&&_}
 use mathlib.Core.List.{List, [], _∷_, _++_}
 use Prim.Native.Nat.{ℕ, _+_}
 use lib.Dec.{leb, eqb}
@@ -9,25 +9,41 @@ use Rattle.layout.specs.Bytes.{numAt}
 use Rattle.layout.specs.Layout.{write, readAt}
 use Rattle.layout.specs.Rows.{rowsAt, rowsBytes}
 use Rattle.codes.specs.Says.{pick}
-use Rattle.turns.specs.declared.ring.Slot.{Slot}
-use Rattle.turns.specs.declared.ring.Track.{Track}
-use Rattle.turns.specs.declared.ring.Ring.{Ring}
+use Rattle.ring_store.specs.Types.{Slot, Track, Ring}
 
--- per 8, head 8, tail 8, in flight 8, frames' length 8, period 8, next offset 8, budget 8, turns 8, stream 4, running 4
+abbrev pub trackSize : ℕ
+trackSize = 96
+
+abbrev pub slotSize : ℕ
+slotSize = 16
+
+-- of 32 slots
+abbrev pub slotsSize : ℕ
+slotsSize = 512
+
+abbrev pub ringSize : ℕ
+ringSize = 608
+
+-- descriptors of a submission 8, head 8, tail 8, in flight 8, frames' length 8, period 8, next offset 8, budget 8, turns 8, stream 4, running 4,
+-- reserved 8, reserved 8
 abbrev pub trackRow : List ℕ
-trackRow = 8 ∷ 8 ∷ 8 ∷ 8 ∷ 8 ∷ 8 ∷ 8 ∷ 8 ∷ 8 ∷ 4 ∷ 4 ∷ []
+trackRow = 8 ∷ 8 ∷ 8 ∷ 8 ∷ 8 ∷ 8 ∷ 8 ∷ 8 ∷ 8 ∷ 4 ∷ 4 ∷ 8 ∷ 8 ∷ []
 
 abbrev pub trackValues : Track → List ℕ
-trackValues t = t .per ∷ t .head ∷ t .tail ∷ t .held ∷ t .total ∷ t .period ∷ t .next ∷ t .budget ∷ t .turns ∷ t .stream ∷ pick (t .running) 1 0 ∷ []
+trackValues t = t .descriptors ∷ t .head ∷ t .tail ∷ t .inflight ∷ t .total ∷ t .period ∷ t .next ∷ t .budget ∷ t .turns ∷ t .stream ∷ pick (t .running) 1 0 ∷ 0 ∷ 0 ∷ []
 
--- `running` is 0 or 1. A store with another number there reads as a ring of no descriptors a submission, which fails the consistency test
+-- `running` is 0 or 1, and what is reserved is 0. A store with another number there reads as a ring of no descriptors a submission, which fails the
+-- consistency test
+abbrev pub wholeOf : ℕ → ℕ → ℕ → Bool
+wholeOf flag first second = leb flag 1 && (eqb first 0 && eqb second 0)
+
 abbrev pub trackOf : List ℕ → Track
 trackOf vs =
     record {
-      per = pick (leb (getD vs 10 0) 1) (getD vs 0 0) 0;
+      descriptors = pick (wholeOf (getD vs 10 0) (getD vs 11 0) (getD vs 12 0)) (getD vs 0 0) 0;
       head = getD vs 1 0;
       tail = getD vs 2 0;
-      held = getD vs 3 0;
+      inflight = getD vs 3 0;
       total = getD vs 4 0;
       period = getD vs 5 0;
       next = getD vs 6 0;
@@ -52,10 +68,10 @@ slotAt o s = record { offset = numAt o 8 s; len = numAt (o + 8) 8 s }
 
 -- THE RING that a store holds, and the bytes of a ring
 unfoldable pub ringOf : List ℕ → Ring
-ringOf s = record { track = trackAt s; slots = rowsAt slotAt 16 80 32 s }
-
-unfoldable pub ringBytes : Ring → List ℕ
-ringBytes r = write trackRow (trackValues (r .track)) ++ rowsBytes slotBytes (r .slots)
+ringOf s = record { track = trackAt s; slots = rowsAt slotAt slotSize trackSize 32 s }
 
 abbrev pub trackBytes : Track → List ℕ
 trackBytes t = write trackRow (trackValues t)
+
+unfoldable pub ringBytes : Ring → List ℕ
+ringBytes r = trackBytes (r .track) ++ rowsBytes slotBytes (r .slots)

@@ -16,22 +16,18 @@ use Rattle.layout.specs.StoreLaws.{over, sets-but, sets-then}
 use Rattle.layout.specs.ChainLaws.{Got, Stored, got, stored}
 use Rattle.layout.specs.RowsLaws.{length-rows, length-rowsBytes, rows-at, rowsBytes-more, rows-split, rows-with, rows-same}
 use Rattle.codes.specs.SaysLaws.{picks, skips}
-use Rattle.turns.specs.Ring.{blankSlot, newTrack, newRing}
+use Rattle.turns.specs.Ring.{blankSlot, direct, newTrack, newRing}
 use Rattle.turns.specs.Calls.{carry}
-use Rattle.turns.specs.declared.ring.Slot.{Slot}
-use Rattle.turns.specs.declared.ring.Track.{Track}
-use Rattle.turns.specs.declared.ring.Ring.{Ring}
-use Rattle.turns.specs.declared.ring.Sent.{Sent}
-use Rattle.turns.specs.declared.ring.Sent.the-variants.{Nothing, Period}
-use Rattle.ring_store.specs.Store.{trackRow, trackValues, trackOf, trackAt, slotRow, slotBytes, slotAt, ringOf, ringBytes, trackBytes}
-use Rattle.ring_store.specs.Steps.{slotOver, sentOver, blankOver}
+use Rattle.ring_store.specs.Types.{Slot, Track, Ring, Sent, Nothing, Period}
+use Rattle.ring_store.specs.Store.{trackSize, slotSize, slotsSize, trackRow, trackValues, trackOf, trackAt, slotRow, slotBytes, slotAt, ringOf, ringBytes, trackBytes}
+use Rattle.ring_store.specs.Private.{slotOver, sentOver, blankOver}
 
 -- ---- one slot
 
-pub slot-sized : (x : Slot) → length (slotBytes x) ≡ 16
+pub slot-sized : (x : Slot) → length (slotBytes x) ≡ slotSize
 slot-sized x = length-write slotRow (x .offset ∷ x .len ∷ [])
 
-pub slot-same : (o : ℕ) (s : List ℕ) → Bytes s → slotBytes (slotAt o s) ≡ bytesAt o 16 s
+pub slot-same : (o : ℕ) (s : List ℕ) → Bytes s → slotBytes (slotAt o s) ≡ bytesAt o slotSize s
 unfolding slotAt
 slot-same o s b = write-read o slotRow s b
 
@@ -45,33 +41,33 @@ withTrack s t = record { track = t; slots = ringOf s .slots }
 pub track-over : (s : List ℕ) (t : Track) → Bytes s → sets s 0 (trackBytes t) ≡ sets s 0 (ringBytes (withTrack s t))
 unfolding ringOf ringBytes bytesAt le
 track-over s t b =
-    sym (sets-but s 0 512 (trackBytes t))
+    sym (sets-but s 0 slotsSize (trackBytes t))
     ∙ ap (λ (l : List ℕ). sets s 0 (trackBytes t ++ l))
-    (ap (λ (k : ℕ). bytesAt k 512 s) (length-write trackRow (trackValues t)) ∙ sym (rows-same slotAt slotBytes 16 slot-same 80 32 s b))
+    (ap (λ (k : ℕ). bytesAt k slotsSize s) (length-write trackRow (trackValues t)) ∙ sym (rows-same slotAt slotBytes slotSize slot-same trackSize 32 s b))
 
 -- ONE SLOT over an encoded ring
-pub slot-over : (s : List ℕ) (r : Ring) (i : ℕ) (x : Slot) → i < length (r .slots) → sets (sets s 0 (ringBytes r)) (80 + i * 16) (slotBytes x) ≡ sets s 0 (ringBytes (record { track = r .track; slots = set (r .slots) i x }))
+pub slot-over : (s : List ℕ) (r : Ring) (i : ℕ) (x : Slot) → i < length (r .slots) → sets (sets s 0 (ringBytes r)) (trackSize + i * slotSize) (slotBytes x) ≡ sets s 0 (ringBytes (record { track = r .track; slots = set (r .slots) i x }))
 unfolding ringBytes
 slot-over s r i x h =
     let t = trackBytes (r .track) in
     let a = rowsBytes slotBytes (take i (r .slots)) in
     let b = rowsBytes slotBytes (drop (suc i) (r .slots)) in
     let old = slotBytes (getD (r .slots) i blankSlot) in
-    let n : length (t ++ a) ≡ 80 + i * 16 =
-    length-append t a ∙ (λ k. length-write trackRow (trackValues (r .track)) k + (length-rowsBytes slotBytes 16 slot-sized (take i (r .slots)) ∙ ap (λ (m : ℕ). m * 16) (length-take-le i (r .slots) (omega arith))) k) in
-    ap (λ (l : List ℕ). sets (sets s 0 l) (80 + i * 16) (slotBytes x)) (ap (λ (l : List ℕ). t ++ l) (rows-split slotBytes (r .slots) i blankSlot h) ∙ sym (append-assoc t a (old ++ b)))
-    ∙ over s (t ++ a) old (slotBytes x) b (80 + i * 16) n (slot-sized (getD (r .slots) i blankSlot) ∙ sym (slot-sized x))
+    let n : length (t ++ a) ≡ trackSize + i * slotSize =
+    length-append t a ∙ (λ k. length-write trackRow (trackValues (r .track)) k + (length-rowsBytes slotBytes slotSize slot-sized (take i (r .slots)) ∙ ap (λ (m : ℕ). m * slotSize) (length-take-le i (r .slots) (omega arith))) k) in
+    ap (λ (l : List ℕ). sets (sets s 0 l) (trackSize + i * slotSize) (slotBytes x)) (ap (λ (l : List ℕ). t ++ l) (rows-split slotBytes (r .slots) i blankSlot h) ∙ sym (append-assoc t a (old ++ b)))
+    ∙ over s (t ++ a) old (slotBytes x) b (trackSize + i * slotSize) n (slot-sized (getD (r .slots) i blankSlot) ∙ sym (slot-sized x))
     ∙ ap (sets s 0) (append-assoc t a (slotBytes x ++ b) ∙ ap (λ (l : List ℕ). t ++ l) (sym (rows-with slotBytes (r .slots) i x h)))
 
 pub slots-long : (s : List ℕ) → length (ringOf s .slots) ≡ 32
 unfolding ringOf
-slots-long s = length-rows slotAt 16 80 32 s
+slots-long s = length-rows slotAt slotSize trackSize 32 s
 
 slot-sent : (s : List ℕ) (t : Track) (slot : ℕ) (x : Slot) → Bytes s → (small : Bool) → ltb slot 32 ≡ small → slotOver (sets s 0 (trackBytes t)) slot x ≡ sets s 0 (ringBytes (record { track = t; slots = set (ringOf s .slots) slot x }))
 slot-sent s t slot x b true e =
     let h : slot < 32 = ltb-true slot 32 e in
     picks _ _ _ e
-    ∙ ap (λ (l : List ℕ). sets l (80 + slot * 16) (slotBytes x)) (track-over s t b)
+    ∙ ap (λ (l : List ℕ). sets l (trackSize + slot * slotSize) (slotBytes x)) (track-over s t b)
     ∙ slot-over s (withTrack s t) slot x (rw (slots-long s) h)
 slot-sent s t slot x b false e =
     let h : 32 ≤ slot = ltb-false slot 32 e in
@@ -86,22 +82,22 @@ sent-over s t (Period slot offset len) b = slot-sent s t slot (record { offset =
 
 -- ---- for the code
 
--- a track by its eleven reads
-pub track-got : (s vs : List ℕ) → Got s 0 trackRow vs → trackOf vs ≡ trackAt s
+-- a track by its reads
+pub track-got : (s vs : List ℕ) (t : Track) → t ≡ trackOf vs → Got s 0 trackRow vs → t ≡ trackAt s
 unfolding trackAt
-track-got s vs g = ap trackOf (got s 0 trackRow vs g)
+track-got s vs t e g = e ∙ ap trackOf (got s 0 trackRow vs g)
 
 -- a slot by its two stores
-pub slot-stored : (n s : List ℕ) (slot : ℕ) (x : Slot) → slot < 32 → Stored n s (80 + slot * 16) slotRow (x .offset ∷ x .len ∷ []) → n ≡ slotOver s slot x
-slot-stored n s slot x h p = stored n s (80 + slot * 16) slotRow (x .offset ∷ x .len ∷ []) p ∙ sym (picks _ _ _ (lt-ltb slot 32 h))
+pub slot-stored : (n s : List ℕ) (slot : ℕ) (x : Slot) → slot < 32 → Stored n s (trackSize + slot * slotSize) slotRow (x .offset ∷ x .len ∷ []) → n ≡ slotOver s slot x
+slot-stored n s slot x h p = stored n s (trackSize + slot * slotSize) slotRow (x .offset ∷ x .len ∷ []) p ∙ sym (picks _ _ _ (lt-ltb slot 32 h))
 
 pub slot-none : (s : List ℕ) (slot : ℕ) (x : Slot) → 32 ≤ slot → s ≡ slotOver s slot x
 slot-none s slot x h = sym (skips _ _ _ (le-ltb slot 32 h))
 
 -- and by its two reads
-pub slot-got : (s : List ℕ) (slot : ℕ) {offset len : ℕ} → slot < 32 → offset ≡ numAt (80 + slot * 16) 8 s → len ≡ numAt (80 + slot * 16 + 8) 8 s → record { offset = offset; len = len } ≡ getD (ringOf s .slots) slot blankSlot
+pub slot-got : (s : List ℕ) (slot : ℕ) {offset len : ℕ} → slot < 32 → offset ≡ numAt (trackSize + slot * slotSize) 8 s → len ≡ numAt (trackSize + slot * slotSize + 8) 8 s → record { offset = offset; len = len } ≡ getD (ringOf s .slots) slot blankSlot
 unfolding ringOf slotAt
-slot-got s slot h p q = (λ i. record { offset = p i; len = q i }) ∙ sym (rows-at slotAt 16 80 32 slot s blankSlot h)
+slot-got s slot h p q = (λ i. record { offset = p i; len = q i }) ∙ sym (rows-at slotAt slotSize trackSize 32 slot s blankSlot h)
 
 pub slot-out : (s : List ℕ) (slot : ℕ) → 32 ≤ slot → blankSlot ≡ getD (ringOf s .slots) slot blankSlot
 slot-out s slot h = sym (List·getD-eq-default (ringOf s .slots) blankSlot (rw (slots-long s) h))
@@ -110,19 +106,19 @@ slot-out s slot h = sym (List·getD-eq-default (ringOf s .slots) blankSlot (rw (
 abbrev pub blanks : List Slot
 blanks = replicate 32 blankSlot
 
-pub blank-none : (s : List ℕ) → s ≡ sets s 80 (rowsBytes slotBytes (take 0 blanks))
+pub blank-none : (s : List ℕ) → s ≡ sets s trackSize (rowsBytes slotBytes (take 0 blanks))
 unfolding rowsBytes
 blank-none s = refl
 
-pub blank-more : (s s₁ s₂ : List ℕ) (i : ℕ) → i < 32 → s₁ ≡ sets s 80 (rowsBytes slotBytes (take i blanks)) → s₂ ≡ slotOver s₁ i blankSlot → s₂ ≡ sets s 80 (rowsBytes slotBytes (take (i + 1) blanks))
+pub blank-more : (s s₁ s₂ : List ℕ) (i : ℕ) → i < 32 → s₁ ≡ sets s trackSize (rowsBytes slotBytes (take i blanks)) → s₂ ≡ slotOver s₁ i blankSlot → s₂ ≡ sets s trackSize (rowsBytes slotBytes (take (i + 1) blanks))
 blank-more s s₁ s₂ i h e p =
-    rowsBytes-more slotBytes 16 slot-sized s 80 i blanks blankSlot s₁ s₂ h e
-    (p ∙ picks _ _ _ (lt-ltb i 32 h) ∙ ap (λ (x : Slot). sets s₁ (80 + i * 16) (slotBytes x)) (sym (getD-replicate 32 i blankSlot blankSlot h)))
+    rowsBytes-more slotBytes slotSize slot-sized s trackSize i blanks blankSlot s₁ s₂ h e
+    (p ∙ picks _ _ _ (lt-ltb i 32 h) ∙ ap (λ (x : Slot). sets s₁ (trackSize + i * slotSize) (slotBytes x)) (sym (getD-replicate 32 i blankSlot blankSlot h)))
 
-pub blank-all : (s s₁ : List ℕ) (i : ℕ) → i ≡ 32 → s₁ ≡ sets s 80 (rowsBytes slotBytes (take i blanks)) → s₁ ≡ blankOver s
-blank-all s s₁ i z e = e ∙ ap (λ (n : ℕ). sets s 80 (rowsBytes slotBytes (take n blanks))) z
+pub blank-all : (s s₁ : List ℕ) (i : ℕ) → i ≡ 32 → s₁ ≡ sets s trackSize (rowsBytes slotBytes (take i blanks)) → s₁ ≡ blankOver s
+blank-all s s₁ i z e = e ∙ ap (λ (n : ℕ). sets s trackSize (rowsBytes slotBytes (take n blanks))) z
 
 -- a new ring: its track, and then every slot blank
-pub new-over : (s : List ℕ) → blankOver (sets s 0 (trackBytes (newTrack 3))) ≡ sets s 0 (ringBytes (newRing 3))
+pub new-over : (s : List ℕ) → blankOver (sets s 0 (trackBytes (newTrack direct))) ≡ sets s 0 (ringBytes (newRing direct))
 unfolding ringBytes le
-new-over s = sets-then s 0 80 (trackBytes (newTrack 3)) (rowsBytes slotBytes blanks) (sym (length-write trackRow (trackValues (newTrack 3))))
+new-over s = sets-then s 0 trackSize (trackBytes (newTrack direct)) (rowsBytes slotBytes blanks) (sym (length-write trackRow (trackValues (newTrack direct))))

@@ -1,11 +1,13 @@
-// The calls that change a ring in its store. A store under 592 bytes gets 10, and a refusal leaves
-// every byte as it was.
+// The calls that change a ring in its store. A store that is too short gets 10, and a
+// refusal leaves every byte as it was.
 ghost use mathlib.Core.Path.{_≡_};
 ghost use Prim.Native.Nat.{_≤_};
 ghost use lib.ListN.{length};
-ghost use Rattle.turns.specs.Ring.{saysSaid};
+ghost use Rattle.layout.specs.Lent.{made};
+ghost use Rattle.turns.specs.Ring.{saysSaid, isRefused};
+ghost use Rattle.ring_store.specs.Store.{ringSize};
 ghost use Rattle.ring_store.specs.Calls.{newIn, turnIn, drainIn, startIn};
-ghost use Rattle.ring_store.specs.Steps.{changesOf, stepOver};
+ghost use Rattle.ring_store.specs.Private.{stepOver};
 use crate::store;
 use crate::store::SIZE;
 use turns::Reading;
@@ -19,40 +21,41 @@ pub(crate) const BAD_LENGTH: u64 = 10;
 // What a turn says that goes on.
 const GOING: u64 = 512;
 
-// What a turn says where no transfer runs.
-const INVALID_PARAM: u64 = 1;
+// What a call says of a ring that is not consistent, and a turn where no transfer runs.
+pub(crate) const INVALID_PARAM: u64 = 1;
 
 fn number(said: Said) -> u64
     ensures { λ r. ⌜ r ≡ saysSaid said .number ⌝ }
 {
     match said {
         Said::Going => GOING,
-        Said::Ended(answer) => answer.number() as u64,
+        Said::Done => 0,
+        Said::Ended(refusal) => refusal.number() as u64,
         Said::Refused(refusal) => refusal.number() as u64,
     }
 }
 
-// A refusal changes nothing.
-fn changes(said: Said) -> bool
-    ensures { λ r. ⌜ r ≡ changesOf said ⌝ }
+fn is_refused(said: Said) -> bool
+    ensures { λ r. ⌜ r ≡ isRefused said ⌝ }
 {
     match said {
-        Said::Going => true,
-        Said::Ended(_) => true,
-        Said::Refused(_) => false,
+        Said::Going => false,
+        Said::Done => false,
+        Said::Ended(_) => false,
+        Said::Refused(_) => true,
     }
 }
 
-// What a step leaves: the track, and the slot that was filled.
+// What a step leaves: the track, and the slot that was filled. A refusal changes nothing.
 fn leave(ring: &mut [u8], step: Step) -> u64
-    requires { ⌜ 592 ≤ length (now ring) ⌝ }
-    ensures { λ r. ⌜ (r ≡ saysSaid (step .said) .number) × (now (ring .exit) ≡ stepOver (now (ring .entry)) step) ⌝ }
+    requires { ⌜ ringSize ≤ length (now ring) ⌝ }
+    ensures { λ r. ⌜ made r (now (ring .exit)) ≡ stepOver (now (ring .entry)) step ⌝ }
 {
     let said = step.said;
     let sent = step.sent;
     let answer = number(said);
-    let changed = changes(said);
-    if !changed {
+    let refused = is_refused(said);
+    if refused {
         return answer;
     }
     store::put_track(ring, step.track);
@@ -62,7 +65,7 @@ fn leave(ring: &mut [u8], step: Step) -> u64
 
 // A ring that no transfer ran on.
 pub fn new(ring: &mut [u8]) -> u64
-    ensures { λ r. ⌜ (r ≡ newIn (now (ring .entry)) .answer) × (now (ring .exit) ≡ newIn (now (ring .entry)) .ring) ⌝ }
+    ensures { λ r. ⌜ made r (now (ring .exit)) ≡ newIn (now (ring .entry)) ⌝ }
 {
     if ring.len() < SIZE {
         return BAD_LENGTH;
@@ -75,7 +78,7 @@ pub fn new(ring: &mut [u8]) -> u64
 
 // A turn of a transfer, with the length of the frames, and a reading in numbers.
 pub fn turn(ring: &mut [u8], len: usize, kind: u32, slot: u32, status: u32) -> u64
-    ensures { λ r. ⌜ (r ≡ turnIn (now (ring .entry)) len kind slot status .answer) × (now (ring .exit) ≡ turnIn (now (ring .entry)) len kind slot status .ring) ⌝ }
+    ensures { λ r. ⌜ made r (now (ring .exit)) ≡ turnIn (now (ring .entry)) len kind slot status ⌝ }
 {
     if ring.len() < SIZE {
         return BAD_LENGTH;
@@ -91,7 +94,7 @@ pub fn turn(ring: &mut [u8], len: usize, kind: u32, slot: u32, status: u32) -> u
 
 // A drain turn: frees an owed slot, oldest first.
 pub fn drain_turn(ring: &mut [u8], kind: u32, slot: u32, status: u32) -> u64
-    ensures { λ r. ⌜ (r ≡ drainIn (now (ring .entry)) kind slot status .answer) × (now (ring .exit) ≡ drainIn (now (ring .entry)) kind slot status .ring) ⌝ }
+    ensures { λ r. ⌜ made r (now (ring .exit)) ≡ drainIn (now (ring .entry)) kind slot status ⌝ }
 {
     if ring.len() < SIZE {
         return BAD_LENGTH;
@@ -104,7 +107,7 @@ pub fn drain_turn(ring: &mut [u8], kind: u32, slot: u32, status: u32) -> u64
 
 // The start of a transfer of len bytes of frames: nothing is submitted yet.
 pub fn start(ring: &mut [u8], stream: u32, len: usize, period: usize, budget: u64) -> u64
-    ensures { λ r. ⌜ (r ≡ startIn (now (ring .entry)) stream len period budget .answer) × (now (ring .exit) ≡ startIn (now (ring .entry)) stream len period budget .ring) ⌝ }
+    ensures { λ r. ⌜ made r (now (ring .exit)) ≡ startIn (now (ring .entry)) stream len period budget ⌝ }
 {
     if ring.len() < SIZE {
         return BAD_LENGTH;

@@ -1,6 +1,7 @@
 // The ring as bytes in its owner's storage, advanced by place: a turn touches the track, and of the
 // slots only the one that it fills.
 ghost use mathlib.Core.Path.{_≡_};
+ghost use Rattle.ring_store.specs.Store.{ringSize};
 
 mod calls;
 mod reads;
@@ -22,7 +23,7 @@ pub use store::SIZE;
 pub use store::track;
 
 pub fn size() -> u64
-    ensures { λ r. ⌜ r ≡ 592 ⌝ }
+    ensures { λ r. ⌜ r ≡ ringSize ⌝ }
 {
     SIZE as u64
 }

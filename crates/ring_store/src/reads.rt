@@ -1,18 +1,19 @@
 // The calls that look at a ring in its store. What they tell stands in the result slice, 8 bytes a
-// value. A store under 592 bytes, or a result slice under 512, gets 10.
+// value. A store or a result slice that is too short gets 10.
 ghost use mathlib.Core.Path.{_≡_};
 ghost use mathlib.Core.Bool.{_&&_};
 ghost use mathlib.Core.List.{[], _∷_};
-ghost use lib.Dec.{leb, ltb};
-ghost use lib.ListN.{length};
+ghost use lib.Dec.{ltb};
+ghost use Rattle.layout.specs.Lent.{shown};
 ghost use Rattle.codes.specs.Says.{says, guard};
 ghost use Rattle.codes.specs.Answers.{saysRefusal};
 ghost use Rattle.turns.specs.Reads.{runningOf, inFlightOf, freeOf, turnsOf, streamOf, carriedOf};
 ghost use Rattle.turns.specs.Consistent.{consistentOf};
 ghost use Rattle.ring_store.specs.Store.{trackAt, ringOf};
-ghost use Rattle.ring_store.specs.Calls.{shown, offerIn, oldestSays};
+ghost use Rattle.ring_store.specs.Calls.{roomyIn, toldIn, offerIn, oldestSays};
 ghost use Rattle.turns.specs.Calls.{saysSent};
 use crate::calls::BAD_LENGTH;
+use crate::calls::INVALID_PARAM;
 use crate::store;
 use crate::store::SIZE;
 use codes::Refusal;
@@ -22,12 +23,9 @@ use turns::Sent;
 // The bytes that a result slice has at the least.
 const RESULT: usize = 512;
 
-// What a call says of a ring that is not consistent.
-const INVALID_PARAM: u64 = 1;
-
 // Both slices are long enough.
 fn roomy(ring: &[u8], result: &[u8]) -> bool
-    ensures { λ r. ⌜ r ≡ (leb 592 (length (now (ring .entry))) && leb 512 (length (now (result .entry)))) ⌝ }
+    ensures { λ r. ⌜ r ≡ roomyIn (now (ring .entry)) (now (result .entry)) ⌝ }
 {
     if ring.len() < SIZE {
         return false;
@@ -36,7 +34,7 @@ fn roomy(ring: &[u8], result: &[u8]) -> bool
 }
 
 fn tell_refusal(ring: &[u8], refusal: Refusal, result: &mut [u8]) -> u64
-    ensures { λ r. ⌜ (r ≡ shown (now (ring .entry)) (now (result .entry)) (saysRefusal refusal) .answer) × (now (result .exit) ≡ shown (now (ring .entry)) (now (result .entry)) (saysRefusal refusal) .result) ⌝ }
+    ensures { λ r. ⌜ shown r (now (result .exit)) ≡ toldIn (now (ring .entry)) (now (result .entry)) (saysRefusal refusal) ⌝ }
 {
     let room = roomy(ring, result);
     if !room {
@@ -46,7 +44,7 @@ fn tell_refusal(ring: &[u8], refusal: Refusal, result: &mut [u8]) -> u64
 }
 
 fn tell_one(ring: &[u8], sound: bool, value: u64, result: &mut [u8]) -> u64
-    ensures { λ r. ⌜ (r ≡ shown (now (ring .entry)) (now (result .entry)) (guard sound (says 0 (value ∷ [])) (says 1 [])) .answer) × (now (result .exit) ≡ shown (now (ring .entry)) (now (result .entry)) (guard sound (says 0 (value ∷ [])) (says 1 [])) .result) ⌝ }
+    ensures { λ r. ⌜ shown r (now (result .exit)) ≡ toldIn (now (ring .entry)) (now (result .entry)) (guard sound (says 1 []) (says 0 (value ∷ []))) ⌝ }
 {
     let room = roomy(ring, result);
     if !room {
@@ -60,7 +58,7 @@ fn tell_one(ring: &[u8], sound: bool, value: u64, result: &mut [u8]) -> u64
 }
 
 fn tell_two(ring: &[u8], sound: bool, first: u64, second: u64, result: &mut [u8]) -> u64
-    ensures { λ r. ⌜ (r ≡ shown (now (ring .entry)) (now (result .entry)) (guard sound (says 0 (first ∷ second ∷ [])) (says 1 [])) .answer) × (now (result .exit) ≡ shown (now (ring .entry)) (now (result .entry)) (guard sound (says 0 (first ∷ second ∷ [])) (says 1 [])) .result) ⌝ }
+    ensures { λ r. ⌜ shown r (now (result .exit)) ≡ toldIn (now (ring .entry)) (now (result .entry)) (guard sound (says 1 []) (says 0 (first ∷ second ∷ []))) ⌝ }
 {
     let room = roomy(ring, result);
     if !room {
@@ -75,7 +73,7 @@ fn tell_two(ring: &[u8], sound: bool, first: u64, second: u64, result: &mut [u8]
 }
 
 fn tell_four(ring: &[u8], flag: u64, slot: u64, offset: u64, len: u64, result: &mut [u8]) -> u64
-    ensures { λ r. ⌜ (r ≡ shown (now (ring .entry)) (now (result .entry)) (says 0 (flag ∷ slot ∷ offset ∷ len ∷ [])) .answer) × (now (result .exit) ≡ shown (now (ring .entry)) (now (result .entry)) (says 0 (flag ∷ slot ∷ offset ∷ len ∷ [])) .result) ⌝ }
+    ensures { λ r. ⌜ shown r (now (result .exit)) ≡ toldIn (now (ring .entry)) (now (result .entry)) (says 0 (flag ∷ slot ∷ offset ∷ len ∷ [])) ⌝ }
 {
     let room = roomy(ring, result);
     if !room {
@@ -89,7 +87,7 @@ fn tell_four(ring: &[u8], flag: u64, slot: u64, offset: u64, len: u64, result: &
 }
 
 fn tell_sent(ring: &[u8], sent: Sent, result: &mut [u8]) -> u64
-    ensures { λ r. ⌜ (r ≡ shown (now (ring .entry)) (now (result .entry)) (saysSent sent) .answer) × (now (result .exit) ≡ shown (now (ring .entry)) (now (result .entry)) (saysSent sent) .result) ⌝ }
+    ensures { λ r. ⌜ shown r (now (result .exit)) ≡ toldIn (now (ring .entry)) (now (result .entry)) (saysSent sent) ⌝ }
 {
     match sent {
         Sent::Nothing => tell_four(ring, 0, 0, 0, 0, result),
@@ -102,7 +100,7 @@ fn tell_sent(ring: &[u8], sent: Sent, result: &mut [u8]) -> u64
 // What the next turn submits, refused as the turn would be: 1, slot, offset and length, or 0 four
 // times.
 pub fn offered(ring: &[u8], len: usize, result: &mut [u8]) -> u64
-    ensures { λ r. ⌜ (r ≡ offerIn (now (ring .entry)) len (now (result .entry)) .answer) × (now (result .exit) ≡ offerIn (now (ring .entry)) len (now (result .entry)) .result) ⌝ }
+    ensures { λ r. ⌜ shown r (now (result .exit)) ≡ offerIn (now (ring .entry)) len (now (result .entry)) ⌝ }
 {
     if !roomy(ring, result) {
         return BAD_LENGTH;
@@ -117,7 +115,7 @@ pub fn offered(ring: &[u8], len: usize, result: &mut [u8]) -> u64
 
 // 1 where a transfer runs, else 0.
 pub fn running(ring: &[u8], result: &mut [u8]) -> u64
-    ensures { λ r. ⌜ (r ≡ shown (now (ring .entry)) (now (result .entry)) (runningOf (trackAt (now (ring .entry)))) .answer) × (now (result .exit) ≡ shown (now (ring .entry)) (now (result .entry)) (runningOf (trackAt (now (ring .entry)))) .result) ⌝ }
+    ensures { λ r. ⌜ shown r (now (result .exit)) ≡ toldIn (now (ring .entry)) (now (result .entry)) (runningOf (trackAt (now (ring .entry)))) ⌝ }
 {
     let t = store::track(ring);
     let sound = turns::is_consistent(t);
@@ -126,29 +124,29 @@ pub fn running(ring: &[u8], result: &mut [u8]) -> u64
 }
 
 pub fn in_flight(ring: &[u8], result: &mut [u8]) -> u64
-    ensures { λ r. ⌜ (r ≡ shown (now (ring .entry)) (now (result .entry)) (inFlightOf (trackAt (now (ring .entry)))) .answer) × (now (result .exit) ≡ shown (now (ring .entry)) (now (result .entry)) (inFlightOf (trackAt (now (ring .entry)))) .result) ⌝ }
+    ensures { λ r. ⌜ shown r (now (result .exit)) ≡ toldIn (now (ring .entry)) (now (result .entry)) (inFlightOf (trackAt (now (ring .entry)))) ⌝ }
 {
     let t = store::track(ring);
     let sound = turns::is_consistent(t);
-    tell_one(ring, sound, t.held as u64, result)
+    tell_one(ring, sound, t.inflight as u64, result)
 }
 
 // The difference is made only of a consistent ring, where it cannot fall below 0.
 pub fn free_descriptors(ring: &[u8], result: &mut [u8]) -> u64
-    ensures { λ r. ⌜ (r ≡ shown (now (ring .entry)) (now (result .entry)) (freeOf (trackAt (now (ring .entry)))) .answer) × (now (result .exit) ≡ shown (now (ring .entry)) (now (result .entry)) (freeOf (trackAt (now (ring .entry)))) .result) ⌝ }
+    ensures { λ r. ⌜ shown r (now (result .exit)) ≡ toldIn (now (ring .entry)) (now (result .entry)) (freeOf (trackAt (now (ring .entry)))) ⌝ }
 {
     let t = store::track(ring);
     let sound = turns::is_consistent(t);
     if !sound {
         return tell_one(ring, false, 0, result);
     }
-    let free = 32 - t.held * t.per;
+    let free = 32 - t.inflight * t.descriptors;
     tell_one(ring, true, free as u64, result)
 }
 
 // Turns run in the transfer that runs, or in the last one that ran.
 pub fn turns_run(ring: &[u8], result: &mut [u8]) -> u64
-    ensures { λ r. ⌜ (r ≡ shown (now (ring .entry)) (now (result .entry)) (turnsOf (trackAt (now (ring .entry)))) .answer) × (now (result .exit) ≡ shown (now (ring .entry)) (now (result .entry)) (turnsOf (trackAt (now (ring .entry)))) .result) ⌝ }
+    ensures { λ r. ⌜ shown r (now (result .exit)) ≡ toldIn (now (ring .entry)) (now (result .entry)) (turnsOf (trackAt (now (ring .entry)))) ⌝ }
 {
     let t = store::track(ring);
     let sound = turns::is_consistent(t);
@@ -156,7 +154,7 @@ pub fn turns_run(ring: &[u8], result: &mut [u8]) -> u64
 }
 
 pub fn stream(ring: &[u8], result: &mut [u8]) -> u64
-    ensures { λ r. ⌜ (r ≡ shown (now (ring .entry)) (now (result .entry)) (streamOf (trackAt (now (ring .entry)))) .answer) × (now (result .exit) ≡ shown (now (ring .entry)) (now (result .entry)) (streamOf (trackAt (now (ring .entry)))) .result) ⌝ }
+    ensures { λ r. ⌜ shown r (now (result .exit)) ≡ toldIn (now (ring .entry)) (now (result .entry)) (streamOf (trackAt (now (ring .entry)))) ⌝ }
 {
     let t = store::track(ring);
     let sound = turns::is_consistent(t);
@@ -177,20 +175,20 @@ fn is_slot(ring: &[u8], slot: usize) -> bool
 
 // What a slot carries, or carried last: offset and length.
 pub fn carried(ring: &[u8], slot: usize, result: &mut [u8]) -> u64
-    ensures { λ r. ⌜ (r ≡ shown (now (ring .entry)) (now (result .entry)) (carriedOf (ringOf (now (ring .entry))) slot) .answer) × (now (result .exit) ≡ shown (now (ring .entry)) (now (result .entry)) (carriedOf (ringOf (now (ring .entry))) slot) .result) ⌝ }
+    ensures { λ r. ⌜ shown r (now (result .exit)) ≡ toldIn (now (ring .entry)) (now (result .entry)) (carriedOf (ringOf (now (ring .entry))) slot) ⌝ }
 {
     let sound = is_slot(ring, slot);
-    let held = store::get_slot(ring, slot);
-    tell_two(ring, sound, held.offset as u64, held.len as u64, result)
+    let found = store::get_slot(ring, slot);
+    tell_two(ring, sound, found.offset as u64, found.len as u64, result)
 }
 
 // The oldest in flight, which the next completion must name: 1 and its slot, or 0 twice.
 pub fn oldest(ring: &[u8], result: &mut [u8]) -> u64
-    ensures { λ r. ⌜ (r ≡ shown (now (ring .entry)) (now (result .entry)) (oldestSays (trackAt (now (ring .entry)))) .answer) × (now (result .exit) ≡ shown (now (ring .entry)) (now (result .entry)) (oldestSays (trackAt (now (ring .entry)))) .result) ⌝ }
+    ensures { λ r. ⌜ shown r (now (result .exit)) ≡ toldIn (now (ring .entry)) (now (result .entry)) (oldestSays (trackAt (now (ring .entry)))) ⌝ }
 {
     let t = store::track(ring);
     let sound = turns::is_consistent(t);
-    if t.held == 0 {
+    if t.inflight == 0 {
         return tell_two(ring, sound, 0, 0, result);
     }
     tell_two(ring, sound, 1, t.tail as u64, result)

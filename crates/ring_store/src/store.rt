@@ -1,30 +1,54 @@
 // The track and the slots at their places in a store.
 ghost use mathlib.Core.Path.{_≡_};
-ghost use lib.Dec.{leb};
 ghost use Prim.Native.Nat.{_+_, _≤_};
 ghost use mathlib.Core.List.{[], _∷_};
 ghost use lib.ListN.{length, getD};
 ghost use lib.Seq.{sets};
 ghost use Rattle.codes.specs.Says.{pick};
 ghost use Rattle.layout.specs.Bytes.{le, numAt};
-ghost use Rattle.layout.specs.Layout.{write};
 ghost use Rattle.turns.specs.Ring.{blankSlot};
-ghost use Rattle.ring_store.specs.Store.{trackRow, trackValues, trackOf, trackAt, ringOf};
-ghost use Rattle.ring_store.specs.Steps.{slotOver, sentOver, blankOver};
+ghost use Rattle.ring_store.specs.Store.{ringSize, trackBytes, wholeOf, trackOf, trackAt, ringOf};
+ghost use Rattle.ring_store.specs.Private.{slotOver, sentOver, blankOver};
 use layout;
 use turns::Sent;
 use turns::Slot;
 use turns::Track;
 
-// The bytes of a ring.
-pub const SIZE: usize = 592;
+// The bytes of a ring: the track, and then 32 slots.
+pub const SIZE: usize = 608;
 
-// The track's bytes, before the slots.
-const TRACK: usize = 80;
+const TRACK: usize = 96;
 
 const SLOT: usize = 16;
 
 const SLOTS: usize = 32;
+
+// The places of the track's numbers.
+const DESCRIPTORS: usize = 0;
+
+const HEAD: usize = 8;
+
+const TAIL: usize = 16;
+
+const IN_FLIGHT: usize = 24;
+
+const TOTAL: usize = 32;
+
+const PERIOD: usize = 40;
+
+const NEXT: usize = 48;
+
+const BUDGET: usize = 56;
+
+const TURNS: usize = 64;
+
+const STREAM: usize = 72;
+
+const RUNNING: usize = 76;
+
+const RESERVED: usize = 80;
+
+const RESERVED_TOO: usize = 88;
 
 // Numbers that lie within the store.
 fn word(s: &[u8], at: usize) -> u64
@@ -76,12 +100,18 @@ fn put_half(s: &mut [u8], at: usize, v: u32)
     s[at + 3] = bytes[3];
 }
 
-// `running` is 0 or 1. With another number there the store holds no ring: 0 descriptors to a
-// submission fail every test of it.
-fn per_of(flag: u32, per: usize) -> usize
-    ensures { λ r. ⌜ r ≡ pick (leb flag 1) per 0 ⌝ }
+// `running` is 0 or 1, and what is reserved is 0. With another number there the store holds no
+// ring: 0 descriptors to a submission fail every test of it.
+fn descriptors_of(flag: u32, first: u64, second: u64, descriptors: usize) -> usize
+    ensures { λ r. ⌜ r ≡ pick (wholeOf flag first second) descriptors 0 ⌝ }
 {
-    if flag <= 1 { per } else { 0 }
+    if 1 < flag {
+        return 0;
+    }
+    if first != 0 {
+        return 0;
+    }
+    if second == 0 { descriptors } else { 0 }
 }
 
 pub(crate) fn flag_of(running: bool) -> u32
@@ -92,10 +122,10 @@ pub(crate) fn flag_of(running: bool) -> u32
 
 // A track from its numbers, in the store's order.
 fn track_of(
-    per: u64,
+    descriptors: u64,
     head: u64,
     tail: u64,
-    held: u64,
+    inflight: u64,
     total: u64,
     period: u64,
     next: u64,
@@ -103,14 +133,16 @@ fn track_of(
     turns: u64,
     stream: u32,
     flag: u32,
+    first: u64,
+    second: u64,
 ) -> Track
-    ensures { λ r. ⌜ r ≡ trackOf (per ∷ head ∷ tail ∷ held ∷ total ∷ period ∷ next ∷ budget ∷ turns ∷ stream ∷ flag ∷ []) ⌝ }
+    ensures { λ r. ⌜ r ≡ trackOf (descriptors ∷ head ∷ tail ∷ inflight ∷ total ∷ period ∷ next ∷ budget ∷ turns ∷ stream ∷ flag ∷ first ∷ second ∷ []) ⌝ }
 {
     Track {
-        per: per_of(flag, per as usize),
+        descriptors: descriptors_of(flag, first, second, descriptors as usize),
         head: head as usize,
         tail: tail as usize,
-        held: held as usize,
+        inflight: inflight as usize,
         stream,
         total: total as usize,
         period: period as usize,
@@ -126,37 +158,41 @@ pub(crate) fn short_track(ring: &[u8]) -> Track
     ensures { λ r. ⌜ r ≡ trackAt (now (ring .entry)) ⌝ }
 {
     track_of(
-        layout::get_u64(ring, 0),
-        layout::get_u64(ring, 8),
-        layout::get_u64(ring, 16),
-        layout::get_u64(ring, 24),
-        layout::get_u64(ring, 32),
-        layout::get_u64(ring, 40),
-        layout::get_u64(ring, 48),
-        layout::get_u64(ring, 56),
-        layout::get_u64(ring, 64),
-        layout::get_u32(ring, 72),
-        layout::get_u32(ring, 76),
+        layout::get_u64(ring, DESCRIPTORS),
+        layout::get_u64(ring, HEAD),
+        layout::get_u64(ring, TAIL),
+        layout::get_u64(ring, IN_FLIGHT),
+        layout::get_u64(ring, TOTAL),
+        layout::get_u64(ring, PERIOD),
+        layout::get_u64(ring, NEXT),
+        layout::get_u64(ring, BUDGET),
+        layout::get_u64(ring, TURNS),
+        layout::get_u32(ring, STREAM),
+        layout::get_u32(ring, RUNNING),
+        layout::get_u64(ring, RESERVED),
+        layout::get_u64(ring, RESERVED_TOO),
     )
 }
 
 // The same of a store that is long enough, with no test at each field: a turn is made of little else.
 pub(crate) fn get_track(ring: &[u8]) -> Track
-    requires { ⌜ 592 ≤ length (now ring) ⌝ }
+    requires { ⌜ ringSize ≤ length (now ring) ⌝ }
     ensures { λ r. ⌜ r ≡ trackAt (now (ring .entry)) ⌝ }
 {
     track_of(
-        word(ring, 0),
-        word(ring, 8),
-        word(ring, 16),
-        word(ring, 24),
-        word(ring, 32),
-        word(ring, 40),
-        word(ring, 48),
-        word(ring, 56),
-        word(ring, 64),
-        half(ring, 72),
-        half(ring, 76),
+        word(ring, DESCRIPTORS),
+        word(ring, HEAD),
+        word(ring, TAIL),
+        word(ring, IN_FLIGHT),
+        word(ring, TOTAL),
+        word(ring, PERIOD),
+        word(ring, NEXT),
+        word(ring, BUDGET),
+        word(ring, TURNS),
+        half(ring, STREAM),
+        half(ring, RUNNING),
+        word(ring, RESERVED),
+        word(ring, RESERVED_TOO),
     )
 }
 
@@ -172,26 +208,28 @@ pub fn track(ring: &[u8]) -> Track
 
 // A track written over a store's.
 pub(crate) fn put_track(ring: &mut [u8], t: Track)
-    requires { ⌜ 592 ≤ length (now ring) ⌝ }
-    ensures { λ _. ⌜ now (ring .exit) ≡ sets (now (ring .entry)) 0 (write trackRow (trackValues t)) ⌝ }
+    requires { ⌜ ringSize ≤ length (now ring) ⌝ }
+    ensures { λ _. ⌜ now (ring .exit) ≡ sets (now (ring .entry)) 0 (trackBytes t) ⌝ }
 {
     let flag = flag_of(t.running);
-    put_word(ring, 0, t.per as u64);
-    put_word(ring, 8, t.head as u64);
-    put_word(ring, 16, t.tail as u64);
-    put_word(ring, 24, t.held as u64);
-    put_word(ring, 32, t.total as u64);
-    put_word(ring, 40, t.period as u64);
-    put_word(ring, 48, t.next as u64);
-    put_word(ring, 56, t.budget);
-    put_word(ring, 64, t.turns);
-    put_half(ring, 72, t.stream);
-    put_half(ring, 76, flag);
+    put_word(ring, DESCRIPTORS, t.descriptors as u64);
+    put_word(ring, HEAD, t.head as u64);
+    put_word(ring, TAIL, t.tail as u64);
+    put_word(ring, IN_FLIGHT, t.inflight as u64);
+    put_word(ring, TOTAL, t.total as u64);
+    put_word(ring, PERIOD, t.period as u64);
+    put_word(ring, NEXT, t.next as u64);
+    put_word(ring, BUDGET, t.budget);
+    put_word(ring, TURNS, t.turns);
+    put_half(ring, STREAM, t.stream);
+    put_half(ring, RUNNING, flag);
+    put_word(ring, RESERVED, 0);
+    put_word(ring, RESERVED_TOO, 0);
 }
 
 // A slot written over a store's. There are 32: no other is stored.
 fn put_slot(ring: &mut [u8], slot: usize, carried: Slot)
-    requires { ⌜ 592 ≤ length (now ring) ⌝ }
+    requires { ⌜ ringSize ≤ length (now ring) ⌝ }
     ensures { λ _. ⌜ now (ring .exit) ≡ slotOver (now (ring .entry)) slot carried ⌝ }
 {
     if SLOTS <= slot {
@@ -204,7 +242,7 @@ fn put_slot(ring: &mut [u8], slot: usize, carried: Slot)
 
 // What a turn submitted, written in its slot.
 pub(crate) fn put_sent(ring: &mut [u8], sent: Sent)
-    requires { ⌜ 592 ≤ length (now ring) ⌝ }
+    requires { ⌜ ringSize ≤ length (now ring) ⌝ }
     ensures { λ _. ⌜ now (ring .exit) ≡ sentOver (now (ring .entry)) sent ⌝ }
 {
     match sent {
@@ -215,7 +253,7 @@ pub(crate) fn put_sent(ring: &mut [u8], sent: Sent)
 
 // Every slot blank.
 pub(crate) fn put_blanks(ring: &mut [u8])
-    requires { ⌜ 592 ≤ length (now ring) ⌝ }
+    requires { ⌜ ringSize ≤ length (now ring) ⌝ }
     ensures { λ _. ⌜ now (ring .exit) ≡ blankOver (now (ring .entry)) ⌝ }
 {
     let mut i = 0;

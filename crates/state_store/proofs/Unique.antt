@@ -6,7 +6,8 @@ use mathlib.Core.List.{List}
 use Prim.Native.Nat.{ℕ}
 use denote.Ref.{now}
 use Rattle.codes.specs.SaysLaws.{same}
-use Rattle.state_store.specs.Calls.{Told, left, Opened, opened, Made, made, Shown, shown}
+use Rattle.layout.specs.Lent.{Made, made, Shown, shown}
+use Rattle.state_store.specs.Calls.{Told, left, Opened, opened}
 use Rattle.state_store.specs.declared.calls.Opening.{Opening}
 use Rattle.state_store.proofs.calls.size.Reads as size
 use Rattle.state_store.proofs.calls.call.Reads as call
@@ -25,7 +26,7 @@ opened-one : {x : Opened} {a b : Opening} {s t m n : List ℕ} → opened a s m 
 opened-one p q = let e = same p q in (ap (λ (y : Opened). y .opening) e, ap (λ (y : Opened). y .state) e, ap (λ (y : Opened). y .message) e)
 
 made-one : {x : Made} {a b : ℕ} {s t : List ℕ} → made a s ≡ x → made b t ≡ x → (a ≡ b) × (s ≡ t)
-made-one p q = let e = same p q in (ap (λ (y : Made). y .answer) e, ap (λ (y : Made). y .state) e)
+made-one p q = let e = same p q in (ap (λ (y : Made). y .answer) e, ap (λ (y : Made). y .store) e)
 
 shown-one : {x : Shown} {a b : ℕ} {r u : List ℕ} → shown a r ≡ x → shown b u ≡ x → (a ≡ b) × (r ≡ u)
 shown-one p q = let e = same p q in (ap (λ (y : Shown). y .answer) e, ap (λ (y : Shown). y .result) e)

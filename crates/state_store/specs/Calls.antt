@@ -1,5 +1,5 @@
 -- The calls on a state that stands in a lent byte store: the call by value on the state that the store holds, and the state that it leaves, written
--- over it. A store under 14,304 bytes, or a result slice under 512, gets 10 and nothing is looked at.
+-- over it. A store under 14,320 bytes, or a result slice under 512, gets 10 and nothing is looked at.
 -- Assumes nothing.
 use mathlib.Core.Bool.{Bool, _&&_}
 use mathlib.Core.List.{List, [], _∷_, _++_}
@@ -15,18 +15,21 @@ use Rattle.codes.specs.Answers.{saysRefusal}
 use Rattle.codes.specs.declared.answers.Refusal.{Refusal}
 use Rattle.turns.specs.declared.ring.Track.{Track}
 use Rattle.exchange.specs.State.{newSound}
-use Rattle.exchange.specs.Consistent.{consistentOf}
-use Rattle.exchange.specs.Plan.{soundAfter}
-use Rattle.exchange.specs.Exchange.{saysReply, messageAfter, stepOf, callOf, feedOf, failOf}
+use Rattle.core.specs.Consistent.{consistentOf}
+use Rattle.exchange.specs.Tables.{soundAfter}
+use Rattle.core.specs.Reply.{saysReply, messageAfter}
+use Rattle.exchange.specs.Exchange.{stepOf, callOf, feedOf, failOf}
 use Rattle.exchange.specs.Xfer.{xferBy, setUpPlan}
-use Rattle.exchange.specs.declared.state.Call.{Call}
-use Rattle.exchange.specs.declared.state.Counts.{Counts}
-use Rattle.exchange.specs.declared.plan.Value.{Value}
-use Rattle.exchange.specs.declared.plan.Value.the-variants as value
-use Rattle.exchange.specs.declared.plan.Plan.{Plan}
-use Rattle.exchange.specs.declared.calls.Reply.{Reply}
-use Rattle.exchange.specs.declared.calls.Reply.the-variants as reply
+use Rattle.core.specs.declared.state.Call.{Call}
+use Rattle.core.specs.declared.state.Counts.{Counts}
+use Rattle.core.specs.declared.plan.Value.{Value}
+use Rattle.core.specs.declared.plan.Value.the-variants as value
+use Rattle.core.specs.declared.plan.Plan.{Plan}
+use Rattle.core.specs.declared.reply.Reply.{Reply}
+use Rattle.core.specs.declared.reply.Reply.the-variants as reply
 use Rattle.exchange.specs.declared.calls.StreamList.{StreamList}
+use Rattle.state_store.specs.Places.{stateSize}
+use Rattle.layout.specs.Lent.{Made, made, Shown, shown, resultSize}
 use Rattle.state_store.specs.Store.{soundOf, soundBytes, stateAfter}
 use Rattle.state_store.specs.declared.calls.Opening.{Opening}
 use Rattle.state_store.specs.declared.calls.Opening.the-variants.{Says, Open}
@@ -67,19 +70,22 @@ told s p page m r =
     }
 
 abbrev pub tooShort : List ℕ → List ℕ → List ℕ → Told
-tooShort s m r = record { answer = 10; state = s; message = m; result = r }
+tooShort s m r = left 10 s m r
 
 abbrev pub lengths : List ℕ → List ℕ → Bool
-lengths s r = leb 14304 (length s) && leb 512 (length r)
+lengths s r = leb stateSize (length s) && leb resultSize (length r)
 
 unfoldable pub callIn : List ℕ → Track → Call → List ℕ → List ℕ → Told
-callIn s t call m r = guard (lengths s r) (told s (callOf (soundOf s) t call (length m)) [] m r) (tooShort s m r)
+callIn s t call m r = guard (lengths s r) (tooShort s m r)
+    (told s (callOf (soundOf s) t call (length m)) [] m r)
 
 unfoldable pub feedIn : List ℕ → List ℕ → List ℕ → List ℕ → Told
-feedIn s page m r = guard (lengths s r) (told s (feedOf (soundOf s) page (length m)) page m r) (tooShort s m r)
+feedIn s page m r = guard (lengths s r) (tooShort s m r)
+    (told s (feedOf (soundOf s) page (length m)) page m r)
 
 unfoldable pub failIn : List ℕ → List ℕ → List ℕ → Told
-failIn s m r = guard (lengths s r) (told s (failOf (soundOf s) (length m)) [] m r) (tooShort s m r)
+failIn s m r = guard (lengths s r) (tooShort s m r)
+    (told s (failOf (soundOf s) (length m)) [] m r)
 
 -- ---- the start of a transfer, as far as the state goes: an answer, or a transfer by periods that the ring is to start
 
@@ -101,27 +107,15 @@ settingUp s stream m =
 
 unfoldable pub openIn : List ℕ → Track → ℕ → List ℕ → Opened
 openIn s t stream m =
-    xferBy (leb 14304 (length s) && leb 24 (length m)) (soundOf s) t stream (shut s m) (settingUp s stream m)
+    xferBy (leb stateSize (length s) && leb 24 (length m)) (soundOf s) t stream (shut s m) (settingUp s stream m)
     (λ period. record { opening = Open period; state = s; message = m })
 
 -- ---- a new state, and the reads of the configured counts: 1 for a state that fails the consistency test
 
-pub record Made : Type 0 where
-  pub answer : ℕ
-  pub state : List ℕ
-
 abbrev pub newIn : List ℕ → ℕ → ℕ → ℕ → Made
-newIn s jacks streams maps = guard (leb 14304 (length s)) (record { answer = 0; state = sets s 0 (soundBytes (newSound jacks streams maps)) }) (record { answer = 10; state = s })
-
-abbrev pub made : ℕ → List ℕ → Made
-made a s = record { answer = a; state = s }
-
-pub record Shown : Type 0 where
-  pub answer : ℕ
-  pub result : List ℕ
-
-abbrev pub shown : ℕ → List ℕ → Shown
-shown a r = record { answer = a; result = r }
+newIn s jacks streams maps =
+    guard (leb stateSize (length s)) (made 10 s)
+    (made 0 (sets s 0 (soundBytes (newSound jacks streams maps))))
 
 abbrev pub jackCount : Counts → ℕ
 jackCount n = n .jacks
@@ -135,6 +129,6 @@ mapCount n = n .maps
 unfoldable pub countIn : List ℕ → (Counts → ℕ) → List ℕ → Shown
 countIn s count r =
     let c = soundOf s .core in
-    guard (lengths s r)
-    (guard (consistentOf c) (record { answer = 0; result = sets r 0 (le 8 (count (c .counts))) }) (record { answer = 1; result = r }))
-    (record { answer = 10; result = r })
+    guard (lengths s r) (shown 10 r)
+    (guard (consistentOf c) (shown 1 r)
+    (shown 0 (sets r 0 (le 8 (count (c .counts))))))

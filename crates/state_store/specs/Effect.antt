@@ -6,19 +6,19 @@ use lib.Dec.{ltb}
 use lib.Seq.{sets}
 use Rattle.layout.specs.Bytes.{bytesAt}
 use Rattle.codes.specs.Says.{pick}
-use Rattle.tables.specs.Tables.{judged, isGood}
-use Rattle.exchange.specs.declared.state.Counts.{Counts}
-use Rattle.exchange.specs.declared.plan.Effect.{Effect}
-use Rattle.exchange.specs.declared.plan.Effect.the-variants.{Nothing, FillJacks, FillStreams, FillMaps, Store}
+use Rattle.tables.specs.Tables.{fits}
+use Rattle.core.specs.declared.plan.Effect.{Effect}
+use Rattle.core.specs.declared.plan.Effect.the-variants.{Nothing, FillJacks, FillStreams, FillMaps, Store}
+use Rattle.state_store.specs.Places.{headSize, pcmsPlace, mapsPlace, paramsPlace}
 use Rattle.state_store.specs.Store.{paramsBytes}
 
--- n records of a size, from a good page to place o; another page changes nothing
+-- n records of a size, from a page that holds them to place o; another page changes nothing
 unfoldable pub copiedIn : ℕ → ℕ → ℕ → List ℕ → List ℕ → List ℕ
-copiedIn o size n page s = pick (isGood (judged page n size)) (sets s o (bytesAt 4 (n * size) page)) s
+copiedIn o size n page s = pick (fits page n size) (sets s o (bytesAt 4 (n * size) page)) s
 
-abbrev pub effectIn : Effect → Counts → List ℕ → List ℕ → List ℕ
-effectIn Nothing n page s = s
-effectIn FillJacks n page s = copiedIn 48 24 (n .jacks) page s
-effectIn FillStreams n page s = copiedIn 4128 32 (n .streams) page s
-effectIn FillMaps n page s = copiedIn 8192 24 (n .maps) page s
-effectIn (Store stream to) n page s = pick (ltb stream 127) (sets s (12272 + stream * 16) (paramsBytes to)) s
+abbrev pub effectIn : Effect → List ℕ → List ℕ → List ℕ
+effectIn Nothing page s = s
+effectIn (FillJacks n) page s = copiedIn headSize 24 n page s
+effectIn (FillStreams n) page s = copiedIn pcmsPlace 32 n page s
+effectIn (FillMaps n) page s = copiedIn mapsPlace 24 n page s
+effectIn (Store stream to) page s = pick (ltb stream 127) (sets s (paramsPlace + stream * 16) (paramsBytes to)) s

@@ -19,31 +19,28 @@ use Rattle.layout.specs.RowsLaws.{length-rows}
 use Rattle.layout.specs.ChainLaws.{Stored, stored}
 use Rattle.codes.specs.Says.{pick}
 use Rattle.codes.specs.SaysLaws.{picks, skips}
-use Rattle.tables.specs.Tables.{judged, isGood, filled, jackAt, pcmAt, mapAt, jacksRead, streamsRead, mapsRead}
-use Rattle.tables.specs.TablesLaws.{good-whole}
-use Rattle.tables.specs.declared.verdict.Verdict.{Verdict}
+use Rattle.tables.specs.Tables.{fits, filled, jackAt, pcmAt, mapAt, jacksRead, streamsRead, mapsRead}
+use Rattle.tables.specs.TablesLaws.{fits-facts}
 use Rattle.tables.specs.TableLengthLaws.{jacks-length, streams-length, maps-length}
-use Rattle.exchange.specs.Plan.{soundAfter}
-use Rattle.exchange.specs.declared.state.Core.{Core}
-use Rattle.exchange.specs.declared.state.Params.{Params}
-use Rattle.exchange.specs.declared.plan.Effect.{Effect}
-use Rattle.exchange.specs.declared.plan.Effect.the-variants.{Nothing, FillJacks, FillStreams, FillMaps, Store}
+use Rattle.exchange.specs.Tables.{soundAfter}
+use Rattle.core.specs.declared.state.Core.{Core}
+use Rattle.core.specs.declared.state.Params.{Params}
+use Rattle.core.specs.declared.plan.Effect.{Effect}
+use Rattle.core.specs.declared.plan.Effect.the-variants.{Nothing, FillJacks, FillStreams, FillMaps, Store}
+use Rattle.state_store.specs.Places.{headSize, pcmsPlace, mapsPlace, paramsPlace}
 use Rattle.state_store.specs.Store.{headRow, headValues, headOf, paramsRow, paramsBytes, paramsAt, soundOf, soundBytes}
 use Rattle.records.specs.Records.{jackBytes, pcmBytes, mapBytes}
 use Rattle.state_store.specs.TableLaws.{Alike, alike-on, alike-after, table-kept, table-filled, table-set}
 use Rattle.state_store.specs.OverLaws.{headBytes, head-alike, Sized, sized-of, tables-apart, jacksIn, pcmsIn, mapsIn, paramsIn, jack-same, pcm-same, map-same, params-same, params-sized, jacks-kept, pcms-kept, maps-kept, params-kept, kept-from-maps, kept-from-pcms, core-over}
 use Rattle.state_store.specs.Effect.{copiedIn, effectIn}
 
--- ---- a verdict that was tested
+-- ---- a page that holds its records, or not
 
-pub good-told : (page : List ℕ) (n size : ℕ) {v : Verdict} {g : Bool} (t : Bool) → v ≡ judged page n size → g ≡ isGood v → g ≡ t → isGood (judged page n size) ≡ t
-good-told page n size t p q r = sym (q ∙ ap isGood p) ∙ r
-
-pub copied-good : (o size n : ℕ) (page s x : List ℕ) → isGood (judged page n size) ≡ true → x ≡ sets s o (bytesAt 4 (n * size) page) → x ≡ copiedIn o size n page s
+pub copied-held : (o size n : ℕ) (page s x : List ℕ) → fits page n size ≡ true → x ≡ sets s o (bytesAt 4 (n * size) page) → x ≡ copiedIn o size n page s
 unfolding copiedIn
-copied-good o size n page s x g e = e ∙ sym (picks _ _ _ g)
+copied-held o size n page s x g e = e ∙ sym (picks _ _ _ g)
 
-pub copied-not : (o size n : ℕ) (page s : List ℕ) → isGood (judged page n size) ≡ false → s ≡ copiedIn o size n page s
+pub copied-not : (o size n : ℕ) (page s : List ℕ) → fits page n size ≡ false → s ≡ copiedIn o size n page s
 unfolding copiedIn
 copied-not o size n page s g = sym (skips _ _ _ g)
 
@@ -65,9 +62,9 @@ params-stored s s₁ s₂ s₃ s₄ s₅ s₆ s₇ o p e₁ e₂ e₃ e₄ e₅ 
 -- ---- a table that is read from a page, or not, over place, size, reader and writer
 
 -- past the table the store is as it was
-copied-alike : (size o n k : ℕ) (u s page : List ℕ) → Alike o u s → (isGood (judged page k size) ≡ true → k ≤ n) → Alike (o + n * size) (copiedIn o size k page u) s
+copied-alike : (size o n k : ℕ) (u s page : List ℕ) → Alike o u s → (fits page k size ≡ true → k ≤ n) → Alike (o + n * size) (copiedIn o size k page u) s
 unfolding copiedIn
-copied-alike size o n k u s page a few = by (isGood (judged page k size)) few
+copied-alike size o n k u s page a few = by (fits page k size) few
   where
     by : (t : Bool) → (t ≡ true → k ≤ n) → Alike (o + n * size) (pick t (sets u o (bytesAt 4 (k * size) page)) u) s
     by true h =
@@ -76,10 +73,10 @@ copied-alike size o n k u s page a few = by (isGood (judged page k size)) few
     by false h = alike-on o (o + n * size) u s a (omega arith)
 
 module _ {A : Type 0} (f : ℕ → List ℕ → A) (g : A → List ℕ) (size : ℕ) (same : (o : ℕ) (s : List ℕ) → Bytes s → g (f o s) ≡ bytesAt o size s)
-    (o n k : ℕ) (u s page : List ℕ) (b : Bytes s) (p : Bytes page) (a : Alike o u s) (few : isGood (judged page k size) ≡ true → k ≤ n) where
-  table-read : sets u o (rowsBytes g (pick (isGood (judged page k size)) (filled f size page k (rowsAt f size o n s)) (rowsAt f size o n s))) ≡ copiedIn o size k page u
+    (o n k : ℕ) (u s page : List ℕ) (b : Bytes s) (p : Bytes page) (a : Alike o u s) (few : fits page k size ≡ true → k ≤ n) where
+  table-read : sets u o (rowsBytes g (pick (fits page k size) (filled f size page k (rowsAt f size o n s)) (rowsAt f size o n s))) ≡ copiedIn o size k page u
   unfolding copiedIn
-  table-read = by (isGood (judged page k size)) few
+  table-read = by (fits page k size) few
     where
       by : (t : Bool) → (t ≡ true → k ≤ n) → sets u o (rowsBytes g (pick t (filled f size page k (rowsAt f size o n s)) (rowsAt f size o n s))) ≡ pick t (sets u o (bytesAt 4 (k * size) page)) u
       by true h = table-filled f g size same o n u s b a k page p (h refl)
@@ -91,61 +88,58 @@ module _ (s page : List ℕ) (c : Core) (b : Bytes s) (p : Bytes page) where
   abbrev store : List ℕ
   store = sets s 0 (headBytes c)
 
-  -- a good page holds no more records than their table
-  few-24 : (n : ℕ) → isGood (judged page n 24) ≡ true → n ≤ 170
-  few-24 n g = omega (arith, good-whole page n 24 g .fits)
+  -- a page holds no more records than their table
+  few-24 : (n : ℕ) → fits page n 24 ≡ true → n ≤ 170
+  few-24 n g = omega (arith, fits-facts page n 24 g)
 
-  few-32 : (n : ℕ) → isGood (judged page n 32) ≡ true → n ≤ 127
-  few-32 n g = omega (arith, good-whole page n 32 g .fits)
+  few-32 : (n : ℕ) → fits page n 32 ≡ true → n ≤ 127
+  few-32 n g = omega (arith, fits-facts page n 32 g)
 
   -- the tables before the one that changes
-  before-pcms : (m : List ℕ) → sets (sets store 48 (jacksIn s)) 4128 m ≡ sets store 4128 m
-  before-pcms m = ap (λ (l : List ℕ). sets l 4128 m) (jacks-kept s b store (head-alike s c))
+  before-pcms : (m : List ℕ) → sets (sets store headSize (jacksIn s)) pcmsPlace m ≡ sets store pcmsPlace m
+  before-pcms m = ap (λ (l : List ℕ). sets l pcmsPlace m) (jacks-kept s b store (head-alike s c))
 
-  before-maps : (m : List ℕ) → sets (sets (sets store 48 (jacksIn s)) 4128 (pcmsIn s)) 8192 m ≡ sets store 8192 m
+  before-maps : (m : List ℕ) → sets (sets (sets store headSize (jacksIn s)) pcmsPlace (pcmsIn s)) mapsPlace m ≡ sets store mapsPlace m
   before-maps m =
-      ap (λ (l : List ℕ). sets l 8192 m)
-      (before-pcms (pcmsIn s) ∙ pcms-kept s b store (alike-on 48 4128 store s (head-alike s c) (omega arith)))
+      ap (λ (l : List ℕ). sets l mapsPlace m)
+      (before-pcms (pcmsIn s) ∙ pcms-kept s b store (alike-on headSize pcmsPlace store s (head-alike s c) (omega arith)))
 
   before-params : (m : List ℕ)
-      → sets (sets (sets (sets store 48 (jacksIn s)) 4128 (pcmsIn s)) 8192 (mapsIn s)) 12272 m ≡ sets store 12272 m
+      → sets (sets (sets (sets store headSize (jacksIn s)) pcmsPlace (pcmsIn s)) mapsPlace (mapsIn s)) paramsPlace m ≡ sets store paramsPlace m
   before-params m =
-      ap (λ (l : List ℕ). sets l 12272 m)
-      (before-maps (mapsIn s) ∙ maps-kept s b store (alike-on 48 8192 store s (head-alike s c) (omega arith)))
+      ap (λ (l : List ℕ). sets l paramsPlace m)
+      (before-maps (mapsIn s) ∙ maps-kept s b store (alike-on headSize mapsPlace store s (head-alike s c) (omega arith)))
 
-  jacks-over : sets s 0 (soundBytes (soundAfter FillJacks c (soundOf s) page)) ≡ effectIn FillJacks (c .counts) page store
+  jacks-over : (n : ℕ) → sets s 0 (soundBytes (soundAfter (FillJacks n) c (soundOf s) page)) ≡ effectIn (FillJacks n) page store
   unfolding jacksRead soundOf
-  jacks-over =
-      let n = c .counts .jacks in
+  jacks-over n =
       let z = sized-of s c in
-      tables-apart s (soundAfter FillJacks c (soundOf s) page) (record { jacks = jacks-length page n (soundOf s .jacks) (z .jacks); pcms = z .pcms; maps = z .maps })
-      ∙ ap (λ (l : List ℕ). sets (sets (sets l 4128 (pcmsIn s)) 8192 (mapsIn s)) 12272 (paramsIn s))
-      (table-read jackAt jackBytes 24 jack-same 48 170 n store s page b p (head-alike s c) (few-24 n))
-      ∙ kept-from-pcms s b (copiedIn 48 24 n page store) (copied-alike 24 48 170 n store s page (head-alike s c) (few-24 n))
+      tables-apart s (soundAfter (FillJacks n) c (soundOf s) page) (record { jacks = jacks-length page n (soundOf s .jacks) (z .jacks); pcms = z .pcms; maps = z .maps })
+      ∙ ap (λ (l : List ℕ). sets (sets (sets l pcmsPlace (pcmsIn s)) mapsPlace (mapsIn s)) paramsPlace (paramsIn s))
+      (table-read jackAt jackBytes 24 jack-same headSize 170 n store s page b p (head-alike s c) (few-24 n))
+      ∙ kept-from-pcms s b (copiedIn headSize 24 n page store) (copied-alike 24 headSize 170 n store s page (head-alike s c) (few-24 n))
 
-  streams-over : sets s 0 (soundBytes (soundAfter FillStreams c (soundOf s) page)) ≡ effectIn FillStreams (c .counts) page store
+  streams-over : (n : ℕ) → sets s 0 (soundBytes (soundAfter (FillStreams n) c (soundOf s) page)) ≡ effectIn (FillStreams n) page store
   unfolding streamsRead soundOf
-  streams-over =
-      let n = c .counts .streams in
+  streams-over n =
       let z = sized-of s c in
-      let a : Alike 4128 store s = alike-on 48 4128 store s (head-alike s c) (omega arith) in
-      tables-apart s (soundAfter FillStreams c (soundOf s) page) (record { jacks = z .jacks; pcms = streams-length page n (soundOf s .pcms) (z .pcms); maps = z .maps })
-      ∙ ap (λ (l : List ℕ). sets (sets l 8192 (mapsIn s)) 12272 (paramsIn s))
-      (before-pcms (rowsBytes pcmBytes (streamsRead page n (soundOf s .pcms) .at)) ∙ table-read pcmAt pcmBytes 32 pcm-same 4128 127 n store s page b p a (few-32 n))
-      ∙ kept-from-maps s b (copiedIn 4128 32 n page store) (copied-alike 32 4128 127 n store s page a (few-32 n))
+      let a : Alike pcmsPlace store s = alike-on headSize pcmsPlace store s (head-alike s c) (omega arith) in
+      tables-apart s (soundAfter (FillStreams n) c (soundOf s) page) (record { jacks = z .jacks; pcms = streams-length page n (soundOf s .pcms) (z .pcms); maps = z .maps })
+      ∙ ap (λ (l : List ℕ). sets (sets l mapsPlace (mapsIn s)) paramsPlace (paramsIn s))
+      (before-pcms (rowsBytes pcmBytes (streamsRead page n (soundOf s .pcms))) ∙ table-read pcmAt pcmBytes 32 pcm-same pcmsPlace 127 n store s page b p a (few-32 n))
+      ∙ kept-from-maps s b (copiedIn pcmsPlace 32 n page store) (copied-alike 32 pcmsPlace 127 n store s page a (few-32 n))
 
-  maps-over : sets s 0 (soundBytes (soundAfter FillMaps c (soundOf s) page)) ≡ effectIn FillMaps (c .counts) page store
+  maps-over : (n : ℕ) → sets s 0 (soundBytes (soundAfter (FillMaps n) c (soundOf s) page)) ≡ effectIn (FillMaps n) page store
   unfolding mapsRead soundOf
-  maps-over =
-      let n = c .counts .maps in
+  maps-over n =
       let z = sized-of s c in
-      let a : Alike 8192 store s = alike-on 48 8192 store s (head-alike s c) (omega arith) in
-      tables-apart s (soundAfter FillMaps c (soundOf s) page) (record { jacks = z .jacks; pcms = z .pcms; maps = maps-length page n (soundOf s .maps) (z .maps) })
-      ∙ ap (λ (l : List ℕ). sets l 12272 (paramsIn s))
-      (before-maps (rowsBytes mapBytes (mapsRead page n (soundOf s .maps) .at)) ∙ table-read mapAt mapBytes 24 map-same 8192 170 n store s page b p a (few-24 n))
-      ∙ params-kept s b (copiedIn 8192 24 n page store) (copied-alike 24 8192 170 n store s page a (few-24 n))
+      let a : Alike mapsPlace store s = alike-on headSize mapsPlace store s (head-alike s c) (omega arith) in
+      tables-apart s (soundAfter (FillMaps n) c (soundOf s) page) (record { jacks = z .jacks; pcms = z .pcms; maps = maps-length page n (soundOf s .maps) (z .maps) })
+      ∙ ap (λ (l : List ℕ). sets l paramsPlace (paramsIn s))
+      (before-maps (rowsBytes mapBytes (mapsRead page n (soundOf s .maps))) ∙ table-read mapAt mapBytes 24 map-same mapsPlace 170 n store s page b p a (few-24 n))
+      ∙ params-kept s b (copiedIn mapsPlace 24 n page store) (copied-alike 24 mapsPlace 170 n store s page a (few-24 n))
 
-  params-over : (stream : ℕ) (to : Params) → sets s 0 (soundBytes (soundAfter (Store stream to) c (soundOf s) page)) ≡ effectIn (Store stream to) (c .counts) page store
+  params-over : (stream : ℕ) (to : Params) → sets s 0 (soundBytes (soundAfter (Store stream to) c (soundOf s) page)) ≡ effectIn (Store stream to) page store
   unfolding soundOf
   params-over stream to =
       tables-apart s (soundAfter (Store stream to) c (soundOf s) page) (sized-params (sized-of s c))
@@ -155,22 +149,22 @@ module _ (s page : List ℕ) (c : Core) (b : Bytes s) (p : Bytes page) where
       sized-params : Sized (soundAfter Nothing c (soundOf s) []) → Sized (soundAfter (Store stream to) c (soundOf s) page)
       sized-params z = record { jacks = z .jacks; pcms = z .pcms; maps = z .maps }
 
-      a : Alike 12272 store s
-      a = alike-on 48 12272 store s (head-alike s c) (omega arith)
+      a : Alike paramsPlace store s
+      a = alike-on headSize paramsPlace store s (head-alike s c) (omega arith)
 
       by : (t : Bool) → (t ≡ true → stream < 127) → (t ≡ false → 127 ≤ stream)
-          → sets store 12272 (rowsBytes paramsBytes (set (soundOf s .params) stream to)) ≡ pick t (sets store (12272 + stream * 16) (paramsBytes to)) store
-      by true h k = table-set paramsAt paramsBytes 16 params-same 12272 127 store s b a stream to (params-sized to) (h refl)
+          → sets store paramsPlace (rowsBytes paramsBytes (set (soundOf s .params) stream to)) ≡ pick t (sets store (paramsPlace + stream * 16) (paramsBytes to)) store
+      by true h k = table-set paramsAt paramsBytes 16 params-same paramsPlace 127 store s b a stream to (params-sized to) (h refl)
       by false h k =
-          ap (λ (l : List Params). sets store 12272 (rowsBytes paramsBytes l))
-          (set-out (soundOf s .params) stream to (omega (arith, k refl, length-rows paramsAt 16 12272 127 s)))
+          ap (λ (l : List Params). sets store paramsPlace (rowsBytes paramsBytes l))
+          (set-out (soundOf s .params) stream to (omega (arith, k refl, length-rows paramsAt 16 paramsPlace 127 s)))
           ∙ params-kept s b store a
 
 -- THE EFFECT ON THE BYTES is the effect by value: on a store with the plan's core, it leaves the state that `soundAfter` says
 pub effect-over : (s page : List ℕ) (c : Core) (e : Effect) → Bytes s → Bytes page
-    → effectIn e (c .counts) page (sets s 0 (write headRow (headValues (headOf c)))) ≡ sets s 0 (soundBytes (soundAfter e c (soundOf s) page))
+    → effectIn e page (sets s 0 (write headRow (headValues (headOf c)))) ≡ sets s 0 (soundBytes (soundAfter e c (soundOf s) page))
 effect-over s page c Nothing b p = core-over s c b
-effect-over s page c FillJacks b p = sym (jacks-over s page c b p)
-effect-over s page c FillStreams b p = sym (streams-over s page c b p)
-effect-over s page c FillMaps b p = sym (maps-over s page c b p)
+effect-over s page c (FillJacks n) b p = sym (jacks-over s page c b p n)
+effect-over s page c (FillStreams n) b p = sym (streams-over s page c b p n)
+effect-over s page c (FillMaps n) b p = sym (maps-over s page c b p n)
 effect-over s page c (Store stream to) b p = sym (params-over s page c b p stream to)

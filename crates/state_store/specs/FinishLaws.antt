@@ -8,29 +8,36 @@ use native.Mathlib.Omega.{arith}
 use lib.Dec.{leb, eqb}
 use lib.ListN.{length}
 use lib.Seq.{sets}
-use borrow.Author.Tests.{le-leb, leb-true}
+use borrow.Author.Tests.{leb-true}
 use Rattle.layout.specs.Bytes.{Bytes}
 use Rattle.layout.specs.LayoutLaws.{length-write}
 use Rattle.codes.specs.Says.{guard}
 use Rattle.codes.specs.SaysLaws.{picks, skips, passes, stops}
 use Rattle.codes.specs.Answers as answers
-use Rattle.codes.specs.AnswersLaws.{answer-small}
+use Rattle.codes.specs.AnswersLaws.{numbered}
 use Rattle.codes.specs.declared.answers.Refusal.the-variants.{BadLength}
 use Rattle.records.specs.Records.{query, queryValues, remap, remapValues, pcmCommand, pcmCommandValues, setParameters, setParametersValues}
 use Rattle.turns.specs.ConsistentLaws.{both}
 use Rattle.turns.specs.declared.ring.Track.{Track}
 use Rattle.tables.specs.declared.verdict.Verdict.{Verdict}
-use Rattle.tables.specs.declared.verdict.Verdict.the-variants.{Failed}
-use Rattle.exchange.specs.Plan.{keepOf, lookOf, beginOf, answerOf, verdictBy, pendingLook, soundAfter}
-use Rattle.exchange.specs.Exchange.{saysReply, requestBytes, messageAfter, replyOf, tellOf, toldIn, callOf, feedOf, failOf}
-use Rattle.exchange.specs.declared.state.Call.{Call}
-use Rattle.exchange.specs.declared.state.Core.{Core}
-use Rattle.exchange.specs.declared.plan.Request.{Request}
-use Rattle.exchange.specs.declared.plan.Request.the-variants as request
-use Rattle.exchange.specs.declared.plan.Say.{Say}
-use Rattle.exchange.specs.declared.plan.Say.the-variants.{Send, Done, Refused}
-use Rattle.exchange.specs.declared.plan.Effect.{Effect}
-use Rattle.exchange.specs.declared.plan.Plan.{Plan}
+use Rattle.codes.specs.declared.answers.Refusal.the-variants.{QueueFailed}
+use Rattle.tables.specs.declared.verdict.Verdict.the-variants.{Refused}
+use Rattle.core.specs.Plan.{refuseOf, beginOf, answerOf, verdictBy}
+use Rattle.exchange.specs.Tables.{lookOf, pendingLook, soundAfter}
+use Rattle.core.specs.ReplyLaws.{tells-reply, tells-message}
+use Rattle.core.specs.Reply.{saysReply, requestBytes, messageAfter, replyOf, tellOf, toldIn}
+use Rattle.exchange.specs.Exchange.{callOf, feedOf, failOf}
+use Rattle.core.specs.declared.state.Call.{Call}
+use Rattle.core.specs.declared.state.Core.{Core}
+use Rattle.core.specs.declared.plan.Request.{Request}
+use Rattle.core.specs.declared.plan.Request.the-variants as request
+use Rattle.core.specs.declared.plan.Say.{Say}
+use Rattle.core.specs.declared.plan.Say.the-variants.{Send, Done, Refused}
+use Rattle.core.specs.declared.plan.Effect.{Effect}
+use Rattle.core.specs.declared.plan.Look.{Look}
+use Rattle.core.specs.declared.plan.Plan.{Plan}
+use Rattle.state_store.specs.Places.{stateSize}
+use Rattle.layout.specs.Lent.{resultSize}
 use Rattle.state_store.specs.Store.{headAt, coreOf, whole, soundOf, soundBytes}
 use Rattle.state_store.specs.Calls.{Told, left, told, tooShort, lengths, callIn, feedIn, failIn}
 use Rattle.state_store.specs.StoreLaws.{core-at}
@@ -56,27 +63,28 @@ request-small (request.Set q) = omega (arith, length-write setParameters (setPar
 pub reply-small : (a : Say) → saysReply (replyOf a) .number ≤ 280
 reply-small (Send q) = omega (arith, request-small q)
 reply-small (Done v) = omega arith
-reply-small (Refused r) = omega (arith, answer-small (answers.answerOf r))
+reply-small (Refused r) = omega (arith, numbered r .small)
 
 -- what is told in a message that is long enough
 module _ (a : Say) (m : List ℕ) (l : 24 ≤ length m) where
   pub tells : tellOf a (length m) ≡ replyOf a
-  tells = picks _ _ _ (le-leb 24 (length m) l)
+  tells = tells-reply a (length m) l
 
   pub says-in : toldIn a m ≡ messageAfter a m
-  says-in = picks _ _ _ (le-leb 24 (length m) l)
+  says-in = tells-message a m l
 
 -- ---- lengths
 
-pub long-state : (s r : List ℕ) → lengths s r ≡ true → 14304 ≤ length s
-long-state s r e = leb-true 14304 (length s) (both (leb 14304 (length s)) (leb 512 (length r)) e .0)
+pub long-state : (s r : List ℕ) → lengths s r ≡ true → stateSize ≤ length s
+long-state s r e = leb-true stateSize (length s) (both (leb stateSize (length s)) (leb resultSize (length r)) e .0)
 
 pub long-message : (page m : List ℕ) → (eqb (length page) 4096 && leb 24 (length m)) ≡ true → 24 ≤ length m
 long-message page m e = leb-true 24 (length m) (both (eqb (length page) 4096) (leb 24 (length m)) e .1)
 
 -- ---- from the head to the plan
 
-too-short : (s m r : List ℕ) (x : Told) → lengths s r ≡ false → left 10 s m r ≡ guard (lengths s r) x (tooShort s m r)
+too-short : (s m r : List ℕ) (x : Told) → lengths s r ≡ false → left 10 s m r ≡ guard (lengths s r) (tooShort s m r)
+    x
 too-short s m r x e = stops _ _ _ e refl
 
 module _ (s m r : List ℕ) where
@@ -92,7 +100,7 @@ module _ (s m r : List ℕ) where
   unfolding failIn
   fail-unread e = too-short s m r _ e
 
-  short : (page : List ℕ) → Bytes s → left 10 s m r ≡ told s (keepOf (soundOf s .core) BadLength) page m r
+  short : (page : List ℕ) → Bytes s → left 10 s m r ≡ told s (refuseOf (soundOf s .core) BadLength) page m r
   short page b = ap (λ (t : List ℕ). left 10 t m r) (sym (state-kept s m r b (whole s) refl))
 
   module _ (l : lengths s r ≡ true) where
@@ -115,11 +123,11 @@ module _ (s m r : List ℕ) where
       done : (page : List ℕ) {p q : Plan} → p ≡ q → finished w s p page m r ≡ told s q page m r
       done page e = λ i. finished (v i) s (e i) page m r
 
-      pub called : (t : Track) (call : Call) {k : ℕ} {p : Plan} → leb 24 (length m) ≡ true → k ≡ lookOf (soundOf s) call → p ≡ beginOf c t call k → finished w s p [] m r ≡ callIn s t call m r
+      pub called : (t : Track) (call : Call) {k : Look} {p : Plan} → leb 24 (length m) ≡ true → k ≡ lookOf (soundOf s) call → p ≡ beginOf c t call k → finished w s p [] m r ≡ callIn s t call m r
       unfolding callIn callOf
       called t call e k p = passes _ _ _ l (done [] (passes _ _ _ e (p ∙ (λ i. beginOf (at-core i) t call (k i)))))
 
-      pub fed : (page : List ℕ) {x : Verdict} {k : ℕ} {p : Plan} → (eqb (length page) 4096 && leb 24 (length m)) ≡ true → x ≡ verdictBy (c .stage) (c .counts) page
+      pub fed : (page : List ℕ) {x : Verdict} {k : Look} {p : Plan} → (eqb (length page) 4096 && leb 24 (length m)) ≡ true → x ≡ verdictBy (c .stage) (c .counts) page
           → k ≡ pendingLook (c .stage) (soundOf s) → p ≡ answerOf c x k → finished w s p page m r ≡ feedIn s page m r
       unfolding feedIn feedOf
       fed page e x k p =
@@ -127,8 +135,8 @@ module _ (s m r : List ℕ) where
           (done page (passes _ _ _ e (p ∙ (λ i. answerOf c (x i) (k i))
           ∙ ap (λ (z : Core). answerOf z (verdictBy (z .stage) (z .counts) page) (pendingLook (z .stage) (soundOf s))) at-core)))
 
-      pub failed : {k : ℕ} {p : Plan} → leb 24 (length m) ≡ true → k ≡ pendingLook (c .stage) (soundOf s) → p ≡ answerOf c Failed k → finished w s p [] m r ≡ failIn s m r
+      pub failed : {k : Look} {p : Plan} → leb 24 (length m) ≡ true → k ≡ pendingLook (c .stage) (soundOf s) → p ≡ answerOf c (Refused QueueFailed) k → finished w s p [] m r ≡ failIn s m r
       unfolding failIn failOf
       failed e k p =
           passes _ _ _ l
-          (done [] (passes _ _ _ e (p ∙ ap (answerOf c Failed) k ∙ ap (λ (z : Core). answerOf z Failed (pendingLook (z .stage) (soundOf s))) at-core)))
+          (done [] (passes _ _ _ e (p ∙ ap (answerOf c (Refused QueueFailed)) k ∙ ap (λ (z : Core). answerOf z (Refused QueueFailed) (pendingLook (z .stage) (soundOf s))) at-core)))

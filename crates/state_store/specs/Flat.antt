@@ -5,15 +5,15 @@ use mathlib.Core.List.{List, [], _∷_}
 use Prim.Native.Nat.{ℕ}
 use lib.Dec.{eqb}
 use Rattle.codes.specs.Says.{pick}
-use Rattle.exchange.specs.declared.state.Params.{Params}
-use Rattle.exchange.specs.declared.state.Kind.{Kind}
-use Rattle.exchange.specs.declared.state.Kind.the-variants.{Prepare, Release, Start, Stop}
-use Rattle.exchange.specs.declared.state.Field.{Field}
-use Rattle.exchange.specs.declared.state.Field.the-variants.{Rates, Formats, Channels, Features}
-use Rattle.exchange.specs.declared.state.Call.{Call}
-use Rattle.exchange.specs.declared.state.Call.the-variants.{SetParams, Command, Remap, Streams, Supported, Xfer}
-use Rattle.exchange.specs.declared.state.Stage.{Stage}
-use Rattle.exchange.specs.declared.state.Stage.the-variants.{Idle, JacksAsked, StreamsAsked, MapsAsked, Sent}
+use Rattle.core.specs.declared.state.Params.{Params}
+use Rattle.core.specs.declared.state.Kind.{Kind}
+use Rattle.core.specs.declared.state.Kind.the-variants.{Prepare, Release, Start, Stop}
+use Rattle.core.specs.declared.state.Field.{Field}
+use Rattle.core.specs.declared.state.Field.the-variants.{Rates, Formats, Channels, Features}
+use Rattle.core.specs.declared.state.Call.{Call}
+use Rattle.core.specs.declared.state.Call.the-variants.{SetParams, Command, Remap, Streams, Supported, Xfer}
+use Rattle.core.specs.declared.state.Stage.{Stage}
+use Rattle.core.specs.declared.state.Stage.the-variants.{Idle, JacksAsked, StreamsAsked, MapsAsked, Sent}
 use Rattle.state_store.specs.declared.flat.Flat.{Flat}
 
 -- ready 1, stage 1, call 1, part 1, id 4, first 4, second 4, third 4, known 1, channels 1, format 1, rate 1

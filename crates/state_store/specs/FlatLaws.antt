@@ -10,17 +10,17 @@ use borrow.Author.Tests.{eq-eqb, eqb-true}
 use Rattle.codes.specs.Says.{pick}
 use Rattle.codes.specs.SaysLaws.{picks}
 use Rattle.turns.specs.ConsistentLaws.{both}
-use Rattle.exchange.specs.declared.state.Kind.{Kind}
-use Rattle.exchange.specs.declared.state.Kind.the-variants.{Prepare, Release, Start, Stop}
-use Rattle.exchange.specs.declared.state.Field.{Field}
-use Rattle.exchange.specs.declared.state.Field.the-variants.{Rates, Formats, Channels, Features}
-use Rattle.exchange.specs.declared.state.Call.{Call}
-use Rattle.exchange.specs.declared.state.Call.the-variants.{SetParams, Command, Remap, Streams, Supported, Xfer}
-use Rattle.exchange.specs.declared.state.Stage.{Stage}
-use Rattle.exchange.specs.declared.state.Stage.the-variants.{Idle, JacksAsked, StreamsAsked, MapsAsked, Sent}
-use Rattle.exchange.specs.declared.state.Core.{Core}
+use Rattle.core.specs.declared.state.Kind.{Kind}
+use Rattle.core.specs.declared.state.Kind.the-variants.{Prepare, Release, Start, Stop}
+use Rattle.core.specs.declared.state.Field.{Field}
+use Rattle.core.specs.declared.state.Field.the-variants.{Rates, Formats, Channels, Features}
+use Rattle.core.specs.declared.state.Call.{Call}
+use Rattle.core.specs.declared.state.Call.the-variants.{SetParams, Command, Remap, Streams, Supported, Xfer}
+use Rattle.core.specs.declared.state.Stage.{Stage}
+use Rattle.core.specs.declared.state.Stage.the-variants.{Idle, JacksAsked, StreamsAsked, MapsAsked, Sent}
+use Rattle.core.specs.declared.state.Core.{Core}
 use Rattle.state_store.specs.Flat.{flatValues, kindNumber, kindOf, fieldNumber, flatField, callFlat, staged, flatOf, flatCall, flatStage, flatReady, sameFlat, wholeFlat}
-use Rattle.state_store.specs.Store.{headFrom, headOf, coreOf}
+use Rattle.state_store.specs.Store.{wholeHead, headFrom, headOf, coreOf}
 use Rattle.state_store.specs.declared.flat.Flat.{Flat}
 use Rattle.state_store.specs.declared.flat.Head.{Head}
 
@@ -108,10 +108,17 @@ flat-same f e = sym (same-true f (flatOf (flatReady f) (flatStage f)) e)
 
 -- ---- a core and its head
 
+pub head-whole : (c : Core) → wholeHead (headOf c) ≡ true
+head-whole c = ap (λ (t : Bool). t && true) (flat-whole (c .ready) (c .stage))
+
 pub core-back : (c : Core) → coreOf (headOf c) ≡ c
 core-back c =
-    picks _ _ _ (flat-whole (c .ready) (c .stage))
+    picks _ _ _ (head-whole c)
     ∙ (λ i. record { counts = c .counts; read = c .read; ready = flat-ready (c .ready) (c .stage) i; stage = flat-stage (c .ready) (c .stage) i })
 
-pub core-same : (h : Head) → wholeFlat (h .flat) ≡ true → headOf (coreOf h) ≡ h
-core-same h e = ap headOf (picks _ _ _ e) ∙ (λ i. record { counts = h .counts; read = h .read; flat = flat-same (h .flat) e i })
+pub core-same : (h : Head) → wholeHead h ≡ true → headOf (coreOf h) ≡ h
+core-same h e =
+    let a = both (wholeFlat (h .flat)) (eqb (h .reserved) 0 && eqb (h .spare) 0) e in
+    let r = both (eqb (h .reserved) 0) (eqb (h .spare) 0) (a .1) in
+    ap headOf (picks _ _ _ e)
+    ∙ (λ i. record { counts = h .counts; read = h .read; flat = flat-same (h .flat) (a .0) i; reserved = sym (eqb-true (h .reserved) 0 (r .0)) i; spare = sym (eqb-true (h .spare) 0 (r .1)) i })

@@ -11,9 +11,9 @@ use Rattle.layout.specs.Bytes.{le}
 use Rattle.layout.specs.Layout.{write}
 use Rattle.layout.specs.LayoutLaws.{length-write}
 use Rattle.layout.specs.StoreLaws.{sets-then}
-use Rattle.exchange.specs.declared.state.Core.{Core}
+use Rattle.core.specs.declared.state.Core.{Core}
 use Rattle.state_store.specs.Flat.{flatRow, flatValues, flatOf}
-use Rattle.state_store.specs.Store.{headRow, headValues, headOf}
+use Rattle.state_store.specs.Store.{reservedRow, headRow, headValues, headOf}
 use Rattle.state_store.specs.declared.flat.Flat.{Flat}
 use Rattle.state_store.specs.Steps.{countsRow, countsValues}
 
@@ -24,12 +24,15 @@ write-more [] (v ∷ vs) us ts e = absurd (omega arith)
 write-more (w ∷ ws) [] us ts e = absurd (omega arith)
 write-more (w ∷ ws) (v ∷ vs) us ts e = append-assoc (le w v) (write ws vs) (write us ts) ∙ ap (λ (l : List ℕ). le w v ++ l) (write-more ws vs us ts (omega arith))
 
-pub core-runs : (s : List ℕ) (c : Core) {f : Flat} {l m : List ℕ} → f ≡ flatOf (c .ready) (c .stage) → l ≡ sets s 0 (write countsRow (countsValues (c .counts) (c .read)))
-    → m ≡ sets l 24 (write flatRow (flatValues f)) → m ≡ sets s 0 (write headRow (headValues (headOf c)))
-core-runs s c {f} e p q =
+pub core-runs : (s : List ℕ) (c : Core) {f : Flat} {l m n : List ℕ} → f ≡ flatOf (c .ready) (c .stage) → l ≡ sets s 0 (write countsRow (countsValues (c .counts) (c .read)))
+    → m ≡ sets l 24 (write flatRow (flatValues f)) → n ≡ sets m 48 (write reservedRow (0 ∷ 0 ∷ [])) → n ≡ sets s 0 (write headRow (headValues (headOf c)))
+core-runs s c {f} e p q r =
     let vs = countsValues (c .counts) (c .read) in
     let us = flatValues (flatOf (c .ready) (c .stage)) in
-    q
-    ∙ (λ i. sets (p i) 24 (write flatRow (flatValues (e i))))
-    ∙ sets-then s 0 24 (write countsRow vs) (write flatRow us) (sym (zero-add (length (write countsRow vs)) ∙ length-write countsRow vs))
-    ∙ ap (sets s 0) (write-more countsRow vs flatRow us refl)
+    let zs : List ℕ = 0 ∷ 0 ∷ [] in
+    r
+    ∙ (λ i. sets ((q ∙ (λ j. sets (p j) 24 (write flatRow (flatValues (e j))))) i) 48 (write reservedRow zs))
+    ∙ sets-then (sets s 0 (write countsRow vs)) 24 48 (write flatRow us) (write reservedRow zs) (sym (ap (λ (k : ℕ). 24 + k) (length-write flatRow us)))
+    ∙ sets-then s 0 24 (write countsRow vs) (write flatRow us ++ write reservedRow zs) (sym (zero-add (length (write countsRow vs)) ∙ length-write countsRow vs))
+    ∙ ap (λ (l : List ℕ). sets s 0 (write countsRow vs ++ l)) (write-more flatRow us reservedRow zs refl)
+    ∙ ap (sets s 0) (write-more countsRow vs (flatRow ++ reservedRow) (us ++ zs) refl)

@@ -16,7 +16,8 @@ use Rattle.layout.specs.LayoutLaws.{read-fits}
 use Rattle.layout.specs.Rows.{rowsAt, rowsBytes}
 use Rattle.layout.specs.RowsLaws.{length-rows}
 use Rattle.layout.specs.WrittenLaws.{bytes-append, bytes-write, bytes-rows, Again, over-again}
-use Rattle.layout.specs.AllLaws.{AllOk, append-ok, drop-ok, set-ok, replicate-ok, rows-ok}
+use Rattle.layout.specs.All.{All}
+use Rattle.layout.specs.AllLaws.{append-ok, drop-ok, set-ok, replicate-ok, rows-ok}
 use Rattle.codes.specs.Says.{pick, guard}
 use Rattle.codes.specs.SaysLaws.{guarded-by}
 use Rattle.codes.specs.declared.answers.Refusal.{Refusal}
@@ -24,16 +25,18 @@ use Rattle.records.specs.Records.{jackInfo, jackInfoValues, pcmInfo, pcmInfoVal
 use Rattle.records.specs.declared.info.JackInfo.{JackInfo}
 use Rattle.records.specs.declared.info.PcmInfo.{PcmInfo}
 use Rattle.records.specs.declared.info.ChannelMap.{ChannelMap}
-use Rattle.tables.specs.Tables.{judged, isGood, filled, jackAt, pcmAt, mapAt, jacksRead, streamsRead, mapsRead}
+use Rattle.tables.specs.Tables.{fits, isGood, filled, jackAt, pcmAt, mapAt, jacksRead, streamsRead, mapsRead}
 use Rattle.tables.specs.TableLengthLaws.{jacks-length, streams-length, maps-length}
 use Rattle.tables.specs.declared.verdict.Verdict.{Verdict}
 use Rattle.turns.specs.Consistent as ring
 use Rattle.turns.specs.ConsistentLaws.{both}
 use Rattle.turns.specs.declared.ring.Track.{Track}
 use Rattle.turns.specs.declared.ring.Ring.{Ring}
-use Rattle.exchange.specs.State.{unset, newCore, newSound, paramsOf}
-use Rattle.exchange.specs.Consistent.{consistentOf, streamOk}
-use Rattle.exchange.specs.Plan.{effectOf, soundAfter}
+use Rattle.core.specs.State.{unset, newCore}
+use Rattle.exchange.specs.State.{newSound, paramsOf}
+use Rattle.core.specs.Consistent.{consistentOf, streamOk}
+use Rattle.core.specs.Plan.{effectOf}
+use Rattle.exchange.specs.Tables.{soundAfter}
 use Rattle.exchange.specs.Exchange.{stepOf, callOf, feedOf, failOf}
 use Rattle.exchange.specs.Feed.{Feed, paged, failed, planOf, pageOf}
 use Rattle.exchange.specs.Xfer.{xferBy, setUpPlan, startOf}
@@ -41,20 +44,23 @@ use Rattle.exchange.specs.OwnLaws.{picked-by}
 use Rattle.exchange.specs.PlanLaws.{begun, Answered, short, idle, asks-streams, asks-maps, cuts, finishes, ends, fails, fed}
 use Rattle.exchange.specs.StayLaws.{called-quiet}
 use Rattle.exchange.specs.StepLaws.{startBy, started-by}
-use Rattle.exchange.specs.declared.state.Params.{Params}
-use Rattle.exchange.specs.declared.state.Call.{Call}
-use Rattle.exchange.specs.declared.state.Call.the-variants.{SetParams, Command, Remap, Streams, Supported, Xfer}
-use Rattle.exchange.specs.declared.state.Stage.the-variants.{Sent}
-use Rattle.exchange.specs.declared.state.Core.{Core}
+use Rattle.core.specs.declared.state.Params.{Params}
+use Rattle.core.specs.declared.state.Call.{Call}
+use Rattle.core.specs.declared.state.Call.the-variants.{SetParams, Command, Remap, Streams, Supported, Xfer}
+use Rattle.core.specs.declared.state.Stage.the-variants.{Sent}
+use Rattle.core.specs.declared.state.Core.{Core}
 use Rattle.exchange.specs.declared.state.Sound.{Sound}
-use Rattle.exchange.specs.declared.plan.Effect.{Effect}
-use Rattle.exchange.specs.declared.plan.Effect.the-variants.{Nothing, FillJacks, FillStreams, FillMaps, Store}
-use Rattle.exchange.specs.declared.plan.Plan.{Plan}
-use Rattle.exchange.specs.declared.xfer.Gate.{Gate}
-use Rattle.exchange.specs.declared.xfer.Gate.the-variants.{Shut, SetUp, Open}
+use Rattle.core.specs.declared.plan.Effect.{Effect}
+use Rattle.core.specs.declared.plan.Effect.the-variants.{Nothing, FillJacks, FillStreams, FillMaps, Store}
+use Rattle.core.specs.declared.plan.Look.{Look}
+use Rattle.core.specs.declared.plan.Plan.{Plan}
+use Rattle.core.specs.declared.gate.Gate.{Gate}
+use Rattle.core.specs.declared.gate.Gate.the-variants.{Shut, SetUp, Open}
 use Rattle.exchange.specs.declared.xfer.XferStep.{XferStep}
+use Rattle.state_store.specs.Places.{headSize, pcmsPlace, mapsPlace, paramsPlace, stateSize}
 use Rattle.state_store.specs.Store.{whole, paramsRow, paramsAt, soundOf, soundBytes, stateAfter, headRow, headValues, headOf, paramsBytes}
-use Rattle.state_store.specs.Calls.{Told, told, tooShort, lengths, callIn, feedIn, failIn, Opened, openIn, Made, newIn}
+use Rattle.layout.specs.Lent.{Made}
+use Rattle.state_store.specs.Calls.{Told, told, tooShort, lengths, callIn, feedIn, failIn, Opened, openIn, newIn}
 use Rattle.state_store.specs.StoreLaws.{paramsValues, Fits, store-back}
 use Rattle.state_store.specs.OpenLaws.{gateIn, openBy, opens, opened-by}
 use Rattle.state_store.specs.WholeLaws.{FitCall, FitCore, head-fits, store-fits, begun-fits, waits, answered-fits, set-up-fits, new-fits}
@@ -65,7 +71,7 @@ use Rattle.state_store.specs.FinishLaws.{long-state}
 
 -- a table that is read from a page, or not
 read-ok : {A : Type 0} (Ok : A → Type 0) (f : ℕ → List ℕ → A) (size : ℕ) → ((o : ℕ) (s : List ℕ) → Bytes s → Ok (f o s))
-    → (t : Bool) (page : List ℕ) (n : ℕ) (old : List A) → Bytes page → AllOk Ok old → AllOk Ok (pick t (filled f size page n old) old)
+    → (t : Bool) (page : List ℕ) (n : ℕ) (old : List A) → Bytes page → All Ok old → All Ok (pick t (filled f size page n old) old)
 read-ok Ok f size reads true page n old b p = append-ok Ok (rowsAt f size 4 n page) (drop n old) (rows-ok Ok f size reads 4 n page b) (drop-ok Ok n old p)
 read-ok Ok f size reads false page n old b p = p
 
@@ -104,23 +110,23 @@ unfolding soundOf
 sound-fits s b w =
     record {
       core = head-fits (soundOf s .core) (store-fits s b w);
-      jacks = rows-ok JackFits jackAt 24 jack-fits 48 170 s b;
-      pcms = rows-ok PcmFits pcmAt 32 pcm-fits 4128 127 s b;
-      maps = rows-ok MapFits mapAt 24 map-fits 8192 170 s b;
-      params = rows-ok ParamsFit paramsAt 16 params-fit 12272 127 s b;
-      jacks-170 = length-rows jackAt 24 48 170 s;
-      pcms-127 = length-rows pcmAt 32 4128 127 s;
-      maps-170 = length-rows mapAt 24 8192 170 s;
-      params-127 = length-rows paramsAt 16 12272 127 s;
+      jacks = rows-ok JackFits jackAt 24 jack-fits headSize 170 s b;
+      pcms = rows-ok PcmFits pcmAt 32 pcm-fits pcmsPlace 127 s b;
+      maps = rows-ok MapFits mapAt 24 map-fits mapsPlace 170 s b;
+      params = rows-ok ParamsFit paramsAt 16 params-fit paramsPlace 127 s b;
+      jacks-170 = length-rows jackAt 24 headSize 170 s;
+      pcms-127 = length-rows pcmAt 32 pcmsPlace 127 s;
+      maps-170 = length-rows mapAt 24 mapsPlace 170 s;
+      params-127 = length-rows paramsAt 16 paramsPlace 127 s;
     }
 
 -- ---- A PLAN THAT FITS leaves a state that fits
 
 abbrev EffectFits : Effect → Type 0
 EffectFits Nothing = Unit {0}
-EffectFits FillJacks = Unit {0}
-EffectFits FillStreams = Unit {0}
-EffectFits FillMaps = Unit {0}
+EffectFits (FillJacks n) = Unit {0}
+EffectFits (FillStreams n) = Unit {0}
+EffectFits (FillMaps n) = Unit {0}
 EffectFits (Store stream to) = ParamsFit to
 
 abbrev PlanFits : Plan → Type 0
@@ -129,7 +135,7 @@ PlanFits p = FitCore (p .core) × EffectFits (p .effect)
 module _ (c : Core) (k : FitCore c) (x : Sound) (f : Fits x) (page : List ℕ) (b : Bytes page) where
   -- a table, and its length
   abbrev Table : {A : Type 0} → (A → Type 0) → ℕ → List A → Type 0
-  Table Ok n xs = AllOk Ok xs × (length xs ≡ n)
+  Table Ok n xs = All Ok xs × (length xs ≡ n)
 
   tables-fit : (js : List JackInfo) (ps : List PcmInfo) (ms : List ChannelMap) (qs : List Params) → Table JackFits 170 js → Table PcmFits 127 ps → Table MapFits 170 ms → Table ParamsFit 127 qs
       → Fits (record { core = c; jacks = js; pcms = ps; maps = ms; params = qs })
@@ -161,18 +167,15 @@ module _ (c : Core) (k : FitCore c) (x : Sound) (f : Fits x) (page : List ℕ) (
   after-fits : (e : Effect) → EffectFits e → Fits (soundAfter e c x page)
   unfolding jacksRead streamsRead mapsRead
   after-fits Nothing h = tables-fit (x .jacks) (x .pcms) (x .maps) (x .params) jacks pcms maps params
-  after-fits FillJacks h =
-      let n = c .counts .jacks in
+  after-fits (FillJacks n) h =
       tables-fit _ (x .pcms) (x .maps) (x .params)
-      (read-ok JackFits jackAt 24 jack-fits (isGood (judged page n 24)) page n (x .jacks) b (f .jacks), jacks-length page n (x .jacks) (f .jacks-170)) pcms maps params
-  after-fits FillStreams h =
-      let n = c .counts .streams in
+      (read-ok JackFits jackAt 24 jack-fits (fits page n 24) page n (x .jacks) b (f .jacks), jacks-length page n (x .jacks) (f .jacks-170)) pcms maps params
+  after-fits (FillStreams n) h =
       tables-fit (x .jacks) _ (x .maps) (x .params)
-      jacks (read-ok PcmFits pcmAt 32 pcm-fits (isGood (judged page n 32)) page n (x .pcms) b (f .pcms), streams-length page n (x .pcms) (f .pcms-127)) maps params
-  after-fits FillMaps h =
-      let n = c .counts .maps in
+      jacks (read-ok PcmFits pcmAt 32 pcm-fits (fits page n 32) page n (x .pcms) b (f .pcms), streams-length page n (x .pcms) (f .pcms-127)) maps params
+  after-fits (FillMaps n) h =
       tables-fit (x .jacks) (x .pcms) _ (x .params)
-      jacks pcms (read-ok MapFits mapAt 24 map-fits (isGood (judged page n 24)) page n (x .maps) b (f .maps), maps-length page n (x .maps) (f .maps-170)) params
+      jacks pcms (read-ok MapFits mapAt 24 map-fits (fits page n 24) page n (x .maps) b (f .maps), maps-length page n (x .maps) (f .maps-170)) params
   after-fits (Store stream to) h =
       tables-fit (x .jacks) (x .pcms) (x .maps) (set (x .params) stream to)
       jacks pcms maps (set-ok ParamsFit (x .params) stream to (f .params) h, length-set (x .params) stream to ∙ f .params-127)
@@ -191,13 +194,13 @@ effect-fits (Streams direction) k = tt
 effect-fits (Supported field stream) k = tt
 effect-fits (Xfer stream) k = tt
 
-answered-effect : {c : Core} {v : Verdict} {look : ℕ} {long : Bool} {p : Plan} → FitCore c → Answered c v look long p → EffectFits (p .effect)
+answered-effect : {c : Core} {v : Verdict} {look : Look} {long : Bool} {p : Plan} → FitCore c → Answered c v look long p → EffectFits (p .effect)
 answered-effect f (short _) = tt
 answered-effect f (idle _) = tt
-answered-effect {v} f (asks-streams _ _) = picked-by EffectFits (isGood v) FillJacks Nothing (λ _. tt) (λ _. tt)
+answered-effect {v} f (asks-streams _ _) = picked-by EffectFits (isGood v) (FillJacks _) Nothing (λ _. tt) (λ _. tt)
 answered-effect f (asks-maps _ _ _) = tt
 answered-effect f (cuts _ _ _ _ _) = tt
-answered-effect {v} f (finishes _ _ _) = picked-by EffectFits (isGood v) FillMaps Nothing (λ _. tt) (λ _. tt)
+answered-effect {v} f (finishes _ _ _) = picked-by EffectFits (isGood v) (FillMaps _) Nothing (λ _. tt) (λ _. tt)
 answered-effect f (ends {call} _ g _) = effect-fits call (waits (Sent call) f g)
 answered-effect f (fails _ _ _) = tt
 
@@ -210,7 +213,7 @@ no-page k = lit< tt
 barred-keeps : (x : Sound) {p : Plan} (page : List ℕ) → Barred (x .core) p → stepOf p x page .sound ≡ x
 barred-keeps x page k = ap (λ (p : Plan). stepOf p x page .sound) (k .is)
 
-held : (s : List ℕ) → Bytes s → 14304 ≤ length s → (p : Plan) (page : List ℕ) → Bytes page → (whole s ≡ true → PlanFits p) → (whole s ≡ false → stepOf p (soundOf s) page .sound ≡ soundOf s)
+held : (s : List ℕ) → Bytes s → stateSize ≤ length s → (p : Plan) (page : List ℕ) → Bytes page → (whole s ≡ true → PlanFits p) → (whole s ≡ false → stepOf p (soundOf s) page .sound ≡ soundOf s)
     → soundOf (stateAfter s (stepOf p (soundOf s) page .sound)) ≡ stepOf p (soundOf s) page .sound
 held s b h p page c f k =
     let x = stepOf p (soundOf s) page .sound in
@@ -221,7 +224,8 @@ held s b h p page c f k =
 
 module _ (s m r : List ℕ) (b : Bytes s) (l : lengths s r ≡ true) where
   told-holds : (p : Plan) (page : List ℕ) → Bytes page → (whole s ≡ true → PlanFits p) → (whole s ≡ false → Barred (soundOf s .core) p)
-      → soundOf (guard (lengths s r) (told s p page m r) (tooShort s m r) .state) ≡ stepOf p (soundOf s) page .sound
+      → soundOf (guard (lengths s r) (tooShort s m r)
+      (told s p page m r) .state) ≡ stepOf p (soundOf s) page .sound
   told-holds p page c f k =
       guarded-by (λ (x : Told). soundOf (x .state) ≡ stepOf p (soundOf s) page .sound) _ _ _
       (λ _. held s b (long-state s r l) p page c f (λ w. barred-keeps (soundOf s) page (k w))) (λ e. absurd (false≢true (sym e ∙ l)))
@@ -234,7 +238,8 @@ module _ (s m r : List ℕ) (b : Bytes s) (l : lengths s r ≡ true) where
       told-holds (callOf x t call (length m)) [] no-page
       (λ w. (begun-fits (store-fits s b w) k o, subst EffectFits (sym (called-quiet x t call (length m))) tt)) (λ w. begun-barred (x .core) (not-whole s w) o)
 
-  fed-holds : (f : Feed) → Bytes (pageOf f) → soundOf (guard (lengths s r) (told s (planOf (soundOf s) f) (pageOf f) m r) (tooShort s m r) .state) ≡ stepOf (planOf (soundOf s) f) (soundOf s) (pageOf f) .sound
+  fed-holds : (f : Feed) → Bytes (pageOf f) → soundOf (guard (lengths s r) (tooShort s m r)
+      (told s (planOf (soundOf s) f) (pageOf f) m r) .state) ≡ stepOf (planOf (soundOf s) f) (soundOf s) (pageOf f) .sound
   fed-holds f c =
       let x = soundOf s in
       let o = fed x f in
@@ -251,13 +256,15 @@ module _ (s m r : List ℕ) (b : Bytes s) (l : lengths s r ≡ true) where
 -- ---- the start of a transfer
 
 -- set-up is begun only where state and ring passed the test
-set-up-passed : (a b : Bool) (rest : Gate) (x y : Refusal) → SetUp ≡ guard a (guard b rest (Shut x)) (Shut y) → b ≡ true
+set-up-passed : (a b : Bool) (rest : Gate) (x y : Refusal) → SetUp ≡ guard a (Shut y)
+    (guard b (Shut x)
+    rest) → b ≡ true
 unfolding guard
 set-up-passed true true rest x y e = refl
 set-up-passed true false rest x y e = let z : _≡_ {A = ℕ} 0 1 = cc in absurd (omega arith)
 set-up-passed false b rest x y e = let z : _≡_ {A = ℕ} 0 1 = cc in absurd (omega arith)
 
-module _ (s m : List ℕ) (b : Bytes s) (h : 14304 ≤ length s) (r : Ring) (stream : ℕ) (k : stream < 256 ^ 4) where
+module _ (s m : List ℕ) (b : Bytes s) (h : stateSize ≤ length s) (r : Ring) (stream : ℕ) (k : stream < 256 ^ 4) where
   abbrev t : Track
   t = r .track
 
@@ -277,18 +284,18 @@ module _ (s m : List ℕ) (b : Bytes s) (h : 14304 ≤ length s) (r : Ring) (str
   pub open-holds : (len budget : ℕ) → soundOf (openIn s (r .track) stream m .state) ≡ startOf (soundOf s) r stream len budget (length m) .sound
   open-holds len budget =
       let g = gateIn s m t stream in
-      let e : g ≡ xferBy (leb 24 (length m)) x t stream Shut SetUp Open = ap (λ (a : Bool). xferBy (a && leb 24 (length m)) x t stream Shut SetUp Open) (le-leb 14304 (length s) h) in
+      let e : g ≡ xferBy (leb 24 (length m)) x t stream Shut SetUp Open = ap (λ (a : Bool). xferBy (a && leb 24 (length m)) x t stream Shut SetUp Open) (le-leb stateSize (length s) h) in
       ap (λ (o : Opened). soundOf (o .state)) (sym (opens s m t stream g refl))
       ∙ by len budget g refl
       ∙ ap (λ (y : XferStep). y .sound) (started-by x r stream len budget (length m) g e)
 
 -- ---- a new state: its tables are of what is read where no byte stands
 
-pub new-holds : (s : List ℕ) (jacks streams maps : ℕ) → 14304 ≤ length s → jacks < 256 ^ 4 → streams < 256 ^ 4 → maps < 256 ^ 4 → soundOf (newIn s jacks streams maps .state) ≡ newSound jacks streams maps
+pub new-holds : (s : List ℕ) (jacks streams maps : ℕ) → stateSize ≤ length s → jacks < 256 ^ 4 → streams < 256 ^ 4 → maps < 256 ^ 4 → soundOf (newIn s jacks streams maps .store) ≡ newSound jacks streams maps
 unfolding jackAt pcmAt mapAt paramsAt numAt un bytesAt
 new-holds s jacks streams maps h j k m =
-    guarded-by (λ (x : Made). soundOf (x .state) ≡ newSound jacks streams maps) _ _ _
-    (λ _. store-back s (newSound jacks streams maps) fits h) (λ e. absurd (false≢true (sym e ∙ le-leb 14304 (length s) h)))
+    guarded-by (λ (x : Made). soundOf (x .store) ≡ newSound jacks streams maps) _ _ _
+    (λ _. store-back s (newSound jacks streams maps) fits h) (λ e. absurd (false≢true (sym e ∙ le-leb stateSize (length s) h)))
   where
     fits : Fits (newSound jacks streams maps)
     fits =
@@ -343,6 +350,6 @@ module _ (s m r : List ℕ) (b : Bytes s) where
       by SetUp e = after-again _
       by (Open period) e = (b, refl)
 
-pub new-again : (s : List ℕ) → Bytes s → (jacks streams maps : ℕ) → Again s (newIn s jacks streams maps .state)
+pub new-again : (s : List ℕ) → Bytes s → (jacks streams maps : ℕ) → Again s (newIn s jacks streams maps .store)
 new-again s b jacks streams maps =
-    guarded-by (λ (x : Made). Again s (x .state)) _ _ _ (λ _. over-again s (soundBytes (newSound jacks streams maps)) b (bytes-sound (newSound jacks streams maps))) (λ _. (b, refl))
+    guarded-by (λ (x : Made). Again s (x .store)) _ _ _ (λ _. over-again s (soundBytes (newSound jacks streams maps)) b (bytes-sound (newSound jacks streams maps))) (λ _. (b, refl))

@@ -1,4 +1,5 @@
 -- definitions
+pub mod Places
 pub mod Flat
 pub mod Store
 pub mod Calls

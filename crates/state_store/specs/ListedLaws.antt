@@ -20,7 +20,8 @@ use Rattle.exchange.specs.Exchange.{idsFrom, listed}
 use Rattle.exchange.specs.ListLaws.{listed-push, listed-more, length-ids, take-cap}
 use Rattle.exchange.specs.Steps.{pushed}
 use Rattle.exchange.specs.declared.calls.StreamList.{StreamList}
-use Rattle.exchange.specs.declared.plan.Value.the-variants.{Streams}
+use Rattle.core.specs.declared.plan.Value.the-variants.{Streams}
+use Rattle.state_store.specs.Places.{pcmsPlace}
 use Rattle.state_store.specs.Store.{soundOf}
 use Rattle.state_store.specs.Calls.{valueBytes}
 use Rattle.state_store.specs.Steps.{idsIn, Listed}
@@ -40,7 +41,7 @@ listed-bytes d ids = ap (λ (l : List ℕ). le 4 (length ids) ++ rowsBytes (le 4
 
 pub pcms-long : (s : List ℕ) → length (soundOf s .pcms) ≡ 127
 unfolding soundOf
-pcms-long s = length-rows pcmAt 32 4128 127 s
+pcms-long s = length-rows pcmAt 32 pcmsPlace 127 s
 
 pub ids-short : (s : List ℕ) (d n : ℕ) → n ≤ 127 → length (idsIn s d n) ≤ n
 ids-short s d n h = omega (arith, length-ids d 0 (take n (soundOf s .pcms)), length-take-le n (soundOf s .pcms) (omega (arith, pcms-long s)))

@@ -14,11 +14,13 @@ use Rattle.layout.specs.StoreLaws.{sets-then}
 use Rattle.codes.specs.SaysLaws.{passes, stops}
 use Rattle.records.specs.Records.{jackInfoOf, pcmInfoOf, channelMapOf, jackBytes, pcmBytes, mapBytes}
 use Rattle.tables.specs.Tables.{noJacks, noStreams, noMaps}
-use Rattle.exchange.specs.State.{unset, newCore}
-use Rattle.exchange.specs.declared.state.Counts.{Counts}
-use Rattle.exchange.specs.declared.state.Core.{Core}
+use Rattle.core.specs.State.{unset, newCore}
+use Rattle.core.specs.declared.state.Counts.{Counts}
+use Rattle.core.specs.declared.state.Core.{Core}
+use Rattle.state_store.specs.Places.{headSize, stateSize, tablesSize}
 use Rattle.state_store.specs.Store.{paramsBytes, headAt, coreOf, soundBytes}
-use Rattle.state_store.specs.Calls.{lengths, made, newIn, shown, countIn}
+use Rattle.layout.specs.Lent.{made, shown}
+use Rattle.state_store.specs.Calls.{lengths, newIn, countIn}
 use Rattle.state_store.specs.OverLaws.{headBytes, head-sized}
 use Rattle.state_store.specs.StoreLaws.{core-at}
 use Rattle.state_store.specs.Steps.{countBy}
@@ -70,7 +72,7 @@ no-params : paramsBytes unset ≡ zeros 16
 unfolding le zeros
 no-params = refl
 
-no-tables : rowsBytes jackBytes noJacks ++ (rowsBytes pcmBytes noStreams ++ (rowsBytes mapBytes noMaps ++ rowsBytes paramsBytes (replicate 127 unset))) ≡ zeros 14256
+no-tables : rowsBytes jackBytes noJacks ++ (rowsBytes pcmBytes noStreams ++ (rowsBytes mapBytes noMaps ++ rowsBytes paramsBytes (replicate 127 unset))) ≡ zeros tablesSize
 no-tables =
     (λ i. rows-zero jackBytes 24 (jackInfoOf []) no-jack 170 i ++ (rows-zero pcmBytes 32 (pcmInfoOf []) no-stream 127 i
     ++ (rows-zero mapBytes 24 (channelMapOf []) no-map 170 i ++ rows-zero paramsBytes 16 unset no-params 127 i)))
@@ -79,18 +81,18 @@ no-tables =
     ∙ zeros-add 4080 10176
 
 module _ (s : List ℕ) (jacks streams maps : ℕ) where
-  pub new-short : length s < 14304 → made 10 s ≡ newIn s jacks streams maps
-  new-short h = stops _ _ _ (lt-leb 14304 (length s) h) refl
+  pub new-short : length s < stateSize → made 10 s ≡ newIn s jacks streams maps
+  new-short h = stops _ _ _ (lt-leb stateSize (length s) h) refl
 
-  pub new-made : {l m : List ℕ} → 14304 ≤ length s → l ≡ sets s 0 (headBytes (newCore jacks streams maps)) → m ≡ sets l 48 (zeros 14256) → made 0 m ≡ newIn s jacks streams maps
+  pub new-made : {l m : List ℕ} → stateSize ≤ length s → l ≡ sets s 0 (headBytes (newCore jacks streams maps)) → m ≡ sets l headSize (zeros tablesSize) → made 0 m ≡ newIn s jacks streams maps
   unfolding soundBytes
   new-made h e f =
       let b = headBytes (newCore jacks streams maps) in
-      passes _ _ _ (le-leb 14304 (length s) h)
+      passes _ _ _ (le-leb stateSize (length s) h)
       (ap (made 0)
       (f
-      ∙ ap (λ (l : List ℕ). sets l 48 (zeros 14256)) e
-      ∙ sets-then s 0 48 b (zeros 14256) (sym (zero-add (length b) ∙ head-sized (newCore jacks streams maps)))
+      ∙ ap (λ (l : List ℕ). sets l headSize (zeros tablesSize)) e
+      ∙ sets-then s 0 headSize b (zeros tablesSize) (sym (zero-add (length b) ∙ head-sized (newCore jacks streams maps)))
       ∙ ap (λ (l : List ℕ). sets s 0 (b ++ l)) (sym no-tables)))
 
 -- ---- the configured counts

@@ -13,13 +13,15 @@ use Rattle.codes.specs.declared.answers.Refusal.the-variants.{BadLength}
 use Rattle.turns.specs.ConsistentLaws.{both}
 use Rattle.turns.specs.declared.ring.Track.{Track}
 use Rattle.exchange.specs.State.{paramsOf}
-use Rattle.exchange.specs.Xfer.{gateBy, xferBy}
+use Rattle.core.specs.Gate.{gateBy}
+use Rattle.exchange.specs.Xfer.{xferBy}
 use Rattle.exchange.specs.StepLaws as step
-use Rattle.exchange.specs.declared.state.Params.{Params}
-use Rattle.exchange.specs.declared.state.Core.{Core}
-use Rattle.exchange.specs.declared.xfer.Gate.{Gate}
-use Rattle.exchange.specs.declared.xfer.Gate.the-variants.{Shut, SetUp}
-use Rattle.exchange.specs.declared.xfer.Gate.the-variants as gate
+use Rattle.core.specs.declared.state.Params.{Params}
+use Rattle.core.specs.declared.state.Core.{Core}
+use Rattle.core.specs.declared.gate.Gate.{Gate}
+use Rattle.core.specs.declared.gate.Gate.the-variants.{Shut, SetUp}
+use Rattle.core.specs.declared.gate.Gate.the-variants as gate
+use Rattle.state_store.specs.Places.{headSize, stateSize}
 use Rattle.state_store.specs.Store.{headAt, coreOf, soundOf}
 use Rattle.state_store.specs.Calls.{Opened, opened, shut, settingUp, openIn}
 use Rattle.state_store.specs.StoreLaws.{core-at}
@@ -27,7 +29,7 @@ use Rattle.state_store.specs.declared.calls.Opening.the-variants.{Open}
 
 module _ (s m : List ℕ) (t : Track) (stream : ℕ) where
   abbrev long : Bool
-  long = leb 14304 (length s) && leb 24 (length m)
+  long = leb stateSize (length s) && leb 24 (length m)
 
   abbrev pub gateIn : Gate
   gateIn = xferBy long (soundOf s) t stream Shut SetUp gate.Open
@@ -39,14 +41,14 @@ module _ (s m : List ℕ) (t : Track) (stream : ℕ) where
   pub shut-short : long ≡ false → Shut BadLength ≡ gateIn
   shut-short e = stops _ _ _ e refl
 
-  pub long-head : long ≡ true → 48 ≤ length s
-  long-head e = omega (arith, leb-true 14304 (length s) (both (leb 14304 (length s)) (leb 24 (length m)) e .0))
+  pub long-head : long ≡ true → headSize ≤ length s
+  long-head e = omega (arith, leb-true stateSize (length s) (both (leb stateSize (length s)) (leb 24 (length m)) e .0))
 
   -- set-up is begun only where the lengths are right
-  pub set-up-long : SetUp ≡ gateIn → (14304 ≤ length s) × (24 ≤ length m)
+  pub set-up-long : SetUp ≡ gateIn → (stateSize ≤ length s) × (24 ≤ length m)
   set-up-long e =
-      let h = both (leb 14304 (length s)) (leb 24 (length m)) (step.set-up-long long (soundOf s) t stream e) in
-      (leb-true 14304 (length s) (h .0), leb-true 24 (length m) (h .1))
+      let h = both (leb stateSize (length s)) (leb 24 (length m)) (step.set-up-long long (soundOf s) t stream e) in
+      (leb-true stateSize (length s) (h .0), leb-true 24 (length m) (h .1))
 
   abbrev pub openBy : Gate → Opened
   openBy (Shut x) = shut s m x

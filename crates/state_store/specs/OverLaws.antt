@@ -18,11 +18,12 @@ use Rattle.records.specs.declared.info.JackInfo.{JackInfo}
 use Rattle.records.specs.declared.info.PcmInfo.{PcmInfo}
 use Rattle.records.specs.declared.info.ChannelMap.{ChannelMap}
 use Rattle.tables.specs.Tables.{jackAt, pcmAt, mapAt}
-use Rattle.exchange.specs.declared.state.Params.{Params}
-use Rattle.exchange.specs.declared.state.Core.{Core}
+use Rattle.core.specs.declared.state.Params.{Params}
+use Rattle.core.specs.declared.state.Core.{Core}
 use Rattle.exchange.specs.declared.state.Sound.{Sound}
-use Rattle.exchange.specs.Plan.{soundAfter}
-use Rattle.exchange.specs.declared.plan.Effect.the-variants.{Nothing}
+use Rattle.exchange.specs.Tables.{soundAfter}
+use Rattle.core.specs.declared.plan.Effect.the-variants.{Nothing}
+use Rattle.state_store.specs.Places.{headSize, pcmsPlace, mapsPlace, paramsPlace}
 use Rattle.state_store.specs.Store.{headRow, headValues, headOf, paramsRow, paramsBytes, paramsAt, soundOf, soundBytes}
 use Rattle.state_store.specs.TableLaws.{Alike, alike-self, alike-on, alike-after, table-kept}
 
@@ -61,12 +62,12 @@ params-same o s b = simp towards-numerals at (write-read o paramsRow s b)
 abbrev pub headBytes : Core → List ℕ
 headBytes c = write headRow (headValues (headOf c))
 
-pub head-sized : (c : Core) → length (headBytes c) ≡ 48
+pub head-sized : (c : Core) → length (headBytes c) ≡ headSize
 head-sized c = length-write headRow (headValues (headOf c))
 
 -- a store with the core new, from the tables on
-pub head-alike : (s : List ℕ) (c : Core) → Alike 48 (sets s 0 (headBytes c)) s
-head-alike s c = alike-after 0 0 48 s s (headBytes c) (alike-self 0 s) (omega arith) (omega (arith, head-sized c))
+pub head-alike : (s : List ℕ) (c : Core) → Alike headSize (sets s 0 (headBytes c)) s
+head-alike s c = alike-after 0 0 headSize s s (headBytes c) (alike-self 0 s) (omega arith) (omega (arith, head-sized c))
 
 -- ---- a state with tables of the right lengths is written core first, then each table at its place
 
@@ -76,7 +77,7 @@ pub record Sized (x : Sound) : Type 0 where
   pub maps : length (x .maps) ≡ 170
 
 pub tables-apart : (s : List ℕ) (x : Sound) → Sized x
-    → sets s 0 (soundBytes x) ≡ sets (sets (sets (sets (sets s 0 (headBytes (x .core))) 48 (rowsBytes jackBytes (x .jacks))) 4128 (rowsBytes pcmBytes (x .pcms))) 8192 (rowsBytes mapBytes (x .maps))) 12272 (rowsBytes paramsBytes (x .params))
+    → sets s 0 (soundBytes x) ≡ sets (sets (sets (sets (sets s 0 (headBytes (x .core))) headSize (rowsBytes jackBytes (x .jacks))) pcmsPlace (rowsBytes pcmBytes (x .pcms))) mapsPlace (rowsBytes mapBytes (x .maps))) paramsPlace (rowsBytes paramsBytes (x .params))
 unfolding soundBytes
 tables-apart s x z =
     let h = headBytes (x .core) in
@@ -89,14 +90,14 @@ tables-apart s x z =
     let lm : length m ≡ 4080 = length-rowsBytes mapBytes 24 map-sized (x .maps) ∙ ap (λ (k : ℕ). k * 24) (z .maps) in
     let t = sets s 0 h in
     sym
-    (sets-then (sets (sets t 48 j) 4128 p) 8192 12272 m q (sym (ap (λ (k : ℕ). 8192 + k) lm))
-    ∙ sets-then (sets t 48 j) 4128 8192 p (m ++ q) (sym (ap (λ (k : ℕ). 4128 + k) lp))
-    ∙ sets-then t 48 4128 j (p ++ (m ++ q)) (sym (ap (λ (k : ℕ). 48 + k) lj))
-    ∙ sets-then s 0 48 h (j ++ (p ++ (m ++ q))) (sym (ap (λ (k : ℕ). 0 + k) (head-sized (x .core)))))
+    (sets-then (sets (sets t headSize j) pcmsPlace p) mapsPlace paramsPlace m q (sym (ap (λ (k : ℕ). mapsPlace + k) lm))
+    ∙ sets-then (sets t headSize j) pcmsPlace mapsPlace p (m ++ q) (sym (ap (λ (k : ℕ). pcmsPlace + k) lp))
+    ∙ sets-then t headSize pcmsPlace j (p ++ (m ++ q)) (sym (ap (λ (k : ℕ). headSize + k) lj))
+    ∙ sets-then s 0 headSize h (j ++ (p ++ (m ++ q))) (sym (ap (λ (k : ℕ). 0 + k) (head-sized (x .core)))))
 
 pub sized-of : (s : List ℕ) (c : Core) → Sized (soundAfter Nothing c (soundOf s) [])
 unfolding soundOf
-sized-of s c = record { jacks = length-rows jackAt 24 48 170 s; pcms = length-rows pcmAt 32 4128 127 s; maps = length-rows mapAt 24 8192 170 s }
+sized-of s c = record { jacks = length-rows jackAt 24 headSize 170 s; pcms = length-rows pcmAt 32 pcmsPlace 127 s; maps = length-rows mapAt 24 mapsPlace 170 s }
 
 -- ---- each table of the store as it was, and all from one place on
 
@@ -113,39 +114,39 @@ abbrev pub paramsIn : List ℕ → List ℕ
 paramsIn s = rowsBytes paramsBytes (soundOf s .params)
 
 module _ (s : List ℕ) (b : Bytes s) (u : List ℕ) where
-  pub jacks-kept : Alike 48 u s → sets u 48 (jacksIn s) ≡ u
+  pub jacks-kept : Alike headSize u s → sets u headSize (jacksIn s) ≡ u
   unfolding soundOf
-  jacks-kept = table-kept jackAt jackBytes 24 jack-same 48 170 u s b
+  jacks-kept = table-kept jackAt jackBytes 24 jack-same headSize 170 u s b
 
-  pub pcms-kept : Alike 4128 u s → sets u 4128 (pcmsIn s) ≡ u
+  pub pcms-kept : Alike pcmsPlace u s → sets u pcmsPlace (pcmsIn s) ≡ u
   unfolding soundOf
-  pcms-kept = table-kept pcmAt pcmBytes 32 pcm-same 4128 127 u s b
+  pcms-kept = table-kept pcmAt pcmBytes 32 pcm-same pcmsPlace 127 u s b
 
-  pub maps-kept : Alike 8192 u s → sets u 8192 (mapsIn s) ≡ u
+  pub maps-kept : Alike mapsPlace u s → sets u mapsPlace (mapsIn s) ≡ u
   unfolding soundOf
-  maps-kept = table-kept mapAt mapBytes 24 map-same 8192 170 u s b
+  maps-kept = table-kept mapAt mapBytes 24 map-same mapsPlace 170 u s b
 
-  pub params-kept : Alike 12272 u s → sets u 12272 (paramsIn s) ≡ u
+  pub params-kept : Alike paramsPlace u s → sets u paramsPlace (paramsIn s) ≡ u
   unfolding soundOf
-  params-kept = table-kept paramsAt paramsBytes 16 params-same 12272 127 u s b
+  params-kept = table-kept paramsAt paramsBytes 16 params-same paramsPlace 127 u s b
 
-  pub kept-from-maps : Alike 8192 u s → sets (sets u 8192 (mapsIn s)) 12272 (paramsIn s) ≡ u
+  pub kept-from-maps : Alike mapsPlace u s → sets (sets u mapsPlace (mapsIn s)) paramsPlace (paramsIn s) ≡ u
   kept-from-maps a =
-      ap (λ (l : List ℕ). sets l 12272 (paramsIn s)) (maps-kept a)
-      ∙ params-kept (alike-on 8192 12272 u s a (omega arith))
+      ap (λ (l : List ℕ). sets l paramsPlace (paramsIn s)) (maps-kept a)
+      ∙ params-kept (alike-on mapsPlace paramsPlace u s a (omega arith))
 
-  pub kept-from-pcms : Alike 4128 u s
-      → sets (sets (sets u 4128 (pcmsIn s)) 8192 (mapsIn s)) 12272 (paramsIn s) ≡ u
+  pub kept-from-pcms : Alike pcmsPlace u s
+      → sets (sets (sets u pcmsPlace (pcmsIn s)) mapsPlace (mapsIn s)) paramsPlace (paramsIn s) ≡ u
   kept-from-pcms a =
-      ap (λ (l : List ℕ). sets (sets l 8192 (mapsIn s)) 12272 (paramsIn s)) (pcms-kept a)
-      ∙ kept-from-maps (alike-on 4128 8192 u s a (omega arith))
+      ap (λ (l : List ℕ). sets (sets l mapsPlace (mapsIn s)) paramsPlace (paramsIn s)) (pcms-kept a)
+      ∙ kept-from-maps (alike-on pcmsPlace mapsPlace u s a (omega arith))
 
-  pub kept-from-jacks : Alike 48 u s
-      → sets (sets (sets (sets u 48 (jacksIn s)) 4128 (pcmsIn s)) 8192 (mapsIn s)) 12272 (paramsIn s) ≡ u
+  pub kept-from-jacks : Alike headSize u s
+      → sets (sets (sets (sets u headSize (jacksIn s)) pcmsPlace (pcmsIn s)) mapsPlace (mapsIn s)) paramsPlace (paramsIn s) ≡ u
   kept-from-jacks a =
-      ap (λ (l : List ℕ). sets (sets (sets l 4128 (pcmsIn s)) 8192 (mapsIn s)) 12272 (paramsIn s)) (jacks-kept a)
-      ∙ kept-from-pcms (alike-on 48 4128 u s a (omega arith))
+      ap (λ (l : List ℕ). sets (sets (sets l pcmsPlace (pcmsIn s)) mapsPlace (mapsIn s)) paramsPlace (paramsIn s)) (jacks-kept a)
+      ∙ kept-from-pcms (alike-on headSize pcmsPlace u s a (omega arith))
 
--- THE CORE ALONE: its 48 bytes, stored, leave the state with that core and with the tables as they were
+-- THE CORE ALONE: its 64 bytes, stored, leave the state with that core and with the tables as they were
 pub core-over : (s : List ℕ) (c : Core) → Bytes s → sets s 0 (write headRow (headValues (headOf c))) ≡ sets s 0 (soundBytes (soundAfter Nothing c (soundOf s) []))
 core-over s c b = sym (tables-apart s (soundAfter Nothing c (soundOf s) []) (sized-of s c) ∙ kept-from-jacks s b (sets s 0 (headBytes c)) (head-alike s c))

@@ -11,40 +11,44 @@ use Rattle.layout.specs.Rows.{rowsAt}
 use Rattle.layout.specs.RowsLaws.{length-rows, rows-at}
 use Rattle.records.specs.Records.{jackInfoOf, pcmInfoOf}
 use Rattle.tables.specs.Tables.{jackAt, pcmAt}
-use Rattle.exchange.specs.State.{unset, jackOf, pcmOf, paramsOf}
-use Rattle.exchange.specs.Plan.{fieldOf}
-use Rattle.exchange.specs.declared.state.Params.{Params}
-use Rattle.exchange.specs.declared.state.Field.{Field}
-use Rattle.exchange.specs.declared.state.Field.the-variants.{Rates, Formats, Channels, Features}
+use Rattle.core.specs.State.{unset}
+use Rattle.exchange.specs.State.{jackOf, pcmOf, paramsOf}
+use Rattle.exchange.specs.Tables.{fieldOf}
+use Rattle.core.specs.declared.state.Params.{Params}
+use Rattle.core.specs.declared.state.Field.{Field}
+use Rattle.core.specs.declared.plan.Value.{Value}
+use Rattle.core.specs.declared.plan.Value.the-variants as value
+use Rattle.core.specs.declared.state.Field.the-variants.{Rates, Formats, Channels, Features}
+use Rattle.state_store.specs.Places.{headSize, pcmsPlace, paramsPlace}
 use Rattle.state_store.specs.Store.{paramsAt, soundOf}
 
 rows-out : {A : Type 0} (f : ℕ → List ℕ → A) (size o n i : ℕ) (s : List ℕ) (d : A) → n ≤ i → getD (rowsAt f size o n s) i d ≡ d
 rows-out f size o n i s d h = List·getD-eq-default (rowsAt f size o n s) d (omega (arith, length-rows f size o n s))
 
 module _ (s : List ℕ) (i : ℕ) where
-  pub jack-in : i < 170 → jackOf (soundOf s) i ≡ jackAt (48 + i * 24) s
+  pub jack-in : i < 170 → jackOf (soundOf s) i ≡ jackAt (headSize + i * 24) s
   unfolding soundOf
-  jack-in h = rows-at jackAt 24 48 170 i s (jackInfoOf []) h
+  jack-in h = rows-at jackAt 24 headSize 170 i s (jackInfoOf []) h
 
   pub jack-out : 170 ≤ i → jackOf (soundOf s) i ≡ jackInfoOf []
   unfolding soundOf
-  jack-out h = rows-out jackAt 24 48 170 i s (jackInfoOf []) h
+  jack-out h = rows-out jackAt 24 headSize 170 i s (jackInfoOf []) h
 
-  pub pcm-in : i < 127 → pcmOf (soundOf s) i ≡ pcmAt (4128 + i * 32) s
+  pub pcm-in : i < 127 → pcmOf (soundOf s) i ≡ pcmAt (pcmsPlace + i * 32) s
   unfolding soundOf
-  pcm-in h = rows-at pcmAt 32 4128 127 i s (pcmInfoOf []) h
+  pcm-in h = rows-at pcmAt 32 pcmsPlace 127 i s (pcmInfoOf []) h
 
   pub pcm-out : 127 ≤ i → pcmOf (soundOf s) i ≡ pcmInfoOf []
   unfolding soundOf
-  pcm-out h = rows-out pcmAt 32 4128 127 i s (pcmInfoOf []) h
+  pcm-out h = rows-out pcmAt 32 pcmsPlace 127 i s (pcmInfoOf []) h
 
-  pub params-in : (p : Params) → i < 127 → p ≡ paramsAt (12272 + i * 16) s → p ≡ paramsOf (soundOf s) i
+  pub params-in : (p : Params) → i < 127 → p ≡ paramsAt (paramsPlace + i * 16) s → p ≡ paramsOf (soundOf s) i
   unfolding soundOf
-  params-in p h e = e ∙ sym (rows-at paramsAt 16 12272 127 i s unset h)
+  params-in p h e = e ∙ sym (rows-at paramsAt 16 paramsPlace 127 i s unset h)
 
   pub params-out : 127 ≤ i → paramsOf (soundOf s) i ≡ unset
   unfolding soundOf
-  params-out h = rows-out paramsAt 16 12272 127 i s unset h
+  params-out h = rows-out paramsAt 16 paramsPlace 127 i s unset h
 
 -- ---- the fields that are looked at, by their places in the record
 
@@ -52,11 +56,11 @@ pub jack-features : (o : ℕ) (s : List ℕ) → jackAt o s .features ≡ numAt 
 unfolding jackAt
 jack-features o s = refl
 
-abbrev pub fieldAt : Field → ℕ → List ℕ → ℕ
-fieldAt Rates o s = numAt (o + 16) 8 s
-fieldAt Formats o s = numAt (o + 8) 8 s
-fieldAt Channels o s = numAt (o + 26) 1 s * 256 + numAt (o + 25) 1 s
-fieldAt Features o s = numAt (o + 4) 4 s
+abbrev pub fieldAt : Field → ℕ → List ℕ → Value
+fieldAt Rates o s = value.Number (numAt (o + 16) 8 s)
+fieldAt Formats o s = value.Number (numAt (o + 8) 8 s)
+fieldAt Channels o s = value.Range (numAt (o + 25) 1 s) (numAt (o + 26) 1 s)
+fieldAt Features o s = value.Number (numAt (o + 4) 4 s)
 
 pub field-in : (f : Field) (o : ℕ) (s : List ℕ) → fieldOf f (pcmAt o s) ≡ fieldAt f o s
 unfolding pcmAt
@@ -64,12 +68,6 @@ field-in Rates o s = simp towards-numerals
 field-in Formats o s = simp towards-numerals
 field-in Channels o s = simp towards-numerals
 field-in Features o s = refl
-
-pub field-out : (f : Field) → fieldOf f (pcmInfoOf []) ≡ 0
-field-out Rates = refl
-field-out Formats = refl
-field-out Channels = refl
-field-out Features = refl
 
 pub direction-in : (o : ℕ) (s : List ℕ) → pcmAt o s .direction ≡ numAt (o + 24) 1 s
 unfolding pcmAt

@@ -17,25 +17,27 @@ use Rattle.codes.specs.declared.answers.Refusal.{Refusal}
 use Rattle.codes.specs.declared.answers.Refusal.the-variants.{InvalidParam, BadLength}
 use Rattle.tables.specs.declared.verdict.Verdict.{Verdict}
 use Rattle.turns.specs.declared.ring.Track.{Track}
-use Rattle.exchange.specs.Consistent.{consistentOf}
-use Rattle.exchange.specs.Plan.{keepOf}
-use Rattle.exchange.specs.Exchange.{saysReply, replyOf, stepOf, callOf}
+use Rattle.core.specs.Consistent.{consistentOf}
+use Rattle.core.specs.Plan.{refuseOf}
+use Rattle.core.specs.Reply.{saysReply, replyOf}
+use Rattle.exchange.specs.Exchange.{stepOf, callOf}
 use Rattle.exchange.specs.Feed.{Feed, paged, failed, planOf, pageOf, fedOf, One, ownRefusals}
 use Rattle.exchange.specs.PlanLaws.{Begun, bars, asks, goes, Answered, short, idle, asks-streams, asks-maps, cuts, finishes, ends, fails, fed}
 use Rattle.exchange.specs.Refused.{refused-writes-nothing, refused-unchanged, Left, same, closed, cut, done, refused-feed}
-use Rattle.exchange.specs.declared.state.Call.{Call}
-use Rattle.exchange.specs.declared.state.Call.the-variants.{SetParams, Command, Remap, Streams, Supported, Xfer}
-use Rattle.exchange.specs.declared.state.Core.{Core}
+use Rattle.core.specs.declared.state.Call.{Call}
+use Rattle.core.specs.declared.state.Call.the-variants.{SetParams, Command, Remap, Streams, Supported, Xfer}
+use Rattle.core.specs.declared.state.Core.{Core}
 use Rattle.exchange.specs.declared.state.Sound.{Sound}
-use Rattle.exchange.specs.declared.plan.Plan.{Plan}
-use Rattle.exchange.specs.declared.calls.Reply.{Reply}
-use Rattle.exchange.specs.declared.calls.Reply.the-variants as reply
+use Rattle.core.specs.declared.plan.Look.{Look}
+use Rattle.core.specs.declared.plan.Plan.{Plan}
+use Rattle.core.specs.declared.reply.Reply.{Reply}
+use Rattle.core.specs.declared.reply.Reply.the-variants as reply
 use Rattle.state_store.specs.Store.{whole, soundOf, soundBytes, stateAfter}
 use Rattle.state_store.specs.Calls.{Told, told, tooShort, resultBytes, callIn, feedIn, failIn, Opened, openIn}
 use Rattle.state_store.specs.StoreLaws.{core-at, store-same}
 use Rattle.state_store.specs.OpenLaws.{gateIn, openBy, opened-by}
-use Rattle.exchange.specs.declared.xfer.Gate.{Gate}
-use Rattle.exchange.specs.declared.xfer.Gate.the-variants.{Shut, SetUp, Open}
+use Rattle.core.specs.declared.gate.Gate.{Gate}
+use Rattle.core.specs.declared.gate.Gate.the-variants.{Shut, SetUp, Open}
 use Rattle.state_store.specs.declared.calls.Opening.the-variants.{Says}
 
 pub record Unchanged (s m r : List ℕ) (x : Told) : Type 0 where
@@ -81,18 +83,18 @@ ten-left x r e (done {call} n maps o g) = absurd (lacks (saysRefusal r .number) 
 
 pub record Barred (c : Core) (p : Plan) : Type 0 where
   pub why : Refusal
-  pub is : p ≡ keepOf c why
+  pub is : p ≡ refuseOf c why
 
 module _ (c : Core) (e : consistentOf c ≡ false) where
   never : {A : Type 0} → consistentOf c ≡ true → A
   never k = absurd (false≢true (sym e ∙ k))
 
-  pub begun-barred : {call : Call} {look : ℕ} {p : Plan} → Begun c call look p → Barred c p
+  pub begun-barred : {call : Call} {look : Look} {p : Plan} → Begun c call look p → Barred c p
   begun-barred (bars x) = record { why = x; is = refl }
   begun-barred (asks k _ _ _) = never k
   begun-barred (goes k _ _ _ _) = never k
 
-  pub answered-barred : {v : Verdict} {look : ℕ} {long : Bool} {p : Plan} → Answered c v look long p → Barred c p
+  pub answered-barred : {v : Verdict} {look : Look} {long : Bool} {p : Plan} → Answered c v look long p → Barred c p
   answered-barred (short _) = record { why = BadLength; is = refl }
   answered-barred (idle _) = record { why = InvalidParam; is = refl }
   answered-barred (asks-streams k _) = never k
@@ -133,7 +135,7 @@ module _ (s m r : List ℕ) (b : Bytes s) where
   inconsistent f e =
       let x = soundOf s in
       let k = answered-barred (x .core) e (fed x f) in
-      subst (λ (p : Plan). Unchanged s m r (told s p (pageOf f) m r)) (sym (k .is)) (told-unchanged (keepOf (x .core) (k .why)) (pageOf f) (k .why) refl refl)
+      subst (λ (p : Plan). Unchanged s m r (told s p (pageOf f) m r)) (sym (k .is)) (told-unchanged (refuseOf (x .core) (k .why)) (pageOf f) (k .why) refl refl)
 
   feed-unchanged : (f : Feed) → saysReply (fedOf (soundOf s) f .reply) .number ≡ 10 → Unchanged s m r (told s (planOf (soundOf s) f) (pageOf f) m r)
   feed-unchanged f e =

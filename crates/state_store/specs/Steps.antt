@@ -5,26 +5,30 @@ use Prim.Native.Nat.{ℕ, _+_}
 use lib.Seq.{sets}
 use Rattle.layout.specs.Bytes.{le}
 use Rattle.codes.specs.Says.{guard, pick}
-use Rattle.exchange.specs.Consistent.{consistentOf}
-use Rattle.exchange.specs.declared.state.Core.{Core}
-use Rattle.state_store.specs.Calls.{Shown, shown, Told, left, resultBytes, Opened, opened}
+use Rattle.core.specs.Consistent.{consistentOf}
+use Rattle.core.specs.declared.state.Core.{Core}
+use Rattle.layout.specs.Lent.{Shown, shown}
+use Rattle.state_store.specs.Calls.{Told, left, resultBytes, Opened, opened}
 use mathlib.Core.Path.{_≡_}
 use lib.ListN.{length, take}
 use Rattle.layout.specs.Rows.{rowsBytes}
-use Rattle.exchange.specs.Exchange.{idsFrom, saysReply, messageAfter, replyOf, listOf}
+use Rattle.exchange.specs.Exchange.{idsFrom, listOf}
+use Rattle.core.specs.Reply.{saysReply, messageAfter, replyOf}
 use Rattle.state_store.specs.Store.{soundOf, soundBytes}
-use Rattle.exchange.specs.declared.state.Counts.{Counts}
+use Rattle.core.specs.declared.state.Counts.{Counts}
 use mathlib.Core.Bool.{Bool}
-use Rattle.exchange.specs.Plan.{queryOf, sendOf, soundAfter}
-use Rattle.exchange.specs.declared.state.Call.the-variants.{Xfer}
-use Rattle.exchange.specs.declared.state.Stage.the-variants.{JacksAsked}
-use Rattle.exchange.specs.declared.plan.Effect.{Effect}
-use Rattle.exchange.specs.declared.plan.Effect.the-variants.{Nothing}
-use Rattle.exchange.specs.declared.plan.Plan.{Plan}
+use Rattle.core.specs.Plan.{queryOf, sendOf}
+use Rattle.exchange.specs.Tables.{soundAfter}
+use Rattle.core.specs.declared.state.Call.the-variants.{Xfer}
+use Rattle.core.specs.declared.state.Stage.the-variants.{JacksAsked}
+use Rattle.core.specs.declared.plan.Effect.{Effect}
+use Rattle.core.specs.declared.plan.Effect.the-variants.{Nothing}
+use Rattle.core.specs.declared.plan.Plan.{Plan}
 use Rattle.state_store.specs.declared.calls.Opening.the-variants.{Says}
 
 abbrev pub countBy : Core → ℕ → List ℕ → Shown
-countBy c n r = guard (consistentOf c) (shown 0 (sets r 0 (le 8 n))) (shown 1 r)
+countBy c n r = guard (consistentOf c) (shown 1 r)
+    (shown 0 (sets r 0 (le 8 n)))
 
 abbrev pub idsIn : List ℕ → ℕ → ℕ → List ℕ
 idsIn s d n = idsFrom d 0 (take n (soundOf s .pcms))

@@ -1,8 +1,9 @@
--- The state as bytes in its owner's storage: 48 bytes of core, then jacks, streams, maps and parameters, a row for each.
+-- The state as bytes in its owner's storage: 64 bytes of core, then jacks, streams, maps and parameters, a row for each.
 -- Assumes nothing.
-use mathlib.Core.Bool.{Bool, true}
+use mathlib.Core.Bool.{Bool, true, _&&_}
 use mathlib.Core.List.{List, [], _∷_, _++_}
 use Prim.Native.Nat.{ℕ, _+_}
+use lib.Dec.{eqb}
 use lib.ListN.{getD}
 use lib.Seq.{sets}
 use Rattle.layout.specs.Bytes.{numAt}
@@ -11,21 +12,27 @@ use Rattle.layout.specs.Rows.{rowsAt, rowsBytes}
 use Rattle.codes.specs.Says.{pick}
 use Rattle.records.specs.Records.{jackBytes, pcmBytes, mapBytes}
 use Rattle.tables.specs.Tables.{jackAt, pcmAt, mapAt}
-use Rattle.exchange.specs.declared.state.Params.{Params}
-use Rattle.exchange.specs.declared.state.Core.{Core}
+use Rattle.core.specs.declared.state.Params.{Params}
+use Rattle.core.specs.declared.state.Core.{Core}
 use Rattle.exchange.specs.declared.state.Sound.{Sound}
-use Rattle.exchange.specs.declared.state.Call.the-variants.{Streams}
-use Rattle.exchange.specs.declared.state.Stage.the-variants.{JacksAsked}
+use Rattle.core.specs.declared.state.Call.the-variants.{Streams}
+use Rattle.core.specs.declared.state.Stage.the-variants.{JacksAsked}
+use Rattle.state_store.specs.Places.{headSize, pcmsPlace, mapsPlace, paramsPlace}
 use Rattle.state_store.specs.Flat.{flatRow, flatValues, flatOf, flatStage, flatReady, wholeFlat}
 use Rattle.state_store.specs.declared.flat.Head.{Head}
 
 -- ---- the core: configured counts 4 each, table counts 4 each, then the stage
 
+-- and 16 bytes that are reserved: 0
+abbrev pub reservedRow : List ℕ
+reservedRow = 8 ∷ 8 ∷ []
+
 abbrev pub headRow : List ℕ
-headRow = 4 ∷ 4 ∷ 4 ∷ 4 ∷ 4 ∷ 4 ∷ flatRow
+headRow = 4 ∷ 4 ∷ 4 ∷ 4 ∷ 4 ∷ 4 ∷ (flatRow ++ reservedRow)
 
 abbrev pub headValues : Head → List ℕ
-headValues h = h .counts .jacks ∷ h .counts .streams ∷ h .counts .maps ∷ h .read .jacks ∷ h .read .streams ∷ h .read .maps ∷ flatValues (h .flat)
+headValues h =
+    h .counts .jacks ∷ h .counts .streams ∷ h .counts .maps ∷ h .read .jacks ∷ h .read .streams ∷ h .read .maps ∷ (flatValues (h .flat) ++ (h .reserved ∷ h .spare ∷ []))
 
 abbrev pub headFrom : List ℕ → Head
 headFrom vs =
@@ -47,22 +54,27 @@ headFrom vs =
             format = getD vs 16 0;
             rate = getD vs 17 0;
           };
+      reserved = getD vs 18 0;
+      spare = getD vs 19 0;
     }
 
 unfoldable pub headAt : List ℕ → Head
 headAt s = headFrom (readAt 0 headRow s)
 
 abbrev pub headOf : Core → Head
-headOf c = record { counts = c .counts; read = c .read; flat = flatOf (c .ready) (c .stage) }
+headOf c = record { counts = c .counts; read = c .read; flat = flatOf (c .ready) (c .stage); reserved = 0; spare = 0 }
 
--- a store whose stage is written as it must be
+-- a store whose stage is written as it must be, and in which what is reserved is 0
+abbrev pub wholeHead : Head → Bool
+wholeHead h = wholeFlat (h .flat) && (eqb (h .reserved) 0 && eqb (h .spare) 0)
+
 abbrev pub whole : List ℕ → Bool
-whole s = wholeFlat (headAt s .flat)
+whole s = wholeHead (headAt s)
 
 -- the core of a head; one that is not whole reads as done with set-up that still asks for jacks, which fails the consistency test
 abbrev pub coreOf : Head → Core
 coreOf h =
-    pick (wholeFlat (h .flat))
+    pick (wholeHead h)
     (record { counts = h .counts; read = h .read; ready = flatReady (h .flat); stage = flatStage (h .flat) })
     (record { counts = h .counts; read = h .read; ready = true; stage = JacksAsked (Streams 0) })
 
@@ -87,16 +99,16 @@ paramsAt o s =
       features = numAt (o + 12) 4 s;
     }
 
--- ---- THE STATE that a store holds, and the bytes of a state: 14,304
+-- ---- THE STATE that a store holds, and the bytes of a state
 
 unfoldable pub soundOf : List ℕ → Sound
 soundOf s =
     record {
       core = coreOf (headAt s);
-      jacks = rowsAt jackAt 24 48 170 s;
-      pcms = rowsAt pcmAt 32 4128 127 s;
-      maps = rowsAt mapAt 24 8192 170 s;
-      params = rowsAt paramsAt 16 12272 127 s;
+      jacks = rowsAt jackAt 24 headSize 170 s;
+      pcms = rowsAt pcmAt 32 pcmsPlace 127 s;
+      maps = rowsAt mapAt 24 mapsPlace 170 s;
+      params = rowsAt paramsAt 16 paramsPlace 127 s;
     }
 
 unfoldable pub soundBytes : Sound → List ℕ

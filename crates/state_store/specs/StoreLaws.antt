@@ -13,12 +13,13 @@ use Rattle.layout.specs.Layout.{size, write, readAt, Fit}
 use Rattle.layout.specs.LayoutLaws.{length-write, read-write, write-read, read-own}
 use Rattle.layout.specs.Rows.{rowsAt, rowsBytes}
 use Rattle.layout.specs.RowsLaws.{length-rowsBytes, table-back}
-use Rattle.layout.specs.AllLaws.{AllOk}
+use Rattle.layout.specs.All.{All}
 use Rattle.layout.specs.StoreLaws.{sets-same}
 use Rattle.records.specs.Records.{jackInfo, jackInfoValues, pcmInfo, pcmInfoValues, channelMap, channelMapValues, jackInfoOf, pcmInfoOf, channelMapOf, jackBytes, pcmBytes, mapBytes}
 use Rattle.tables.specs.Tables.{jackAt, pcmAt, mapAt}
-use Rattle.exchange.specs.declared.state.Params.{Params}
+use Rattle.core.specs.declared.state.Params.{Params}
 use Rattle.exchange.specs.declared.state.Sound.{Sound}
+use Rattle.state_store.specs.Places.{headSize, pcmsPlace, mapsPlace, paramsPlace, stateSize}
 use Rattle.state_store.specs.Store.{headRow, headValues, headFrom, headAt, headOf, coreOf, whole, paramsRow, paramsAt, paramsBytes, soundOf, soundBytes}
 use Rattle.state_store.specs.FlatLaws.{core-back, core-same}
 use Rattle.state_store.specs.OverLaws.{jack-sized, pcm-sized, map-sized, params-sized, headBytes, head-sized, core-over}
@@ -26,7 +27,7 @@ use Rattle.state_store.specs.declared.flat.Head.{Head}
 
 -- ---- WHAT WAS READ, WRITTEN AGAIN, leaves a store that is whole
 
-head-again : (s : List ℕ) → Bytes s → whole s ≡ true → headBytes (coreOf (headAt s)) ≡ bytesAt 0 48 s
+head-again : (s : List ℕ) → Bytes s → whole s ≡ true → headBytes (coreOf (headAt s)) ≡ bytesAt 0 headSize s
 unfolding headAt
 head-again s b w = ap (λ (h : Head). write headRow (headValues h)) (core-same (headAt s) w) ∙ write-read 0 headRow s b
 
@@ -38,7 +39,7 @@ pub store-same : (s : List ℕ) → Bytes s → whole s ≡ true → sets s 0 (s
 store-same s b w =
     sym (core-over s (soundOf s .core) b)
     ∙ ap (sets s 0) (ap headBytes (core-at s) ∙ head-again s b w)
-    ∙ sets-same s 0 48
+    ∙ sets-same s 0 headSize
 
 -- ---- WHAT WAS WRITTEN IS READ BACK
 
@@ -48,7 +49,7 @@ head-back h r f = ap headFrom (read-write headRow (headValues h) r f)
 
 -- a table, over the layout of its records
 abbrev pub AllFit : {A : Type 0} → List ℕ → (A → List ℕ) → List A → Type 0
-AllFit {A} ws values = AllOk (λ (x : A). Fit ws (values x))
+AllFit {A} ws values = All (λ (x : A). Fit ws (values x))
 
 module _ {A : Type 0} (ws : List ℕ) (values : A → List ℕ) (of : List ℕ → A) (is : (x : A) → of (values x) ≡ x) (f : ℕ → List ℕ → A)
     (reads : (o : ℕ) (s : List ℕ) → f o s ≡ of (readAt o ws s)) where
@@ -152,16 +153,16 @@ module _ (x : Sound) (f : Fits x) where
   lq : length q ≡ 2032
   lq = length-rowsBytes paramsBytes 16 params-sized (x .params) ∙ ap (λ (k : ℕ). k * 16) (f .params-127)
 
-  to-pcms : length (h ++ j) ≡ 4128
+  to-pcms : length (h ++ j) ≡ pcmsPlace
   to-pcms = length-append h j ∙ (λ i. head-sized (x .core) i + lj i)
 
-  to-maps : length ((h ++ j) ++ p) ≡ 8192
+  to-maps : length ((h ++ j) ++ p) ≡ mapsPlace
   to-maps = length-append (h ++ j) p ∙ (λ i. to-pcms i + lp i)
 
-  to-params : length (((h ++ j) ++ p) ++ m) ≡ 12272
+  to-params : length (((h ++ j) ++ p) ++ m) ≡ paramsPlace
   to-params = length-append ((h ++ j) ++ p) m ∙ (λ i. to-maps i + lm i)
 
-  to-end : length (soundBytes x) ≡ 14304
+  to-end : length (soundBytes x) ≡ stateSize
   unfolding soundBytes
   to-end = ap length (whole-cut h j p m q) ∙ length-append (((h ++ j) ++ p) ++ m) q ∙ (λ i. to-params i + lq i)
 
@@ -173,35 +174,35 @@ module _ (x : Sound) (f : Fits x) where
         ∙ ap coreOf (head-back (headOf (x .core)) (j ++ (p ++ (m ++ (q ++ c)))) (f .core))
         ∙ core-back (x .core)
 
-    jacks-in : rowsAt jackAt 24 48 170 (soundBytes x ++ c) ≡ x .jacks
+    jacks-in : rowsAt jackAt 24 headSize 170 (soundBytes x ++ c) ≡ x .jacks
     unfolding soundBytes
     jacks-in =
-        ap (rowsAt jackAt 24 48 170) (first-cut h j p m q c)
-        ∙ table-of jackInfo jackInfoValues jackInfoOf (λ r. refl) jackAt jack-reads h (p ++ (m ++ (q ++ c))) (x .jacks) 48 170 (head-sized (x .core)) (f .jacks-170) (f .jacks)
+        ap (rowsAt jackAt 24 headSize 170) (first-cut h j p m q c)
+        ∙ table-of jackInfo jackInfoValues jackInfoOf (λ r. refl) jackAt jack-reads h (p ++ (m ++ (q ++ c))) (x .jacks) headSize 170 (head-sized (x .core)) (f .jacks-170) (f .jacks)
 
-    pcms-in : rowsAt pcmAt 32 4128 127 (soundBytes x ++ c) ≡ x .pcms
+    pcms-in : rowsAt pcmAt 32 pcmsPlace 127 (soundBytes x ++ c) ≡ x .pcms
     unfolding soundBytes
     pcms-in =
-        ap (rowsAt pcmAt 32 4128 127) (second-cut h j p m q c)
-        ∙ table-of pcmInfo pcmInfoValues pcmInfoOf (λ r. refl) pcmAt pcm-reads (h ++ j) (m ++ (q ++ c)) (x .pcms) 4128 127 to-pcms (f .pcms-127) (f .pcms)
+        ap (rowsAt pcmAt 32 pcmsPlace 127) (second-cut h j p m q c)
+        ∙ table-of pcmInfo pcmInfoValues pcmInfoOf (λ r. refl) pcmAt pcm-reads (h ++ j) (m ++ (q ++ c)) (x .pcms) pcmsPlace 127 to-pcms (f .pcms-127) (f .pcms)
 
-    maps-in : rowsAt mapAt 24 8192 170 (soundBytes x ++ c) ≡ x .maps
+    maps-in : rowsAt mapAt 24 mapsPlace 170 (soundBytes x ++ c) ≡ x .maps
     unfolding soundBytes
     maps-in =
-        ap (rowsAt mapAt 24 8192 170) (third-cut h j p m q c)
-        ∙ table-of channelMap channelMapValues channelMapOf (λ r. refl) mapAt map-reads ((h ++ j) ++ p) (q ++ c) (x .maps) 8192 170 to-maps (f .maps-170) (f .maps)
+        ap (rowsAt mapAt 24 mapsPlace 170) (third-cut h j p m q c)
+        ∙ table-of channelMap channelMapValues channelMapOf (λ r. refl) mapAt map-reads ((h ++ j) ++ p) (q ++ c) (x .maps) mapsPlace 170 to-maps (f .maps-170) (f .maps)
 
-    params-in : rowsAt paramsAt 16 12272 127 (soundBytes x ++ c) ≡ x .params
+    params-in : rowsAt paramsAt 16 paramsPlace 127 (soundBytes x ++ c) ≡ x .params
     unfolding soundBytes
     params-in =
-        ap (rowsAt paramsAt 16 12272 127) (fourth-cut h j p m q c)
-        ∙ table-of paramsRow paramsValues paramsFrom (λ r. refl) paramsAt params-reads (((h ++ j) ++ p) ++ m) c (x .params) 12272 127 to-params (f .params-127) (f .params)
+        ap (rowsAt paramsAt 16 paramsPlace 127) (fourth-cut h j p m q c)
+        ∙ table-of paramsRow paramsValues paramsFrom (λ r. refl) paramsAt params-reads (((h ++ j) ++ p) ++ m) c (x .params) paramsPlace 127 to-params (f .params-127) (f .params)
 
     sound-back : soundOf (soundBytes x ++ c) ≡ x
     unfolding soundOf
     sound-back = λ i. record { core = core-in i; jacks = jacks-in i; pcms = pcms-in i; maps = maps-in i; params = params-in i }
 
-pub store-back : (s : List ℕ) (x : Sound) → Fits x → 14304 ≤ length s → soundOf (sets s 0 (soundBytes x)) ≡ x
+pub store-back : (s : List ℕ) (x : Sound) → Fits x → stateSize ≤ length s → soundOf (sets s 0 (soundBytes x)) ≡ x
 store-back s x f l =
-    let e : 0 + length (soundBytes x) ≡ 14304 = zero-add (length (soundBytes x)) ∙ to-end x f in
+    let e : 0 + length (soundBytes x) ≡ stateSize = zero-add (length (soundBytes x)) ∙ to-end x f in
     ap soundOf (sets-eq (soundBytes x) s 0 (rw e l)) ∙ sound-back x f (drop (0 + length (soundBytes x)) s)

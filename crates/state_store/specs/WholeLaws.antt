@@ -21,30 +21,35 @@ use Rattle.tables.specs.Tables.{isGood}
 use Rattle.tables.specs.declared.verdict.Verdict.{Verdict}
 use Rattle.turns.specs.ConsistentLaws.{both}
 use Rattle.turns.specs.declared.ring.Track.{Track}
-use Rattle.exchange.specs.State.{newCore, newSound, withStage}
-use Rattle.exchange.specs.Plan.{soundAfter}
+use Rattle.core.specs.State.{newCore, withStage}
+use Rattle.exchange.specs.State.{newSound}
+use Rattle.exchange.specs.Tables.{soundAfter}
 use Rattle.exchange.specs.Feed.{Feed, paged, failed, planOf, pageOf}
 use Rattle.exchange.specs.Exchange.{callOf}
 use Rattle.exchange.specs.Xfer.{setUpPlan}
 use Rattle.exchange.specs.OwnLaws.{Own, sets as sends, commands, remaps, lists, tells, refuses, picked-by}
 use Rattle.exchange.specs.PlanLaws.{Begun, bars, asks, goes, begun, counted, Answered, short, idle, asks-streams, asks-maps, cuts, finishes, ends, fails, fed}
-use Rattle.exchange.specs.declared.state.Counts.{Counts}
-use Rattle.exchange.specs.declared.state.Call.{Call}
-use Rattle.exchange.specs.declared.state.Call.the-variants.{Xfer}
-use Rattle.exchange.specs.declared.state.Stage.{Stage}
-use Rattle.exchange.specs.declared.state.Stage.the-variants.{Idle, JacksAsked, StreamsAsked, MapsAsked, Sent}
-use Rattle.exchange.specs.declared.state.Core.{Core}
+use Rattle.core.specs.declared.state.Counts.{Counts}
+use Rattle.core.specs.declared.state.Call.{Call}
+use Rattle.core.specs.declared.state.Call.the-variants.{Xfer}
+use Rattle.core.specs.declared.state.Stage.{Stage}
+use Rattle.core.specs.declared.state.Stage.the-variants.{Idle, JacksAsked, StreamsAsked, MapsAsked, Sent}
+use Rattle.core.specs.declared.state.Core.{Core}
 use Rattle.exchange.specs.declared.state.Sound.{Sound}
-use Rattle.exchange.specs.declared.plan.Effect.{Effect}
-use Rattle.exchange.specs.declared.plan.Effect.the-variants.{Nothing, FillJacks, FillStreams, FillMaps, Store}
-use Rattle.exchange.specs.declared.plan.Plan.{Plan}
-use Rattle.exchange.specs.declared.xfer.Gate.{Gate}
-use Rattle.exchange.specs.declared.xfer.Gate.the-variants.{Shut, SetUp, Open}
-use Rattle.state_store.specs.Flat.{flatRow, flatValues, callFlat, staged, flatOf, wholeFlat}
-use Rattle.state_store.specs.Store.{headRow, headValues, headFrom, headAt, headOf, coreOf, whole, paramsBytes, soundOf, soundBytes}
+use Rattle.core.specs.declared.plan.Effect.{Effect}
+use Rattle.core.specs.declared.plan.Effect.the-variants.{Nothing, FillJacks, FillStreams, FillMaps, Store}
+use Rattle.core.specs.declared.plan.Look.{Look}
+use Rattle.core.specs.declared.plan.Plan.{Plan}
+use Rattle.core.specs.declared.gate.Gate.{Gate}
+use Rattle.core.specs.declared.gate.Gate.the-variants.{Shut, SetUp, Open}
+use Rattle.state_store.specs.Places.{headSize, stateSize}
+use Rattle.layout.specs.Lent.{resultSize}
+use Rattle.state_store.specs.Flat.{flatRow, flatValues, callFlat, staged, flatOf}
+use Rattle.state_store.specs.Store.{reservedRow, wholeHead, headRow, headValues, headFrom, headAt, headOf, coreOf, whole, paramsBytes, soundOf, soundBytes}
 use Rattle.records.specs.Records.{jackBytes, pcmBytes, mapBytes}
-use Rattle.state_store.specs.Calls.{Told, told, lengths, callIn, feedIn, failIn, Opened, settingUp, openIn, Made, newIn}
-use Rattle.state_store.specs.FlatLaws.{core-same, flat-whole}
+use Rattle.layout.specs.Lent.{Made}
+use Rattle.state_store.specs.Calls.{Told, told, lengths, callIn, feedIn, failIn, Opened, settingUp, openIn, newIn}
+use Rattle.state_store.specs.FlatLaws.{core-same, head-whole}
 use Rattle.state_store.specs.OverLaws.{headBytes, head-sized}
 use Rattle.state_store.specs.StoreLaws.{core-at, head-back}
 use Rattle.state_store.specs.OpenLaws.{gateIn, openBy, set-up-long, opened-by}
@@ -54,7 +59,7 @@ use Rattle.state_store.specs.declared.flat.Head.{Head}
 
 -- the ten fields of a call
 abbrev pub FitCall : Call → Type 0
-FitCall call = Fit (drop 2 flatRow) (drop 2 (flatValues (callFlat call)))
+FitCall call = Fit (drop 2 (flatRow ++ reservedRow)) (drop 2 (flatValues (callFlat call) ++ (0 ∷ 0 ∷ [])))
 
 abbrev pub FitStage : Stage → Type 0
 FitStage Idle = Unit {0}
@@ -77,17 +82,17 @@ flag-fits false = lit< tt
 
 module _ (ready : Bool) where
   -- what a call has no use for is 0
-  staged-fits : (n : ℕ) (call : Call) → n < 256 ^ 1 → FitCall call → Fit flatRow (flatValues (staged ready n (callFlat call)))
+  staged-fits : (n : ℕ) (call : Call) → n < 256 ^ 1 → FitCall call → Fit (flatRow ++ reservedRow) (flatValues (staged ready n (callFlat call)) ++ (0 ∷ 0 ∷ []))
   staged-fits n call k h = (flag-fits ready, (k, h))
 
-  flat-fits : (g : Stage) → FitStage g → Fit flatRow (flatValues (flatOf ready g))
-  flat-fits Idle h = (flag-fits ready, (lit< tt, (lit< tt, (lit< tt, (lit< tt, (lit< tt, (lit< tt, (lit< tt, (lit< tt, (lit< tt, (lit< tt, (lit< tt, tt))))))))))))
+  flat-fits : (g : Stage) → FitStage g → Fit (flatRow ++ reservedRow) (flatValues (flatOf ready g) ++ (0 ∷ 0 ∷ []))
+  flat-fits Idle h = (flag-fits ready, (lit< tt, (lit< tt, (lit< tt, (lit< tt, (lit< tt, (lit< tt, (lit< tt, (lit< tt, (lit< tt, (lit< tt, (lit< tt, (lit< tt, (lit< tt, tt))))))))))))))
   flat-fits (JacksAsked call) h = staged-fits 1 call (lit< tt) h
   flat-fits (StreamsAsked call) h = staged-fits 2 call (lit< tt) h
   flat-fits (MapsAsked call) h = staged-fits 3 call (lit< tt) h
   flat-fits (Sent call) h = staged-fits 4 call (lit< tt) h
 
-  stage-fits : (g : Stage) → Fit flatRow (flatValues (flatOf ready g)) → FitStage g
+  stage-fits : (g : Stage) → Fit (flatRow ++ reservedRow) (flatValues (flatOf ready g) ++ (0 ∷ 0 ∷ [])) → FitStage g
   stage-fits Idle h = tt
   stage-fits (JacksAsked call) h = h .1 .1
   stage-fits (StreamsAsked call) h = h .1 .1
@@ -119,7 +124,7 @@ no-counts = (lit< tt, (lit< tt, (lit< tt, tt)))
 counted-fits : (v : Verdict) (n : ℕ) → n < 256 ^ 4 → counted v n < 256 ^ 4
 counted-fits v n h = picked-by (λ (k : ℕ). k < 256 ^ 4) (isGood v) n 0 (λ _. h) (λ _. lit< tt)
 
-own-fits : {c : Core} {look : ℕ} {call : Call} {p : Plan} → FitCore c → FitCall call → Own c look call p → FitCore (p .core)
+own-fits : {c : Core} {look : Look} {call : Call} {p : Plan} → FitCore c → FitCall call → Own c look call p → FitCore (p .core)
 own-fits f k (sends _ _) = record { counts = f .counts; read = f .read; stage = k }
 own-fits f k commands = record { counts = f .counts; read = f .read; stage = k }
 own-fits f k (remaps _ _ _) = record { counts = f .counts; read = f .read; stage = k }
@@ -127,7 +132,7 @@ own-fits f k lists = record { counts = f .counts; read = f .read; stage = tt }
 own-fits f k (tells _) = record { counts = f .counts; read = f .read; stage = tt }
 own-fits f k (refuses _ _) = record { counts = f .counts; read = f .read; stage = tt }
 
-pub begun-fits : {c : Core} {call : Call} {look : ℕ} {p : Plan} → FitCore c → FitCall call → Begun c call look p → FitCore (p .core)
+pub begun-fits : {c : Core} {call : Call} {look : Look} {p : Plan} → FitCore c → FitCall call → Begun c call look p → FitCore (p .core)
 begun-fits f k (bars _) = f
 begun-fits f k (asks _ _ _ _) = record { counts = f .counts; read = f .read; stage = k }
 begun-fits f k (goes _ _ _ _ o) = own-fits f k o
@@ -135,7 +140,7 @@ begun-fits f k (goes _ _ _ _ o) = own-fits f k o
 pub waits : {c : Core} (g : Stage) → FitCore c → c .stage ≡ g → FitStage g
 waits g f e = subst FitStage e (f .stage)
 
-pub answered-fits : {c : Core} {v : Verdict} {look : ℕ} {long : Bool} {p : Plan} → FitCore c → Answered c v look long p → FitCore (p .core)
+pub answered-fits : {c : Core} {v : Verdict} {look : Look} {long : Bool} {p : Plan} → FitCore c → Answered c v look long p → FitCore (p .core)
 answered-fits f (short _) = f
 answered-fits f (idle _) = f
 answered-fits {c} {v} f (asks-streams {call} _ g) = record { counts = f .counts; read = (counted-fits v (c .counts .jacks) (f .counts .0), (lit< tt, (lit< tt, tt))); stage = waits (JacksAsked call) f g }
@@ -150,44 +155,44 @@ answered-fits f (fails _ _ _) = record { counts = f .counts; read = f .read; sta
 pub set-up-fits : (c : Core) (stream : ℕ) → FitCore c → stream < 256 ^ 4 → FitCore (withStage c (JacksAsked (Xfer stream)))
 set-up-fits c stream f k =
     let z : 0 < 256 ^ 4 = lit< tt in
-    record { counts = f .counts; read = f .read; stage = (lit< tt, (lit< tt, (k, (z, (z, (z, (lit< tt, (lit< tt, (lit< tt, (lit< tt, tt)))))))))) }
+    record { counts = f .counts; read = f .read; stage = (lit< tt, (lit< tt, (k, (z, (z, (z, (lit< tt, (lit< tt, (lit< tt, (lit< tt, (lit< tt, (lit< tt, tt)))))))))))) }
 
 pub new-fits : (jacks streams maps : ℕ) → jacks < 256 ^ 4 → streams < 256 ^ 4 → maps < 256 ^ 4 → FitCore (newCore jacks streams maps)
 new-fits jacks streams maps j k m = record { counts = (j, (k, (m, tt))); read = no-counts; stage = tt }
 
 -- ---- a store in which a state was written
 
-head-before : (l vs : List ℕ) → headAt (sets l 48 vs) ≡ headAt l
+head-before : (l vs : List ℕ) → headAt (sets l headSize vs) ≡ headAt l
 unfolding headAt
-head-before l vs = ap headFrom (read-own 0 headRow (sets l 48 vs) ∙ ap (readAt 0 headRow) (bytesAt-before vs l 48 0 48 (omega arith)) ∙ sym (read-own 0 headRow l))
+head-before l vs = ap headFrom (read-own 0 headRow (sets l headSize vs) ∙ ap (readAt 0 headRow) (bytesAt-before vs l headSize 0 headSize (omega arith)) ∙ sym (read-own 0 headRow l))
 
-pub left-head : (s : List ℕ) (x : Sound) → FitCore (x .core) → 48 ≤ length s → headAt (sets s 0 (soundBytes x)) ≡ headOf (x .core)
+pub left-head : (s : List ℕ) (x : Sound) → FitCore (x .core) → headSize ≤ length s → headAt (sets s 0 (soundBytes x)) ≡ headOf (x .core)
 unfolding soundBytes
 left-head s x f l =
     let h = headBytes (x .core) in
     let rest = rowsBytes jackBytes (x .jacks) ++ (rowsBytes pcmBytes (x .pcms) ++ (rowsBytes mapBytes (x .maps) ++ rowsBytes paramsBytes (x .params))) in
-    let e : 0 + length h ≡ 48 = zero-add (length h) ∙ head-sized (x .core) in
-    ap headAt (sym (sets-then s 0 48 h rest (sym e)))
+    let e : 0 + length h ≡ headSize = zero-add (length h) ∙ head-sized (x .core) in
+    ap headAt (sym (sets-then s 0 headSize h rest (sym e)))
     ∙ head-before (sets s 0 h) rest
     ∙ ap headAt (sets-eq h s 0 (rw e l))
     ∙ head-back (headOf (x .core)) (drop (0 + length h) s) (head-fits (x .core) f)
 
-pub left-whole : (s : List ℕ) (x : Sound) → FitCore (x .core) → 48 ≤ length s → whole (sets s 0 (soundBytes x)) ≡ true
-left-whole s x f l = ap (λ (h : Head). wholeFlat (h .flat)) (left-head s x f l) ∙ flat-whole (x .core .ready) (x .core .stage)
+pub left-whole : (s : List ℕ) (x : Sound) → FitCore (x .core) → headSize ≤ length s → whole (sets s 0 (soundBytes x)) ≡ true
+left-whole s x f l = ap wholeHead (left-head s x f l) ∙ head-whole (x .core)
 
 -- ---- THE CALLS
 
 after-core : (e : Effect) (c : Core) (x : Sound) (page : List ℕ) → soundAfter e c x page .core ≡ c
 after-core Nothing c x page = refl
-after-core FillJacks c x page = refl
-after-core FillStreams c x page = refl
-after-core FillMaps c x page = refl
+after-core (FillJacks n) c x page = refl
+after-core (FillStreams n) c x page = refl
+after-core (FillMaps n) c x page = refl
 after-core (Store stream to) c x page = refl
 
 module _ (s m r : List ℕ) (b : Bytes s) (w : whole s ≡ true) where
   told-whole : (p : Plan) (page : List ℕ) → FitCore (p .core) → lengths s r ≡ true → whole (told s p page m r .state) ≡ true
   told-whole p page f l =
-      let k : 14304 ≤ length s = leb-true 14304 (length s) (both (leb 14304 (length s)) (leb 512 (length r)) l .0) in
+      let k : stateSize ≤ length s = leb-true stateSize (length s) (both (leb stateSize (length s)) (leb resultSize (length r)) l .0) in
       let x = soundAfter (p .effect) (p .core) (soundOf s) page in
       ap whole (picks (whole s) (sets s 0 (soundBytes x)) s w)
       ∙ left-whole s x (subst FitCore (sym (after-core (p .effect) (p .core) (soundOf s) page)) f) (omega arith)
@@ -209,7 +214,7 @@ module _ (s m r : List ℕ) (b : Bytes s) (w : whole s ≡ true) where
   unfolding failIn
   fail-whole = guarded-by (λ (x : Told). whole (x .state) ≡ true) _ _ _ (fed-whole (failed (length m))) (λ _. w)
 
-  set-up-whole : (stream : ℕ) → stream < 256 ^ 4 → 14304 ≤ length s → whole (settingUp s stream m .state) ≡ true
+  set-up-whole : (stream : ℕ) → stream < 256 ^ 4 → stateSize ≤ length s → whole (settingUp s stream m .state) ≡ true
   set-up-whole stream k l =
       let p = setUpPlan (soundOf s) stream in
       let x = soundAfter (p .effect) (p .core) (soundOf s) [] in
@@ -223,8 +228,8 @@ module _ (s m r : List ℕ) (b : Bytes s) (w : whole s ≡ true) where
       by SetUp e = set-up-whole stream k (set-up-long s m t stream e .0)
       by (Open period) e = w
 
-pub new-whole : (s : List ℕ) (jacks streams maps : ℕ) → jacks < 256 ^ 4 → streams < 256 ^ 4 → maps < 256 ^ 4 → newIn s jacks streams maps .answer ≡ 0 → whole (newIn s jacks streams maps .state) ≡ true
+pub new-whole : (s : List ℕ) (jacks streams maps : ℕ) → jacks < 256 ^ 4 → streams < 256 ^ 4 → maps < 256 ^ 4 → newIn s jacks streams maps .answer ≡ 0 → whole (newIn s jacks streams maps .store) ≡ true
 new-whole s jacks streams maps j k m =
-    guarded-by (λ (x : Made). x .answer ≡ 0 → whole (x .state) ≡ true) _ _ _
-    (λ l _. left-whole s (newSound jacks streams maps) (new-fits jacks streams maps j k m) (omega (arith, leb-true 14304 (length s) l)))
+    guarded-by (λ (x : Made). x .answer ≡ 0 → whole (x .store) ≡ true) _ _ _
+    (λ l _. left-whole s (newSound jacks streams maps) (new-fits jacks streams maps j k m) (omega (arith, leb-true stateSize (length s) l)))
     (λ _ e. absurd (omega arith))

@@ -4,37 +4,39 @@ ghost use mathlib.Core.Path.{_≡_};
 ghost use mathlib.Core.List.{[]};
 ghost use Prim.Native.Nat.{_≤_};
 ghost use lib.ListN.{length};
-ghost use Rattle.exchange.specs.Exchange.{saysReply};
-ghost use Rattle.exchange.specs.declared.plan.Effect.the-variants.{Nothing};
+ghost use Rattle.core.specs.Reply.{saysReply};
+ghost use Rattle.core.specs.declared.plan.Effect.the-variants.{Nothing};
 ghost use Rattle.state_store.specs.Calls.{left, callIn, feedIn, failIn, opened, openIn};
 ghost use Rattle.state_store.specs.Steps.{changed, finished, settingUpBy};
+ghost use Rattle.state_store.specs.Places.{stateSize};
 use crate::effect::apply;
-use crate::flat::both;
-use crate::flat::is_whole;
 use crate::head::core_by;
 use crate::head::get_head;
+use crate::head::is_whole;
 use crate::head::put_core;
 use crate::place::look;
 use crate::place::params_at;
 use crate::place::pending_look;
 use crate::result::put_result;
-use exchange::Call;
-use exchange::Core;
-use exchange::Effect;
-use exchange::Gate;
-use exchange::MESSAGE;
-use exchange::Plan;
-use exchange::Reply;
-use exchange::ask_jacks;
-use exchange::tell;
-use exchange::verdict_by;
-use exchange::xfer_gate;
+use codes::Refusal;
+use codes::both;
+use core::Call;
+use core::Core;
+use core::Effect;
+use core::Gate;
+use core::MESSAGE;
+use core::Plan;
+use core::Reply;
+use core::ask_jacks;
+use core::tell;
+use core::verdict_by;
+use core::xfer_gate;
 use tables::PAGE;
 use tables::Verdict;
 use turns::Track;
 
 // The bytes of a state.
-pub const SIZE: usize = 14304;
+pub const SIZE: usize = 14320;
 
 // The least length of a result: a list of 127 streams with its count.
 pub const RESULT: usize = 512;
@@ -47,7 +49,7 @@ pub enum Opening {
 }
 
 pub fn size() -> u64
-    ensures { λ r. ⌜ r ≡ 14304 ⌝ }
+    ensures { λ r. ⌜ r ≡ stateSize ⌝ }
 {
     SIZE as u64
 }
@@ -68,19 +70,19 @@ fn number_of(reply: Reply) -> u64
 
 // The new core and the effect, in a store that is whole; any other holds no state, and stays.
 fn change(state: &mut [u8], whole: bool, effect: Effect, core: Core, page: &[u8])
-    requires { ⌜ 14304 ≤ length (now state) ⌝ }
+    requires { ⌜ stateSize ≤ length (now state) ⌝ }
     ensures { λ _. ⌜ now (state .exit) ≡ changed whole (now (state .entry)) effect core (now (page .entry)) ⌝ }
 {
     if !whole {
         return;
     }
     put_core(&mut *state, core);
-    apply(&mut *state, effect, core.counts, page);
+    apply(&mut *state, effect, page);
 }
 
 // The new core alone.
 fn change_core(state: &mut [u8], whole: bool, core: Core)
-    requires { ⌜ 14304 ≤ length (now state) ⌝ }
+    requires { ⌜ stateSize ≤ length (now state) ⌝ }
     ensures { λ _. ⌜ now (state .exit) ≡ changed whole (now (state .entry)) Nothing core [] ⌝ }
 {
     if !whole {
@@ -98,7 +100,7 @@ fn finish(
     message: &mut [u8],
     result: &mut [u8],
 ) -> u64
-    requires { ⌜ (14304 ≤ length (now state)) × (24 ≤ length (now message)) ⌝ }
+    requires { ⌜ (stateSize ≤ length (now state)) × (24 ≤ length (now message)) ⌝ }
     ensures { λ r. ⌜ left r (now (state .exit)) (now (message .exit)) (now (result .exit)) ≡ finished whole (now (state .entry)) plan (now (page .entry)) (now (message .entry)) (now (result .entry)) ⌝ }
 {
     let core = plan.core;
@@ -122,9 +124,9 @@ pub fn call(state: &mut [u8], t: Track, asked: Call, message: &mut [u8], result:
         return 10;
     }
     let h = get_head(&state[..]);
-    let whole = is_whole(h.flat);
+    let whole = is_whole(h);
     let found = look(&state[..], asked);
-    let plan = exchange::begin(core_by(whole, h), t, asked, found);
+    let plan = core::begin(core_by(whole, h), t, asked, found);
     finish(state, whole, plan, &[], message, result)
 }
 
@@ -139,12 +141,12 @@ pub fn feed(state: &mut [u8], page: &[u8], message: &mut [u8], result: &mut [u8]
         return 10;
     }
     let h = get_head(&state[..]);
-    let whole = is_whole(h.flat);
+    let whole = is_whole(h);
     let c = core_by(whole, h);
     let stage = c.stage;
     let verdict = verdict_by(stage, c.counts, page);
     let found = pending_look(&state[..], stage);
-    let plan = exchange::answer(c, verdict, found);
+    let plan = core::answer(c, verdict, found);
     finish(state, whole, plan, page, message, result)
 }
 
@@ -159,17 +161,17 @@ pub fn feed_failure(state: &mut [u8], message: &mut [u8], result: &mut [u8]) -> 
         return 10;
     }
     let h = get_head(&state[..]);
-    let whole = is_whole(h.flat);
+    let whole = is_whole(h);
     let c = core_by(whole, h);
     let stage = c.stage;
     let found = pending_look(&state[..], stage);
-    let plan = exchange::answer(c, Verdict::Failed, found);
+    let plan = core::answer(c, Verdict::Refused(Refusal::QueueFailed), found);
     finish(state, whole, plan, &[], message, result)
 }
 
 // The transfer waits for set-up, and its first query goes out.
 fn set_up(state: &mut [u8], whole: bool, c: Core, stream: u32, message: &mut [u8]) -> Opening
-    requires { ⌜ (14304 ≤ length (now state)) × (24 ≤ length (now message)) ⌝ }
+    requires { ⌜ (stateSize ≤ length (now state)) × (24 ≤ length (now message)) ⌝ }
     ensures { λ r. ⌜ opened r (now (state .exit)) (now (message .exit)) ≡ settingUpBy whole c (now (state .entry)) stream (now (message .entry)) ⌝ }
 {
     let plan = ask_jacks(c, Call::Xfer { stream });
@@ -189,7 +191,7 @@ pub fn open(state: &mut [u8], t: Track, stream: u32, message: &mut [u8]) -> Open
         return Opening::Says(10);
     }
     let h = get_head(&state[..]);
-    let whole = is_whole(h.flat);
+    let whole = is_whole(h);
     let c = core_by(whole, h);
     let params = params_at(&state[..], stream);
     let gate = xfer_gate(lengths, c, params, t, stream);

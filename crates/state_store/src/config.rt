@@ -3,28 +3,29 @@ ghost use mathlib.Core.Path.{_≡_};
 ghost use Prim.Native.Nat.{_≤_};
 ghost use lib.ListN.{length};
 ghost use lib.Seq.{sets};
-ghost use Rattle.state_store.specs.Calls.{made, newIn, shown, jackCount, streamCount, mapCount, countIn};
+ghost use Rattle.layout.specs.Lent.{made, shown};
+ghost use Rattle.state_store.specs.Calls.{newIn, jackCount, streamCount, mapCount, countIn};
 ghost use Rattle.state_store.specs.Steps.{countBy};
 ghost use Rattle.layout.specs.Bytes.{zeros};
+ghost use Rattle.state_store.specs.Places.{headSize, stateSize, tablesSize};
 use crate::calls::RESULT;
 use crate::calls::SIZE;
-use crate::flat::both;
 use crate::head::core_of;
 use crate::head::get_head;
 use crate::head::put_core;
-use exchange::Core;
-use exchange::Counts;
-use exchange::Stage;
-use exchange::consistent;
+use crate::place::HEAD;
+use codes::both;
+use core::Core;
+use core::consistent;
 
 // The tables and parameters of a new state are 0.
 fn clear(s: &mut [u8])
-    requires { ⌜ 14304 ≤ length (now s) ⌝ }
-    ensures { λ _. ⌜ now (s .exit) ≡ sets (now (s .entry)) 48 (zeros 14256) ⌝ }
+    requires { ⌜ stateSize ≤ length (now s) ⌝ }
+    ensures { λ _. ⌜ now (s .exit) ≡ sets (now (s .entry)) headSize (zeros tablesSize) ⌝ }
 {
     let mut n: usize = 0;
-    while n < 14256 {
-        s[48 + n] = 0;
+    while n < SIZE - HEAD {
+        s[HEAD + n] = 0;
         n += 1;
     }
 }
@@ -36,21 +37,7 @@ pub fn new(state: &mut [u8], jacks: u32, streams: u32, chmaps: u32) -> u64
     if state.len() < SIZE {
         return 10;
     }
-    let core = Core {
-        counts: Counts {
-            jacks,
-            streams,
-            maps: chmaps,
-        },
-        read: Counts {
-            jacks: 0,
-            streams: 0,
-            maps: 0,
-        },
-        ready: false,
-        stage: Stage::Idle,
-    };
-    put_core(&mut *state, core);
+    put_core(&mut *state, Core::new(jacks, streams, chmaps));
     clear(&mut *state);
     0
 }

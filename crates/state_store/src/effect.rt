@@ -8,15 +8,18 @@ ghost use Rattle.layout.specs.Bytes.{bytesAt};
 ghost use Rattle.codes.specs.Says.{pick};
 ghost use Rattle.state_store.specs.Store.{paramsBytes};
 ghost use Rattle.state_store.specs.Effect.{copiedIn, effectIn};
+ghost use Rattle.state_store.specs.Places.{paramsPlace, stateSize};
 use crate::place::JACKS;
 use crate::place::MAPS;
 use crate::place::PARAMS;
 use crate::place::PCMS;
-use exchange::Counts;
-use exchange::Effect;
-use exchange::Params;
-use tables::is_good;
-use tables::judge;
+use crate::place::ROW;
+use core::Effect;
+use core::Params;
+use records::ChannelMap;
+use records::JackInfo;
+use records::PcmInfo;
+use tables::holds;
 
 // A byte at a time, which compiles to one copy of memory.
 fn copy(s: &mut [u8], at: usize, page: &[u8], from: usize, n: usize)
@@ -30,27 +33,26 @@ fn copy(s: &mut [u8], at: usize, page: &[u8], from: usize, n: usize)
     }
 }
 
-// The records of a good page are the table's own bytes. The page is judged here, so that no count
-// of records runs past the page or the table.
+// The records of a page are the table's own bytes. It is tested that the page holds so many, so that
+// no count runs past the page or the table.
 fn fill(s: &mut [u8], at: usize, size: u32, n: u32, page: &[u8])
     requires { ⌜ at + 4092 ≤ length (now s) ⌝ }
     ensures { λ _. ⌜ now (s .exit) ≡ copiedIn at size n (now (page .entry)) (now (s .entry)) ⌝ }
 {
-    let verdict = judge(page, n, size);
-    if is_good(verdict) {
+    if holds(page, n, size) {
         copy(&mut *s, at, page, 4, (n as usize) * (size as usize));
     }
 }
 
 // Past the last stream nothing is stored.
 fn put_params(s: &mut [u8], stream: u32, to: Params)
-    ensures { λ _. ⌜ now (s .exit) ≡ pick (ltb stream 127) (sets (now (s .entry)) (12272 + stream * 16) (paramsBytes to)) (now (s .entry)) ⌝ }
+    ensures { λ _. ⌜ now (s .exit) ≡ pick (ltb stream 127) (sets (now (s .entry)) (paramsPlace + stream * 16) (paramsBytes to)) (now (s .entry)) ⌝ }
 {
     let i = stream as usize;
     if 127 <= i {
         return;
     }
-    let at = PARAMS + i * 16;
+    let at = PARAMS + i * ROW;
     layout::put_u8(&mut *s, at, to.known);
     layout::put_u8(&mut *s, at + 1, to.channels);
     layout::put_u8(&mut *s, at + 2, to.format);
@@ -60,15 +62,15 @@ fn put_params(s: &mut [u8], stream: u32, to: Params)
     layout::put_u32(&mut *s, at + 12, to.features);
 }
 
-pub(crate) fn apply(s: &mut [u8], effect: Effect, counts: Counts, page: &[u8])
-    requires { ⌜ 14304 ≤ length (now s) ⌝ }
-    ensures { λ _. ⌜ now (s .exit) ≡ effectIn effect counts (now (page .entry)) (now (s .entry)) ⌝ }
+pub(crate) fn apply(s: &mut [u8], effect: Effect, page: &[u8])
+    requires { ⌜ stateSize ≤ length (now s) ⌝ }
+    ensures { λ _. ⌜ now (s .exit) ≡ effectIn effect (now (page .entry)) (now (s .entry)) ⌝ }
 {
     match effect {
         Effect::Nothing => {}
-        Effect::FillJacks => fill(&mut *s, JACKS, 24, counts.jacks, page),
-        Effect::FillStreams => fill(&mut *s, PCMS, 32, counts.streams, page),
-        Effect::FillMaps => fill(&mut *s, MAPS, 24, counts.maps, page),
+        Effect::FillJacks(n) => fill(&mut *s, JACKS, JackInfo::SIZE as u32, n, page),
+        Effect::FillStreams(n) => fill(&mut *s, PCMS, PcmInfo::SIZE as u32, n, page),
+        Effect::FillMaps(n) => fill(&mut *s, MAPS, ChannelMap::SIZE as u32, n, page),
         Effect::Store { stream, to } => put_params(&mut *s, stream, to),
     }
 }

@@ -4,12 +4,13 @@ ghost use mathlib.Core.Bool.{_&&_};
 ghost use Rattle.codes.specs.Says.{pick};
 ghost use Rattle.state_store.specs.Flat.{kindNumber, fieldNumber, numbered, setFlat, callFlat, staged, flatOf, kindOf, flatField, flatParams, flatCall, flatStage, wholeFlat};
 ghost use Rattle.state_store.specs.FlatTests.{plainOf, shortOf, sameCall};
-use exchange::Call;
-use exchange::Counts;
-use exchange::Field;
-use exchange::Kind;
-use exchange::Params;
-use exchange::Stage;
+use codes::both;
+use core::Call;
+use core::Counts;
+use core::Field;
+use core::Kind;
+use core::Params;
+use core::Stage;
 
 // A stage and the call that waits, by numbers; what a call has no use for is 0.
 pub struct Flat {
@@ -27,11 +28,13 @@ pub struct Flat {
     pub rate: u8,
 }
 
-// The first 48 bytes of a state.
+// What stands before the tables of a state. What is reserved is 0.
 pub struct Head {
     pub counts: Counts,
     pub read: Counts,
     pub flat: Flat,
+    pub reserved: u64,
+    pub spare: u64,
 }
 
 // ---- from a stage to its fields
@@ -244,12 +247,6 @@ pub(crate) fn stage_of(f: Flat) -> Stage
 
 // ---- the test of wholeness
 
-pub(crate) fn both(a: bool, b: bool) -> bool
-    ensures { λ r. ⌜ r ≡ (a && b) ⌝ }
-{
-    if a { b } else { false }
-}
-
 // The fields that only parameters use are 0.
 fn is_plain(f: Flat) -> bool
     ensures { λ r. ⌜ r ≡ plainOf f ⌝ }
@@ -302,7 +299,7 @@ fn is_blank(f: Flat) -> bool
 
 // Fields that are what their stage is written as: an unknown number, a flag of 2 and an unused
 // field that is not 0 are all found by this one test.
-pub(crate) fn is_whole(f: Flat) -> bool
+pub(crate) fn is_whole_flat(f: Flat) -> bool
     ensures { λ r. ⌜ r ≡ wholeFlat f ⌝ }
 {
     let n = f.stage;

@@ -3,22 +3,25 @@ ghost use mathlib.Core.Path.{_≡_};
 ghost use Prim.Native.Nat.{_+_, _≤_};
 ghost use lib.ListN.{length};
 ghost use lib.Seq.{sets};
+ghost use mathlib.Core.List.{[], _∷_};
+ghost use Rattle.state_store.specs.Flat.{flatRow, flatValues};
 ghost use Rattle.layout.specs.Bytes.{le, numAt};
 ghost use Rattle.layout.specs.Layout.{write};
-ghost use Rattle.state_store.specs.Flat.{flatRow, flatValues, wholeFlat};
-ghost use Rattle.state_store.specs.Store.{headRow, headValues, headAt, headOf, coreOf};
+ghost use Rattle.state_store.specs.Store.{headRow, headValues, headAt, headOf, coreOf, wholeHead, reservedRow};
 ghost use Rattle.state_store.specs.Steps.{countsRow, countsValues};
+ghost use Rattle.state_store.specs.Places.{headSize};
 use crate::flat::Flat;
 use crate::flat::Head;
 use crate::flat::flat_of;
-use crate::flat::is_whole;
+use crate::flat::is_whole_flat;
 use crate::flat::stage_of;
-use exchange::Call;
-use exchange::Core;
-use exchange::Counts;
-use exchange::Stage;
+use codes::both;
+use core::Call;
+use core::Core;
+use core::Counts;
+use core::Stage;
 
-// A number that lies within the store.
+// Numbers that lie within the store.
 fn half(s: &[u8], at: usize) -> u32
     requires { ⌜ at + 4 ≤ length (now s) ⌝ }
     ensures { λ r. ⌜ r ≡ numAt at 4 (now (s .entry)) ⌝ }
@@ -51,9 +54,40 @@ fn put_byte(s: &mut [u8], at: usize, v: u8)
     s[at] = v;
 }
 
+fn word(s: &[u8], at: usize) -> u64
+    requires { ⌜ at + 8 ≤ length (now s) ⌝ }
+    ensures { λ r. ⌜ r ≡ numAt at 8 (now (s .entry)) ⌝ }
+{
+    layout::u64_of([
+        s[at],
+        s[at + 1],
+        s[at + 2],
+        s[at + 3],
+        s[at + 4],
+        s[at + 5],
+        s[at + 6],
+        s[at + 7],
+    ])
+}
+
+fn put_word(s: &mut [u8], at: usize, v: u64)
+    requires { ⌜ at + 8 ≤ length (now s) ⌝ }
+    ensures { λ _. ⌜ now (s .exit) ≡ sets (now (s .entry)) at (le 8 v) ⌝ }
+{
+    let bytes = layout::u64_bytes(v);
+    s[at] = bytes[0];
+    s[at + 1] = bytes[1];
+    s[at + 2] = bytes[2];
+    s[at + 3] = bytes[3];
+    s[at + 4] = bytes[4];
+    s[at + 5] = bytes[5];
+    s[at + 6] = bytes[6];
+    s[at + 7] = bytes[7];
+}
+
 // The same of a store that is long enough, with no test at each field.
 pub(crate) fn get_head(s: &[u8]) -> Head
-    requires { ⌜ 48 ≤ length (now s) ⌝ }
+    requires { ⌜ headSize ≤ length (now s) ⌝ }
     ensures { λ r. ⌜ r ≡ headAt (now (s .entry)) ⌝ }
 {
     Head {
@@ -81,13 +115,23 @@ pub(crate) fn get_head(s: &[u8]) -> Head
             format: byte(s, 46),
             rate: byte(s, 47),
         },
+        reserved: word(s, 48),
+        spare: word(s, 56),
     }
+}
+
+// A head whose stage is written as it must be, and in which what is reserved is 0.
+pub(crate) fn is_whole(h: Head) -> bool
+    ensures { λ r. ⌜ r ≡ wholeHead h ⌝ }
+{
+    let flat = is_whole_flat(h.flat);
+    both(flat, both(h.reserved == 0, h.spare == 0))
 }
 
 // A head that is not whole stands for no core: it gives one that fails the consistency test, so
 // that every call refuses it in its turn.
 pub(crate) fn core_by(whole: bool, h: Head) -> Core
-    requires { ⌜ whole ≡ wholeFlat (h .flat) ⌝ }
+    requires { ⌜ whole ≡ wholeHead h ⌝ }
     ensures { λ r. ⌜ r ≡ coreOf h ⌝ }
 {
     let flat = h.flat;
@@ -115,11 +159,11 @@ pub(crate) fn core_by(whole: bool, h: Head) -> Core
 pub(crate) fn core_of(h: Head) -> Core
     ensures { λ r. ⌜ r ≡ coreOf h ⌝ }
 {
-    core_by(is_whole(h.flat), h)
+    core_by(is_whole(h), h)
 }
 
 fn put_counts(s: &mut [u8], counts: Counts, read: Counts)
-    requires { ⌜ 48 ≤ length (now s) ⌝ }
+    requires { ⌜ headSize ≤ length (now s) ⌝ }
     ensures { λ _. ⌜ now (s .exit) ≡ sets (now (s .entry)) 0 (write countsRow (countsValues counts read)) ⌝ }
 {
     put_half(s, 0, counts.jacks);
@@ -131,7 +175,7 @@ fn put_counts(s: &mut [u8], counts: Counts, read: Counts)
 }
 
 fn put_flat(s: &mut [u8], f: Flat)
-    requires { ⌜ 48 ≤ length (now s) ⌝ }
+    requires { ⌜ headSize ≤ length (now s) ⌝ }
     ensures { λ _. ⌜ now (s .exit) ≡ sets (now (s .entry)) 24 (write flatRow (flatValues f)) ⌝ }
 {
     put_byte(s, 24, f.ready);
@@ -148,13 +192,23 @@ fn put_flat(s: &mut [u8], f: Flat)
     put_byte(s, 47, f.rate);
 }
 
+// What is reserved is 0.
+fn put_reserved(s: &mut [u8])
+    requires { ⌜ headSize ≤ length (now s) ⌝ }
+    ensures { λ _. ⌜ now (s .exit) ≡ sets (now (s .entry)) 48 (write reservedRow (0 ∷ 0 ∷ [])) ⌝ }
+{
+    put_word(s, 48, 0);
+    put_word(s, 56, 0);
+}
+
 // The core over the one that stands there; no table is touched.
 pub(crate) fn put_core(s: &mut [u8], c: Core)
-    requires { ⌜ 48 ≤ length (now s) ⌝ }
+    requires { ⌜ headSize ≤ length (now s) ⌝ }
     ensures { λ _. ⌜ now (s .exit) ≡ sets (now (s .entry)) 0 (write headRow (headValues (headOf c))) ⌝ }
 {
     let stage = c.stage;
     let flat = flat_of(c.ready, stage);
     put_counts(s, c.counts, c.read);
     put_flat(s, flat);
+    put_reserved(s);
 }

@@ -2,89 +2,114 @@
 // end of a table there is 0.
 ghost use mathlib.Core.Path.{_≡_};
 ghost use Prim.Native.Nat.{_+_, _≤_};
+ghost use mathlib.Core.List.{[]};
+ghost use Rattle.records.specs.Records.{pcmInfoOf};
 ghost use Rattle.tables.specs.Tables.{pcmAt};
 ghost use Rattle.exchange.specs.State.{jackOf, pcmOf, paramsOf};
-ghost use Rattle.exchange.specs.Plan.{fieldOf, lookOf, pendingLook};
+ghost use Rattle.exchange.specs.Tables.{fieldOf, lookOf, pendingLook};
 ghost use Rattle.state_store.specs.Store.{soundOf};
-use exchange::Call;
-use exchange::Field;
-use exchange::Params;
-use exchange::Stage;
+ghost use Rattle.state_store.specs.Places.{stateSize};
+use core::Call;
+use core::Field;
+use core::Look;
+use core::Params;
+use core::Stage;
+use core::Value;
+use records::JackInfo;
+use records::PcmInfo;
 
-// The places of the tables, after the 48 bytes of the core.
-pub(crate) const JACKS: usize = 48;
+// The head of a state; the jacks follow it.
+pub(crate) const HEAD: usize = 64;
 
-pub(crate) const PCMS: usize = 4128;
+pub(crate) const JACKS: usize = HEAD;
 
-pub(crate) const MAPS: usize = 8192;
+pub(crate) const PCMS: usize = 4144;
 
-pub(crate) const PARAMS: usize = 12272;
+pub(crate) const MAPS: usize = 8208;
 
-fn jack_features(s: &[u8], jack: u32) -> u64
+pub(crate) const PARAMS: usize = 12288;
+
+// A stream's parameters.
+pub(crate) const ROW: usize = 16;
+
+fn jack_features(s: &[u8], jack: u32) -> u32
     ensures { λ r. ⌜ r ≡ jackOf (soundOf (now (s .entry))) jack .features ⌝ }
 {
     let i = jack as usize;
     if 170 <= i {
         return 0;
     }
-    layout::get_u32(s, JACKS + i * 24 + 4) as u64
+    layout::get_u32(s, JACKS + i * JackInfo::SIZE + 4)
 }
 
-// The field of the stream's record at a place, as one number.
-fn field_at(s: &[u8], at: usize, field: Field) -> u64
-    requires { ⌜ at + 32 ≤ 14304 ⌝ }
+// The field of the stream's record at a place.
+fn field_at(s: &[u8], at: usize, field: Field) -> Value
+    requires { ⌜ at + 32 ≤ stateSize ⌝ }
     ensures { λ r. ⌜ r ≡ fieldOf field (pcmAt at (now (s .entry))) ⌝ }
 {
     match field {
-        Field::Rates => layout::get_u64(s, at + 16),
-        Field::Formats => layout::get_u64(s, at + 8),
-        Field::Channels => {
-            let max = layout::get_u8(s, at + 26) as u64;
-            let min = layout::get_u8(s, at + 25) as u64;
-            max * 256 + min
-        }
-        Field::Features => layout::get_u32(s, at + 4) as u64,
+        Field::Rates => Value::Number(layout::get_u64(s, at + 16)),
+        Field::Formats => Value::Number(layout::get_u64(s, at + 8)),
+        Field::Channels => Value::Range {
+            min: layout::get_u8(s, at + 25),
+            max: layout::get_u8(s, at + 26),
+        },
+        Field::Features => Value::Number(layout::get_u32(s, at + 4) as u64),
     }
 }
 
-fn stream_field(s: &[u8], stream: u32, field: Field) -> u64
+// Past the last stream every field is 0.
+fn nothing(field: Field) -> Value
+    ensures { λ r. ⌜ r ≡ fieldOf field (pcmInfoOf []) ⌝ }
+{
+    match field {
+        Field::Rates => Value::Number(0),
+        Field::Formats => Value::Number(0),
+        Field::Channels => Value::Range { min: 0, max: 0 },
+        Field::Features => Value::Number(0),
+    }
+}
+
+fn stream_field(s: &[u8], stream: u32, field: Field) -> Value
     ensures { λ r. ⌜ r ≡ fieldOf field (pcmOf (soundOf (now (s .entry))) stream) ⌝ }
 {
     let i = stream as usize;
     if 127 <= i {
-        return 0;
+        return nothing(field);
     }
-    field_at(s, PCMS + i * 32, field)
+    field_at(s, PCMS + i * PcmInfo::SIZE, field)
 }
 
 // What a call looks up in a table.
-pub(crate) fn look(s: &[u8], call: Call) -> u64
+pub(crate) fn look(s: &[u8], call: Call) -> Look
     ensures { λ r. ⌜ r ≡ lookOf (soundOf (now (s .entry))) call ⌝ }
 {
     match call {
-        Call::SetParams { stream: _, to: _ } => 0,
-        Call::Command { kind: _, stream: _ } => 0,
+        Call::SetParams { stream: _, to: _ } => Look::Nothing,
+        Call::Command { kind: _, stream: _ } => Look::Nothing,
         Call::Remap {
             jack,
             association: _,
             sequence: _,
-        } => jack_features(s, jack),
-        Call::Streams { direction: _ } => 0,
-        Call::Supported { field, stream } => stream_field(s, stream, field),
-        Call::Xfer { stream: _ } => 0,
+        } => Look::Jack {
+            features: jack_features(s, jack),
+        },
+        Call::Streams { direction: _ } => Look::Nothing,
+        Call::Supported { field, stream } => Look::Stream(stream_field(s, stream, field)),
+        Call::Xfer { stream: _ } => Look::Nothing,
     }
 }
 
 // The look of the call that waits, once its answer lets it go on.
-pub(crate) fn pending_look(s: &[u8], stage: Stage) -> u64
+pub(crate) fn pending_look(s: &[u8], stage: Stage) -> Look
     ensures { λ r. ⌜ r ≡ pendingLook stage (soundOf (now (s .entry))) ⌝ }
 {
     match stage {
-        Stage::Idle => 0,
-        Stage::JacksAsked(_) => 0,
-        Stage::StreamsAsked(_) => 0,
+        Stage::Idle => Look::Nothing,
+        Stage::JacksAsked(_) => Look::Nothing,
+        Stage::StreamsAsked(_) => Look::Nothing,
         Stage::MapsAsked(call) => look(s, call),
-        Stage::Sent(_) => 0,
+        Stage::Sent(_) => Look::Nothing,
     }
 }
 
@@ -104,7 +129,7 @@ pub(crate) fn params_at(s: &[u8], stream: u32) -> Params
             rate: 0,
         };
     }
-    let at = PARAMS + i * 16;
+    let at = PARAMS + i * ROW;
     Params {
         known: layout::get_u8(s, at),
         buffer: layout::get_u32(s, at + 4),

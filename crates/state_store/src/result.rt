@@ -4,14 +4,16 @@ ghost use Prim.Native.Nat.{_+_, _*_, _≤_};
 ghost use lib.Seq.{sets};
 ghost use Rattle.layout.specs.Bytes.{le};
 ghost use Rattle.codes.specs.Says.{pick};
-ghost use Rattle.exchange.specs.Exchange.{replyOf, listBy, listOf};
-ghost use Rattle.exchange.specs.declared.plan.Value.the-variants as value;
+ghost use Rattle.core.specs.Reply.{replyOf};
+ghost use Rattle.exchange.specs.Exchange.{listed, idsBy, listOf};
+ghost use Rattle.core.specs.declared.plan.Value.the-variants as value;
 ghost use Rattle.state_store.specs.Store.{soundOf};
 ghost use Rattle.state_store.specs.Calls.{valueBytes, resultBytes};
 ghost use Rattle.state_store.specs.Steps.{idsIn, Listed};
 use crate::place::PCMS;
-use exchange::Say;
-use exchange::Value;
+use core::Say;
+use core::Value;
+use records::PcmInfo;
 
 // One more id after `count` of them, where that is wanted; how many there are then.
 fn put_id(result: &mut [u8], count: usize, wanted: bool, id: u32) -> usize
@@ -34,7 +36,7 @@ fn put_ids(s: &[u8], direction: u8, n: usize, result: &mut [u8]) -> usize
     let mut count: usize = 0;
     let mut i: usize = 0;
     while i < n {
-        let found = layout::get_u8(s, PCMS + i * 32 + 24);
+        let found = layout::get_u8(s, PCMS + i * PcmInfo::SIZE + 24);
         count = put_id(&mut *result, count, found == direction, i as u32);
         i += 1;
     }
@@ -43,7 +45,7 @@ fn put_ids(s: &[u8], direction: u8, n: usize, result: &mut [u8]) -> usize
 
 // The list of them: the count stands before the ids. A table of more than 127 counts as one of 127.
 fn put_streams(s: &[u8], direction: u8, n: u32, result: &mut [u8])
-    ensures { λ _. ⌜ now (result .exit) ≡ sets (now (result .entry)) 0 (valueBytes (value.Streams direction) (listBy (value.Streams direction) n (soundOf (now (s .entry)) .pcms))) ⌝ }
+    ensures { λ _. ⌜ now (result .exit) ≡ sets (now (result .entry)) 0 (valueBytes (value.Streams direction) (listed (idsBy (value.Streams direction) n (soundOf (now (s .entry)) .pcms)))) ⌝ }
 {
     if 127 < n {
         let all = put_ids(s, direction, 127, &mut *result);
@@ -55,7 +57,7 @@ fn put_streams(s: &[u8], direction: u8, n: u32, result: &mut [u8])
 }
 
 fn put_value(s: &[u8], v: Value, n: u32, result: &mut [u8])
-    ensures { λ _. ⌜ now (result .exit) ≡ sets (now (result .entry)) 0 (valueBytes v (listBy v n (soundOf (now (s .entry)) .pcms))) ⌝ }
+    ensures { λ _. ⌜ now (result .exit) ≡ sets (now (result .entry)) 0 (valueBytes v (listed (idsBy v n (soundOf (now (s .entry)) .pcms)))) ⌝ }
 {
     match v {
         Value::Nothing => {}

@@ -1,6 +1,6 @@
 -- An answer page: how it is judged, and the table that it holds. One definition over the record's size serves all three tables.
 -- Assumes nothing.
-use mathlib.Core.Bool.{Bool, true, false}
+use mathlib.Core.Bool.{Bool, true, false, _&&_}
 use mathlib.Core.List.{List, [], _++_}
 use Prim.Native.Nat.{ℕ, _+_, _*_}
 use lib.Dec.{leb, eqb}
@@ -8,42 +8,42 @@ use lib.ListN.{length, drop, replicate}
 use Rattle.layout.specs.Bytes.{numAt}
 use Rattle.layout.specs.Layout.{readAt}
 use Rattle.layout.specs.Rows.{rowsAt}
-use Rattle.codes.specs.Says.{Says, says, pick}
+use Rattle.codes.specs.Says.{Says, says, pick, guard}
+use Rattle.codes.specs.Answers.{saysRefusal}
+use Rattle.codes.specs.declared.answers.Refusal.the-variants.{TooMany, BadLength}
 use Rattle.records.specs.Records.{jackInfo, pcmInfo, channelMap, jackInfoOf, pcmInfoOf, channelMapOf}
 use Rattle.records.specs.declared.info.JackInfo.{JackInfo}
 use Rattle.records.specs.declared.info.PcmInfo.{PcmInfo}
 use Rattle.records.specs.declared.info.ChannelMap.{ChannelMap}
 use Rattle.tables.specs.declared.verdict.Verdict.{Verdict}
-use Rattle.tables.specs.declared.verdict.Verdict.the-variants.{Good, Status, TooMany, BadLength, Failed}
-use Rattle.tables.specs.declared.jacks.Jacks.{Jacks}
-use Rattle.tables.specs.declared.streams.Streams.{Streams}
-use Rattle.tables.specs.declared.maps.Maps.{Maps}
+use Rattle.tables.specs.declared.verdict.Verdict.the-variants.{Good, Status, Refused}
 
 -- ---- the verdict: "The header is judged before the count."
 
--- a page of n records of a size: 10 for its length, 2 for its header, 5 where the records do not fit
+-- a page of n records of a size: 10 for its length, then its header, then 5 where the records do not fit
 unfoldable pub judged : List ℕ → ℕ → ℕ → Verdict
 judged page n size =
-    pick (eqb (length page) 4096)
-    (pick (eqb (numAt 0 4 page) 0x8000)
-    (pick (leb (4 + n * size) 4096) Good TooMany)
-    (Status (numAt 0 4 page)))
-    BadLength
+    guard (eqb (length page) 4096) (Refused BadLength)
+    (guard (eqb (numAt 0 4 page) 0x8000) (Status (numAt 0 4 page))
+    (guard (leb (4 + n * size) 4096) (Refused TooMany)
+    Good))
 
 abbrev pub isGood : Verdict → Bool
 isGood Good = true
 isGood (Status word) = false
-isGood TooMany = false
-isGood BadLength = false
-isGood Failed = false
+isGood (Refused r) = false
 
--- document 01's number of a verdict; a status is kept inside and says 2
+-- the refusal of a number, whatever was asked
+abbrev pub refusedBy : ℕ → Verdict → Bool
+refusedBy n Good = false
+refusedBy n (Status word) = false
+refusedBy n (Refused r) = eqb (saysRefusal r .number) n
+
+-- document 01's number of a verdict; a status not ok says 2, and 3 to a remap
 abbrev pub saysVerdict : Verdict → Says
 saysVerdict Good = says 0 []
 saysVerdict (Status word) = says 2 []
-saysVerdict TooMany = says 5 []
-saysVerdict BadLength = says 10 []
-saysVerdict Failed = says 7 []
+saysVerdict (Refused r) = saysRefusal r
 
 -- ---- the records, at 4 + i × size, over what the table held; past its count a table is as it was, and is not looked at
 
@@ -61,15 +61,19 @@ mapAt o s = channelMapOf (readAt o channelMap s)
 abbrev pub filled : {A : Type 0} → (ℕ → List ℕ → A) → ℕ → List ℕ → ℕ → List A → List A
 filled f size page n old = rowsAt f size 4 n page ++ drop n old
 
--- where the verdict is good the table is filled, else it is as it was
-unfoldable pub jacksRead : List ℕ → ℕ → List JackInfo → Jacks
-jacksRead page n old = record { verdict = judged page n 24; at = pick (isGood (judged page n 24)) (filled jackAt 24 page n old) old }
+-- a page that holds n records of a size
+abbrev pub fits : List ℕ → ℕ → ℕ → Bool
+fits page n size = eqb (length page) 4096 && leb (4 + n * size) 4096
 
-unfoldable pub streamsRead : List ℕ → ℕ → List PcmInfo → Streams
-streamsRead page n old = record { verdict = judged page n 32; at = pick (isGood (judged page n 32)) (filled pcmAt 32 page n old) old }
+-- n records of a page over a table; where the page does not hold them the table is as it was
+unfoldable pub jacksRead : List ℕ → ℕ → List JackInfo → List JackInfo
+jacksRead page n old = pick (fits page n 24) (filled jackAt 24 page n old) old
 
-unfoldable pub mapsRead : List ℕ → ℕ → List ChannelMap → Maps
-mapsRead page n old = record { verdict = judged page n 24; at = pick (isGood (judged page n 24)) (filled mapAt 24 page n old) old }
+unfoldable pub streamsRead : List ℕ → ℕ → List PcmInfo → List PcmInfo
+streamsRead page n old = pick (fits page n 32) (filled pcmAt 32 page n old) old
+
+unfoldable pub mapsRead : List ℕ → ℕ → List ChannelMap → List ChannelMap
+mapsRead page n old = pick (fits page n 24) (filled mapAt 24 page n old) old
 
 -- empty tables
 abbrev pub noJacks : List JackInfo

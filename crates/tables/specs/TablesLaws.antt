@@ -1,23 +1,24 @@
 -- The laws of a page's tables, over the record's size, its reader and the table's length.
 -- Assumes nothing.
 use mathlib.Core.Path.{_≡_, refl, sym, ap, _∙_}
-use mathlib.Core.Bool.{Bool, true, false, false≢true}
+use mathlib.Core.Bool.{Bool, true, false, _&&_, false≢true}
 use mathlib.Core.List.{List, [], _++_}
 use Prim.Native.Nat.{ℕ, _+_, _-_, _*_, _≤_, _<_}
 use native.Mathlib.Omega.{arith}
 use lib.Dec.{leb, eqb}
 use lib.ListN.{length, set, take, drop, length-append, length-drop, take-append-drop}
 use lib.Seq.{take-at, drop-append-add, drop-set-lt, drop-drop}
-use borrow.Author.Tests.{eqb-true, leb-true}
+use borrow.Author.Tests.{eq-eqb, eqb-true, le-leb, leb-true}
 use Rattle.layout.specs.Bytes.{numAt}
 use Rattle.layout.specs.Layout.{size, readAt}
 use Rattle.layout.specs.Rows.{rowsAt}
 use Rattle.layout.specs.RowsLaws.{length-rows, rows-more}
-use Rattle.codes.specs.Says.{Says, says, pick}
+use Rattle.codes.specs.Says.{Says, says, guard}
 use Rattle.records.specs.Slice.{readSays}
 use Rattle.records.specs.SliceLaws.{read-inside}
-use Rattle.tables.specs.Tables.{judged, isGood, filled}
-use Rattle.tables.specs.declared.verdict.Verdict.the-variants.{Good, Status, TooMany, BadLength}
+use Rattle.codes.specs.declared.answers.Refusal.the-variants.{TooMany, BadLength}
+use Rattle.tables.specs.Tables.{judged, isGood, fits, filled}
+use Rattle.tables.specs.declared.verdict.Verdict.the-variants.{Good, Status, Refused}
 
 -- a good verdict: the page is whole, its header ok, and it holds the records
 pub record Whole (page : List ℕ) (n size : ℕ) : Type 0 where
@@ -25,7 +26,8 @@ pub record Whole (page : List ℕ) (n size : ℕ) : Type 0 where
   pub ok : numAt 0 4 page ≡ 0x8000
   pub fits : 4 + n * size ≤ 4096
 
-good-by : (l h f : Bool) (w : ℕ) → isGood (pick l (pick h (pick f Good TooMany) (Status w)) BadLength) ≡ true → (l ≡ true) × (h ≡ true) × (f ≡ true)
+good-by : (l h f : Bool) (w : ℕ) → isGood (guard l (Refused BadLength) (guard h (Status w) (guard f (Refused TooMany) Good))) ≡ true → (l ≡ true) × (h ≡ true) × (f ≡ true)
+unfolding guard
 good-by true true true w e = (refl, refl, refl)
 good-by true true false w e = absurd (false≢true e)
 good-by true false f w e = absurd (false≢true e)
@@ -37,8 +39,16 @@ good-whole page n size e =
     let b = good-by (eqb (length page) 4096) (eqb (numAt 0 4 page) 0x8000) (leb (4 + n * size) 4096) (numAt 0 4 page) e in
     record { long = eqb-true _ _ (b .0); ok = eqb-true _ _ (b .1); fits = leb-true _ _ (b .2) }
 
-pub good-fits : (page : List ℕ) (n size : ℕ) → isGood (judged page n size) ≡ true → (length page ≡ 4096) × (4 + n * size ≤ 4096)
-good-fits page n size e = let w = good-whole page n size e in (w .long, w .fits)
+-- a page that is good holds its records
+pub good-fits : (page : List ℕ) (n size : ℕ) → isGood (judged page n size) ≡ true → fits page n size ≡ true
+good-fits page n size e = let w = good-whole page n size e in rw (eq-eqb _ _ (w .long)) (le-leb _ _ (w .fits))
+
+fits-by : (a b : Bool) → (a && b) ≡ true → (a ≡ true) × (b ≡ true)
+fits-by true b e = (refl, e)
+fits-by false b e = absurd (false≢true e)
+
+pub fits-facts : (page : List ℕ) (n size : ℕ) → fits page n size ≡ true → (length page ≡ 4096) × (4 + n * size ≤ 4096)
+fits-facts page n size e = let b = fits-by _ _ e in (eqb-true _ _ (b .0), leb-true _ _ (b .1))
 
 -- record i of a page that holds it: what the reader of `&page[a..]` says
 module _ (ws page : List ℕ) (a : ℕ) (h : a + size ws ≤ length page) where

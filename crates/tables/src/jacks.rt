@@ -3,16 +3,9 @@ ghost use mathlib.Core.Path.{_≡_};
 ghost use Prim.Native.Nat.{_+_, _*_, _≤_};
 ghost use lib.ListN.{length};
 ghost use Rattle.tables.specs.Tables.{jackAt, filled, jacksRead, noJacks};
-use crate::verdict::Verdict;
-use crate::verdict::is_good;
-use crate::verdict::judge;
+use crate::verdict::holds;
 use records::JackInfo;
 use records::ReadJackInfo;
-
-pub struct Jacks {
-    pub verdict: Verdict,
-    pub at: [JackInfo; 170],
-}
 
 // The table before any answer.
 pub fn no_jacks() -> [JackInfo; 170]
@@ -48,15 +41,13 @@ fn fill_jacks(page: &[u8], n: usize, old: [JackInfo; 170]) -> [JackInfo; 170]
     at
 }
 
-// Where the verdict is not good, the table stays as it was.
-pub fn read_jacks(page: &[u8], count: u32, old: [JackInfo; 170]) -> Jacks
+// The first `count` records of the page over the table; where the page does not hold them, the table
+// as it was.
+pub fn read_jacks(page: &[u8], count: u32, old: [JackInfo; 170]) -> [JackInfo; 170]
     ensures { λ r. ⌜ r ≡ jacksRead (now (page .entry)) count old ⌝ }
 {
-    let verdict = judge(page, count, 24);
-    if is_good(verdict) {
-        let at = fill_jacks(page, count as usize, old);
-        Jacks { verdict, at }
-    } else {
-        Jacks { verdict, at: old }
+    if holds(page, count, JackInfo::SIZE as u32) {
+        return fill_jacks(page, count as usize, old);
     }
+    old
 }

@@ -4,16 +4,15 @@ mod maps;
 mod streams;
 mod verdict;
 
-pub use jacks::Jacks;
 pub use jacks::no_jacks;
 pub use jacks::read_jacks;
-pub use maps::Maps;
 pub use maps::no_maps;
 pub use maps::read_maps;
-pub use streams::Streams;
 pub use streams::no_streams;
 pub use streams::read_streams;
 pub use verdict::PAGE;
 pub use verdict::Verdict;
+pub use verdict::holds;
 pub use verdict::is_good;
 pub use verdict::judge;
+pub use verdict::refused_by;

@@ -3,16 +3,9 @@ ghost use mathlib.Core.Path.{_≡_};
 ghost use Prim.Native.Nat.{_+_, _*_, _≤_};
 ghost use lib.ListN.{length};
 ghost use Rattle.tables.specs.Tables.{mapAt, filled, mapsRead, noMaps};
-use crate::verdict::Verdict;
-use crate::verdict::is_good;
-use crate::verdict::judge;
+use crate::verdict::holds;
 use records::ChannelMap;
 use records::ReadChannelMap;
-
-pub struct Maps {
-    pub verdict: Verdict,
-    pub at: [ChannelMap; 170],
-}
 
 // The table before any answer.
 pub fn no_maps() -> [ChannelMap; 170]
@@ -46,15 +39,13 @@ fn fill_maps(page: &[u8], n: usize, old: [ChannelMap; 170]) -> [ChannelMap; 170]
     at
 }
 
-// Where the verdict is not good, the table stays as it was.
-pub fn read_maps(page: &[u8], count: u32, old: [ChannelMap; 170]) -> Maps
+// The first `count` records of the page over the table; where the page does not hold them, the table
+// as it was.
+pub fn read_maps(page: &[u8], count: u32, old: [ChannelMap; 170]) -> [ChannelMap; 170]
     ensures { λ r. ⌜ r ≡ mapsRead (now (page .entry)) count old ⌝ }
 {
-    let verdict = judge(page, count, 24);
-    if is_good(verdict) {
-        let at = fill_maps(page, count as usize, old);
-        Maps { verdict, at }
-    } else {
-        Maps { verdict, at: old }
+    if holds(page, count, ChannelMap::SIZE as u32) {
+        return fill_maps(page, count as usize, old);
     }
+    old
 }

@@ -3,16 +3,9 @@ ghost use mathlib.Core.Path.{_≡_};
 ghost use Prim.Native.Nat.{_+_, _*_, _≤_};
 ghost use lib.ListN.{length};
 ghost use Rattle.tables.specs.Tables.{pcmAt, filled, streamsRead, noStreams};
-use crate::verdict::Verdict;
-use crate::verdict::is_good;
-use crate::verdict::judge;
+use crate::verdict::holds;
 use records::PcmInfo;
 use records::ReadPcmInfo;
-
-pub struct Streams {
-    pub verdict: Verdict,
-    pub at: [PcmInfo; 127],
-}
 
 // The table before any answer.
 pub fn no_streams() -> [PcmInfo; 127]
@@ -49,15 +42,13 @@ fn fill_streams(page: &[u8], n: usize, old: [PcmInfo; 127]) -> [PcmInfo; 127]
     at
 }
 
-// Where the verdict is not good, the table stays as it was.
-pub fn read_streams(page: &[u8], count: u32, old: [PcmInfo; 127]) -> Streams
+// The first `count` records of the page over the table; where the page does not hold them, the table
+// as it was.
+pub fn read_streams(page: &[u8], count: u32, old: [PcmInfo; 127]) -> [PcmInfo; 127]
     ensures { λ r. ⌜ r ≡ streamsRead (now (page .entry)) count old ⌝ }
 {
-    let verdict = judge(page, count, 32);
-    if is_good(verdict) {
-        let at = fill_streams(page, count as usize, old);
-        Streams { verdict, at }
-    } else {
-        Streams { verdict, at: old }
+    if holds(page, count, PcmInfo::SIZE as u32) {
+        return fill_streams(page, count as usize, old);
     }
+    old
 }

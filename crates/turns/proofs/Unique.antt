@@ -19,14 +19,10 @@ use Rattle.codes.specs.SaysLaws.{same, one}
 use Rattle.turns.specs.Cut.{payload}
 use Rattle.turns.specs.Calls.{shownBy}
 use Rattle.turns.specs.Reads.{saysNumber, saysCarried, saysOldest}
-use Rattle.turns.specs.declared.ring.Sent.{Sent}
-use Rattle.turns.specs.declared.calls.Offer.{Offer}
+use Rattle.turns.specs.Types.{Sent, Offer, RingNumber, Carried, Oldest}
 use Rattle.turns.specs.declared.calls.Offer.the-variants as offer
-use Rattle.turns.specs.declared.ring.RingNumber.{RingNumber}
 use Rattle.turns.specs.declared.ring.RingNumber.the-variants as number
-use Rattle.turns.specs.declared.ring.Carried.{Carried}
 use Rattle.turns.specs.declared.ring.Carried.the-variants as carried
-use Rattle.turns.specs.declared.ring.Oldest.{Oldest}
 use Rattle.turns.specs.declared.ring.Oldest.the-variants as oldest
 use Rattle.turns.proofs.calls.is_idle.Reads as is-idle
 use Rattle.turns.proofs.consistent.is_consistent.Reads as is-consistent

@@ -3,37 +3,26 @@
 use Prim.Native.Nat.{ℕ, suc, _+_, _*_, _%_, _≤_, _<_}
 use mathlib.Core.Path.{_≡_}
 use mathlib.Core.Logic.{_⊎_}
-use mathlib.Core.Bool.{false}
+use mathlib.Core.Bool.{true, false}
 use mathlib.Core.List.{List, [], _∷_, _++_, map}
 use lib.ListN.{length, getD, take, drop}
 use Rattle.layout.specs.Bytes.{le}
+use Rattle.layout.specs.All.{All}
 use Rattle.turns.specs.Cut.{cut, join, spanOf, payload, message}
 use Rattle.turns.specs.Ring.{blankSlot, saysSaid}
-use Rattle.turns.specs.ConsistentLaws.{Consistent}
+use Rattle.turns.specs.Consistent.{consistentOf}
 use Rattle.turns.specs.Calls.{startCall, startedOf}
-use Rattle.turns.specs.Log.{Line, Ran, hosted, sends, frees}
-use Rattle.turns.specs.declared.ring.Ring.{Ring}
-use Rattle.turns.specs.declared.ring.Track.{Track}
-use Rattle.turns.specs.declared.ring.Turned.{Turned}
-use Rattle.turns.specs.declared.ring.Said.{Said}
-use Rattle.turns.specs.declared.ring.Sent.the-variants.{Nothing, Period}
-use Rattle.turns.specs.declared.ring.Heard.{Heard}
-use Rattle.turns.specs.declared.ring.Heard.the-variants.{Silent, Freed}
-use Rattle.turns.specs.declared.reading.Reading.{Reading}
-use Rattle.turns.specs.declared.reading.Reading.the-variants.{Quiet, Completed}
+use Rattle.turns.specs.Log.{Line, Ran, turnByTurn, sends, frees}
+use Rattle.turns.specs.Types.{Track, Ring, Nothing, Period, Heard, Silent, Freed, Said, Turned, Reading, Quiet, Completed}
 
 -- the start of a transfer on a ring, and the turns after it
 abbrev pub starts : Ring → ℕ → ℕ → ℕ → List ℕ → Turned
 starts r stream period budget frames = startedOf r (startCall (r .track) stream (length frames) period budget)
 
-abbrev pub plays : ℕ → Ring → ℕ → ℕ → ℕ → List ℕ → List Reading → Ran Ring
-plays least r stream period budget frames script = hosted least (length frames) budget (starts r stream period budget frames .ring) script
+abbrev pub plays : Ring → ℕ → ℕ → ℕ → List ℕ → List Reading → Ran Ring
+plays r stream period budget frames script = turnByTurn (length frames) budget (starts r stream period budget frames .ring) script
 
 -- ---- what demand 3 takes
-
-abbrev pub All : {A : Type 0} → (A → Type 0) → List A → Type 0
-All P [] = Unit {0}
-All P (x ∷ xs) = P x × All P xs
 
 abbrev pub Any : {A : Type 0} → (A → Type 0) → List A → Type 0
 Any P [] = ⊥
@@ -41,13 +30,13 @@ Any P (x ∷ xs) = P x ⊎ Any P xs
 
 -- "a state and ring that calls left, .. no exchange or transfer open, nothing in flight"
 pub record Idle (r : Ring) : Type 0 where
-  pub consistent : Consistent (r .track)
+  pub consistent : consistentOf (r .track) ≡ true
   pub stopped : r .track .running ≡ false
-  pub empty : r .track .held ≡ 0
+  pub empty : r .track .inflight ≡ 0
 
 -- "no turn reports a wrong token or a status other than 0x8000": it says neither 6 nor 2
-abbrev pub Right : Line → Type 0
-Right line = (saysSaid (line .said) .number ≡ 6 → ⊥) × (saysSaid (line .said) .number ≡ 2 → ⊥)
+abbrev pub NoFault : Line → Type 0
+NoFault line = (saysSaid (line .said) .number ≡ 6 → ⊥) × (saysSaid (line .said) .number ≡ 2 → ⊥)
 
 -- "with something in flight at its reading"
 abbrev pub InFlight : Line → Type 0
@@ -62,8 +51,8 @@ abbrev pub Reports : Line → Type 0
 Reports line = Completes (line .reading)
 
 -- "among any g turns running, each with something in flight at its reading, one reports a completion"
-abbrev pub Every : ℕ → List Line → Type 0
-Every g log = (i : ℕ) → i + g ≤ length log → All InFlight (take g (drop i log)) → Any Reports (take g (drop i log))
+abbrev pub CompletesWithin : ℕ → List Line → Type 0
+CompletesWithin g log = (i : ℕ) → i + g ≤ length log → All InFlight (take g (drop i log)) → Any Reports (take g (drop i log))
 
 -- ---- what it asks
 
@@ -77,7 +66,7 @@ pub record Whole (stream period : ℕ) (frames : List ℕ) (log : List Line) : T
   pub completed : (i : ℕ) → i < length (cut period frames) → getD (frees log) i Silent ≡ Freed (i % 32) 0x8000
   -- and comes no earlier than its submission: after every turn, completions so far ≤ submissions so far
   pub timely : (k : ℕ) → length (frees (take k log)) ≤ length (sends (take k log))
-  -- what the device got, period by period: the stream id, 4 bytes little-endian, then the period
+  -- what the device got, period by period: the stream id that the ring tells (`stream-told`), 4 bytes little-endian, then the period
   pub bytes : map (message stream frames) (sends log) ≡ map (λ p. le 4 stream ++ p) (cut period frames)
   -- "their payloads joined equal the frames"
   pub joined : join (map (payload frames) (sends log)) ≡ frames
@@ -102,7 +91,7 @@ pub record Accounted (period : ℕ) (frames : List ℕ) (said : Said) (track : T
   pub order : (i : ℕ) → i < length (sends log) → getD (sends log) i Nothing ≡ Period (i % 32) (i * period) (spanOf period (length frames) (i * period))
   pub payloads : map (payload frames) (sends log) ≡ take (length (sends log)) (cut period frames)
   pub back : Accepted (saysSaid said .number) 0 (frees log)
-  pub owed : length (sends log) ≡ length (frees log) + track .held
+  pub owed : length (sends log) ≡ length (frees log) + track .inflight
   pub oldest : track .tail ≡ length (frees log) % 32
 
 -- the slots of what is in flight carry the periods that went out and were not completed
@@ -111,5 +100,5 @@ Carried period frames h = (i : ℕ) → length (frees (h .log)) ≤ i → i < le
     → getD (h .at .slots) (i % 32) blankSlot ≡ record { offset = i * period; len = spanOf period (length frames) (i * period) }
 
 -- no more than ten in flight when a turn looks at its reading
-abbrev pub Ten : Line → Type 0
-Ten line = line .waiting ≤ 10
+abbrev pub AtMostTen : Line → Type 0
+AtMostTen line = line .waiting ≤ 10

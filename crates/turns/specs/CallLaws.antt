@@ -13,12 +13,7 @@ use lib.Seq.{drop-length, take-nil, take-all, set-out}
 use Rattle.codes.specs.Says.{pick}
 use Rattle.turns.specs.Calls.{carry, ringAfter}
 use Rattle.turns.specs.Reads.{readOf, runningOf}
-use Rattle.turns.specs.declared.ring.Track.{Track}
-use Rattle.turns.specs.declared.ring.Ring.{Ring}
-use Rattle.turns.specs.declared.ring.Slot.{Slot}
-use Rattle.turns.specs.declared.ring.Step.{Step}
-use Rattle.turns.specs.declared.ring.Sent.{Sent}
-use Rattle.turns.specs.declared.ring.Sent.the-variants.{Nothing, Period}
+use Rattle.turns.specs.Types.{Slot, Track, Ring, Sent, Nothing, Period, Step}
 
 -- ---- r is what a callee said of the test t, and the code went by r
 

@@ -6,78 +6,60 @@ use Prim.Native.Nat.{ℕ}
 use lib.Dec.{ltb, eqb}
 use lib.ListN.{set}
 use Rattle.codes.specs.Says.{guard, Says, says}
-use Rattle.codes.specs.declared.answers.Answer.{Answer}
-use Rattle.codes.specs.declared.answers.Answer.the-variants.{Ok, WrongToken}
 use Rattle.codes.specs.declared.answers.Refusal.{Refusal}
-use Rattle.codes.specs.declared.answers.Refusal.the-variants.{InvalidParam, Busy, OutOfTurns, BadLength}
+use Rattle.codes.specs.declared.answers.Refusal.the-variants.{InvalidParam, WrongToken, Busy, OutOfTurns, BadLength}
 use Rattle.turns.specs.Cut.{payload}
-use Rattle.turns.specs.Rules.{chooseOf, sentOf, judgeOf, release, turnOf, countedOf}
+use Rattle.turns.specs.Rules.{chooseOf, sentOf, isOldest, release, turnOf, countedOf}
 use Rattle.turns.specs.Consistent.{consistentOf}
-use Rattle.turns.specs.declared.ring.Slot.{Slot}
-use Rattle.turns.specs.declared.ring.Track.{Track}
-use Rattle.turns.specs.declared.ring.Ring.{Ring}
-use Rattle.turns.specs.declared.ring.Step.{Step}
-use Rattle.turns.specs.declared.ring.Turned.{Turned}
-use Rattle.turns.specs.declared.ring.Sent.{Sent}
-use Rattle.turns.specs.declared.ring.Sent.the-variants.{Nothing, Period}
-use Rattle.turns.specs.declared.ring.Heard.the-variants.{Silent, Freed}
-use Rattle.turns.specs.declared.ring.Said.the-variants.{Going, Ended, Refused}
-use Rattle.turns.specs.declared.reading.Reading.{Reading}
-use Rattle.turns.specs.declared.reading.Reading.the-variants.{Quiet, Completed}
-use Rattle.turns.specs.declared.rules.Choice.{Choice}
-use Rattle.turns.specs.declared.rules.Choice.the-variants.{Submit, Finish, Wait}
-use Rattle.turns.specs.declared.rules.Verdict.{Verdict}
-use Rattle.turns.specs.declared.rules.Verdict.the-variants.{Stranger, Good, Bad}
-use Rattle.turns.specs.declared.calls.Offer.{Offer}
+use Rattle.turns.specs.Types.{Slot, Track, Ring, Sent, Nothing, Period, Silent, Freed, Said, Going, Done, Ended, Refused, Step, Turned, Reading, Quiet, Completed, Choice, Submit, Finish, Wait, Offer}
 use Rattle.turns.specs.declared.calls.Offer.the-variants as offer
 use Rattle.codes.specs.Answers.{saysRefusal}
 
--- a refusal changes nothing; an answer that frees nothing changes nothing either
-abbrev pub refusedOf : Refusal → Track → Step
-refusedOf r t = record { track = t; sent = Nothing; heard = Silent; said = Refused r }
+-- nothing was submitted and nothing freed: so it is with every refusal
+abbrev pub unchangedOf : Said → Track → Step
+unchangedOf said t = record { track = t; sent = Nothing; heard = Silent; said = said }
 
-abbrev pub answeredOf : Answer → Track → Step
-answeredOf a t = record { track = t; sent = Nothing; heard = Silent; said = Ended a }
+abbrev pub refusedOf : Refusal → Track → Step
+refusedOf r t = unchangedOf (Refused r) t
 
 -- "A turn's frames not as long as at the start" get 10; where no transfer runs there is no start to compare with
 abbrev pub lengthAgrees : Track → ℕ → Bool
 lengthAgrees t len = not (t .running) || eqb len (t .total)
 
 -- A TURN, lent frames of some length: 10, then 1 for an inconsistent ring, 1 where no transfer runs
-unfoldable pub turnCall : ℕ → Track → ℕ → Reading → Step
-turnCall least t len reading =
-    guard (lengthAgrees t len)
-    (guard (consistentOf t)
-    (guard (t .running) (countedOf (turnOf least t reading)) (refusedOf InvalidParam t))
-    (refusedOf InvalidParam t))
-    (refusedOf BadLength t)
+unfoldable pub turnCall : Track → ℕ → Reading → Step
+turnCall t len reading =
+    guard (lengthAgrees t len) (refusedOf BadLength t)
+    (guard (consistentOf t) (refusedOf InvalidParam t)
+    (guard (t .running) (refusedOf InvalidParam t)
+    (countedOf (turnOf (t .descriptors) t reading))))
 
 -- "After 2, 6 or 9 drain turns free owed slots, oldest first, ignoring status; a wrong slot, or any when none is owed, gives 6 and frees none;
 -- a right slot or a quiet reading gives Ok."
-abbrev pub drainBy : Verdict → Track → ℕ → ℕ → Step
-drainBy Stranger t slot status = answeredOf WrongToken t
-drainBy Good t slot status = record { track = release t; sent = Nothing; heard = Freed slot status; said = Ended Ok }
-drainBy (Bad a) t slot status = record { track = release t; sent = Nothing; heard = Freed slot status; said = Ended Ok }
+abbrev pub freedOf : Track → ℕ → ℕ → Step
+freedOf t slot status =
+    guard (isOldest t slot) (unchangedOf (Ended WrongToken) t)
+    (record { track = release t; sent = Nothing; heard = Freed slot status; said = Done })
 
 abbrev pub drained : Track → Reading → Step
-drained t Quiet = answeredOf Ok t
-drained t (Completed slot status) = drainBy (judgeOf t slot status) t slot status
+drained t Quiet = unchangedOf Done t
+drained t (Completed slot status) = freedOf t slot status
 
 -- A DRAIN TURN: 1 for an inconsistent ring, 1 while a transfer runs
 unfoldable pub drainCall : Track → Reading → Step
 drainCall t reading =
-    guard (consistentOf t)
-    (guard (t .running) (refusedOf InvalidParam t) (drained t reading))
-    (refusedOf InvalidParam t)
+    guard (consistentOf t) (refusedOf InvalidParam t)
+    (guard (t .running) (drained t reading)
+    (refusedOf InvalidParam t))
 
 -- "A transfer starts with 32 free descriptors, head and tail 0."
 abbrev pub begun : Track → ℕ → ℕ → ℕ → ℕ → Track
 begun t stream total period budget =
     record {
-      per = t .per;
+      descriptors = t .descriptors;
       head = 0;
       tail = 0;
-      held = 0;
+      inflight = 0;
       stream = stream;
       total = total;
       period = period;
@@ -89,18 +71,16 @@ begun t stream total period budget =
 
 -- no transfer runs and no slot is in flight
 abbrev pub idleOf : Track → Bool
-idleOf t = not (t .running) && eqb (t .held) 0
+idleOf t = not (t .running) && eqb (t .inflight) 0
 
 -- THE START of a transfer: 1 for an inconsistent ring, 8, 1 for a period of 0, 9 for a budget of 0, "nothing submitted"
 unfoldable pub startCall : Track → ℕ → ℕ → ℕ → ℕ → Step
 startCall t stream total period budget =
-    guard (consistentOf t)
-    (guard (idleOf t)
-    (guard (ltb 0 period)
-    (guard (ltb 0 budget) (record { track = begun t stream total period budget; sent = Nothing; heard = Silent; said = Going }) (refusedOf OutOfTurns t))
-    (refusedOf InvalidParam t))
-    (refusedOf Busy t))
-    (refusedOf InvalidParam t)
+    guard (consistentOf t) (refusedOf InvalidParam t)
+    (guard (idleOf t) (refusedOf Busy t)
+    (guard (ltb 0 period) (refusedOf InvalidParam t)
+    (guard (ltb 0 budget) (refusedOf OutOfTurns t)
+    (record { track = begun t stream total period budget; sent = Nothing; heard = Silent; said = Going }))))
 
 -- ---- the same of the ring: what was submitted stands in its slot
 
@@ -125,13 +105,12 @@ offerBy Submit t = sentOf t
 offerBy Finish t = Nothing
 offerBy Wait t = Nothing
 
-unfoldable pub offerCall : ℕ → Track → ℕ → Offer
-offerCall least t len =
-    guard (lengthAgrees t len)
-    (guard (consistentOf t)
-    (guard (t .running) (offer.Is (offerBy (chooseOf least t) t)) (offer.Refused InvalidParam))
-    (offer.Refused InvalidParam))
-    (offer.Refused BadLength)
+unfoldable pub offerCall : Track → ℕ → Offer
+offerCall t len =
+    guard (lengthAgrees t len) (offer.Refused BadLength)
+    (guard (consistentOf t) (offer.Refused InvalidParam)
+    (guard (t .running) (offer.Refused InvalidParam)
+    (offer.Is (offerBy (chooseOf (t .descriptors) t) t))))
 
 -- the period itself, as a part of the frames; where there is none, or the turn would be refused, an empty part
 abbrev pub shownBy : {A : Type 0} → Offer → List A → List A

@@ -6,9 +6,10 @@ use mathlib.Core.Path.{_≡_, refl, sym, _∙_}
 use mathlib.Core.Bool.{Bool, true, false, _&&_, _||_, not, false≢true}
 use lib.Dec.{ltb, eqb}
 use borrow.Author.Tests.{lt-ltb, ltb-true, ltb-false, le-leb, leb-true, eq-eqb, ne-eqb, eqb-true}
+use Rattle.turns.specs.Ring.{direct}
 use Rattle.turns.specs.Consistent.{placedOf, pacedOf, consistentOf}
-use Rattle.turns.specs.declared.ring.Track.{Track}
-use Rattle.turns.specs.Steps.{Placed}
+use Rattle.turns.specs.Types.{Track}
+use Rattle.turns.specs.Private.{Placed}
 
 pub record Paced (t : Track) : Type 0 where
   pub within : t .next ≤ t .total
@@ -36,7 +37,7 @@ placed-facts t e =
     let e₃ = both _ _ (e₂ .1) in
     let e₄ = both _ _ (e₃ .1) in
     record {
-      direct = eqb-true _ _ (e₁ .0);
+      mode = eqb-true _ _ (e₁ .0);
       head-in = ltb-true _ _ (e₂ .0);
       tail-in = ltb-true _ _ (e₃ .0);
       room = leb-true _ _ (e₄ .0);
@@ -45,7 +46,7 @@ placed-facts t e =
 
 pub placed-true : (t : Track) → Placed t → true ≡ placedOf t
 unfolding placedOf
-placed-true t p = simp (eq-eqb _ _ (p .direct), lt-ltb _ _ (p .head-in), lt-ltb _ _ (p .tail-in), le-leb _ _ (p .room), eq-eqb _ _ (p .line))
+placed-true t p = simp (eq-eqb _ _ (p .mode), lt-ltb _ _ (p .head-in), lt-ltb _ _ (p .tail-in), le-leb _ _ (p .room), eq-eqb _ _ (p .line))
 
 pub paced-facts : (t : Track) → pacedOf t ≡ true → Paced t
 unfolding pacedOf
@@ -66,20 +67,20 @@ unfolding pacedOf
 paced-true t p = rw (le-leb _ _ (p .within)) (paced-by (t .running) _ _ (λ h. lt-ltb _ _ (p .some h)) (λ h. lt-ltb _ _ (p .left h)))
 
 -- at 3 descriptors a submission, at most 10 are in flight
-pub few : (t : Track) → Placed t → t .held ≤ 10
-few t p = let room : t .held * 3 ≤ 32 = rw (← (p .direct)) (p .room) in omega arith
+pub few : (t : Track) → Placed t → t .inflight ≤ 10
+few t p = let room : t .inflight * direct ≤ 32 = rw (← (p .mode)) (p .room) in omega arith
 
 -- the last test of each is what the whole comes to once the others passed; that head is a slot follows from it
-placed-by : (t : Track) (b small : Bool) → ltb (t .head) 32 ≡ small → t .per ≡ 3 → t .tail < 32 → t .held ≤ 10 → b ≡ eqb ((t .tail + t .held) % 32) (t .head) → b ≡ placedOf t
+placed-by : (t : Track) (b small : Bool) → ltb (t .head) 32 ≡ small → t .descriptors ≡ direct → t .tail < 32 → t .inflight ≤ 10 → b ≡ eqb ((t .tail + t .inflight) % 32) (t .head) → b ≡ placedOf t
 unfolding placedOf
 placed-by t b true s p l m e =
-    let room : t .held * t .per ≤ 32 = rw p (omega arith) in
+    let room : t .inflight * t .descriptors ≤ 32 = rw p (omega arith) in
     simp (eq-eqb _ _ p, s, lt-ltb _ _ l, le-leb _ _ room) e
 placed-by t b false s p l m e =
     let h : 32 ≤ t .head = ltb-false (t .head) 32 s in
-    simp (eq-eqb _ _ p, s) (e ∙ ne-eqb ((t .tail + t .held) % 32) (t .head) (λ z. omega arith))
+    simp (eq-eqb _ _ p, s) (e ∙ ne-eqb ((t .tail + t .inflight) % 32) (t .head) (λ z. omega arith))
 
-pub placed-last : (t : Track) (b : Bool) → t .per ≡ 3 → t .tail < 32 → t .held ≤ 10 → b ≡ eqb ((t .tail + t .held) % 32) (t .head) → b ≡ placedOf t
+pub placed-last : (t : Track) (b : Bool) → t .descriptors ≡ direct → t .tail < 32 → t .inflight ≤ 10 → b ≡ eqb ((t .tail + t .inflight) % 32) (t .head) → b ≡ placedOf t
 placed-last t b p l m e = placed-by t b (ltb (t .head) 32) refl p l m e
 
 pub paced-idle : (t : Track) → t .next ≤ t .total → t .running ≡ false → true ≡ pacedOf t

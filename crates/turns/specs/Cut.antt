@@ -3,8 +3,7 @@
 use Prim.Native.Nat.{ℕ, zero, suc, _-_, min}
 use mathlib.Core.List.{List, [], _∷_, _++_}
 use lib.ListN.{length, take, drop}
-use Rattle.turns.specs.declared.ring.Sent.{Sent}
-use Rattle.turns.specs.declared.ring.Sent.the-variants.{Nothing, Period}
+use Rattle.turns.specs.Types.{Sent, Nothing, Period}
 use Rattle.layout.specs.Bytes.{le}
 
 -- at most fuel periods; each takes at least one byte, so as much fuel as bytes is enough

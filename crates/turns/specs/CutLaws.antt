@@ -13,8 +13,7 @@ use borrow.Author.Tests.{lt-ltb, le-ltb}
 use Rattle.codes.specs.Says.{pick}
 use Rattle.turns.specs.Cut.{cutBy, cut, join, spanOf, payload}
 use Rattle.turns.specs.Ring.{after}
-use Rattle.turns.specs.declared.ring.Sent.{Sent}
-use Rattle.turns.specs.declared.ring.Sent.the-variants.{Nothing, Period}
+use Rattle.turns.specs.Types.{Sent, Nothing, Period}
 
 -- at most fuel periods of total bytes, from an offset and a slot on, in the order in which they go out
 unfoldable pub spans : ℕ → ℕ → ℕ → ℕ → ℕ → List Sent

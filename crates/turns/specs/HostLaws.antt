@@ -13,16 +13,11 @@ use Rattle.codes.specs.declared.answers.Refusal.{Refusal}
 use Rattle.turns.specs.Rules.{turnOf, countedOf}
 use Rattle.turns.specs.ConsistentLaws.{Consistent, consistent-facts, consistent-true}
 use Rattle.turns.specs.Calls.{turnCall, begun, startCall}
+use Rattle.turns.specs.CaseLaws.{onward-cases, stays}
 use Rattle.turns.specs.KeepLaws.{After, turn-after, turn-keeps, turn-runs}
-use Rattle.turns.specs.PassLaws.{begun-keeps}
-use Rattle.turns.specs.Log.{Line, Ran, onward, Told, firstOf, restOf, loop, ruled, run, called, hosted}
-use Rattle.turns.specs.declared.ring.Track.{Track}
-use Rattle.turns.specs.declared.ring.Ring.{Ring}
-use Rattle.turns.specs.declared.ring.Step.{Step}
-use Rattle.turns.specs.declared.ring.Sent.the-variants.{Nothing}
-use Rattle.turns.specs.declared.ring.Said.{Said}
-use Rattle.turns.specs.declared.ring.Said.the-variants.{Going, Ended, Refused}
-use Rattle.turns.specs.declared.reading.Reading.{Reading}
+use Rattle.turns.specs.StaysConsistentLaws.{begun-keeps}
+use Rattle.turns.specs.Log.{Line, Ran, onward, Told, firstOf, restOf, loop, ruled, run, called, turnByTurn}
+use Rattle.turns.specs.Types.{Track, Ring, Nothing, Said, Going, Done, Ended, Refused, Step, Reading}
 
 -- ---- two loops that say the same: one seen through a view of its state
 
@@ -31,6 +26,7 @@ seen view r = record { said = r .said; at = view (r .at); log = r .log }
 
 onward-alike : {A B : Type 0} (view : A → B) (said : Said) (line : Line) (a : A) (r : Ran A) (q : Ran B) → (said ≡ Going → seen view r ≡ q) → seen view (onward said line a r) ≡ onward said line (view a) q
 onward-alike view Going line a r q h = ap (λ (x : Ran _). onward Going line (view a) x) (h refl)
+onward-alike view Done line a r q h = refl
 onward-alike view (Ended x) line a r q h = refl
 onward-alike view (Refused x) line a r q h = refl
 
@@ -62,13 +58,13 @@ agrees true same e = e
 agrees false same e = refl
 
 -- the call of a turn is the counted turn
-pub call-turns : (least len : ℕ) (t : Track) (reading : Reading) → Runs len t → countedOf (turnOf least t reading) ≡ turnCall least t len reading
+pub call-turns : (len : ℕ) (t : Track) (reading : Reading) → Runs len t → countedOf (turnOf (t .descriptors) t reading) ≡ turnCall t len reading
 unfolding turnCall
-call-turns least len t reading r =
+call-turns len t reading r =
     passes _ _ _ (agrees (t .running) (eqb len (t .total)) (eq-eqb _ _ (r .whole))) (passes _ _ _ (consistent-true t (r .consistent)) (passes _ _ _ (r .running) refl))
 
 -- a turn that goes on leaves a transfer that runs
-pub runs-on : (least len : ℕ) (t : Track) (reading : Reading) → 3 ≤ least → Runs len t → countedOf (turnOf least t reading) .said ≡ Going → Runs len (countedOf (turnOf least t reading) .track)
+pub runs-on : (least len : ℕ) (t : Track) (reading : Reading) → t .descriptors ≤ least → Runs len t → countedOf (turnOf least t reading) .said ≡ Going → Runs len (countedOf (turnOf least t reading) .track)
 runs-on least len t reading le r e =
     record {
       consistent = turn-keeps least t reading le (r .consistent) (r .running);
@@ -76,17 +72,28 @@ runs-on least len t reading le r e =
       whole = r .whole ∙ sym (ap (λ (x : ℕ × ℕ × ℕ × ℕ × ℕ). x .2) (turn-after least t reading .0));
     }
 
--- THE HOST'S LOOP and THE RUN of the rules say the same, line for line, and leave the same track
-pub link : (least len fuel : ℕ) (r : Ring) (script : List Reading) → 3 ≤ least → Runs len (r .track) → seen (λ (x : Ring). x .track) (hosted least len fuel r script) ≡ run least fuel (r .track) script
-link least len fuel r script le i =
-    loops-alike (called least len) (ruled least) (λ (x : Ring). x .track) (λ x. Runs len (x .track))
-    (λ a x h.
-    let e = sym (call-turns least len (a .track) x h) in (
-      ap (λ (s : Step). record { sent = s .sent; waiting = ruled least (a .track) x .line .waiting; reading = x; heard = s .heard; said = s .said }) e,
+-- one turn of each: the same line, the same track, and a turn that goes on leaves a transfer that runs in the same mode
+abbrev Alike : ℕ → ℕ → Ring → Reading → Type 0
+Alike least len a x =
+    (called len a x .line ≡ ruled least (a .track) x .line)
+    × (called len a x .left .track ≡ ruled least (a .track) x .left)
+    × (called len a x .line .said ≡ Going → (called len a x .left .track .descriptors ≡ least) × Runs len (called len a x .left .track))
+
+same-turn : (len : ℕ) (a : Ring) (x : Reading) → Runs len (a .track) → Alike (a .track .descriptors) len a x
+same-turn len a x h =
+    let t = a .track in
+    let e = sym (call-turns len t x h) in (
+      ap (λ (s : Step). record { sent = s .sent; waiting = ruled (t .descriptors) t x .line .waiting; reading = x; heard = s .heard; said = s .said }) e,
       ap (λ (s : Step). s .track) e,
-      subst (λ (s : Step). s .said ≡ Going → Runs len (s .track)) (sym e) (runs-on least len (a .track) x le h),
-    ))
-    fuel r script i
+      subst (λ (s : Step). s .said ≡ Going → (s .track .descriptors ≡ t .descriptors) × Runs len (s .track)) (sym e)
+          (λ g. (ap (λ (z : ℕ × ℕ × ℕ × ℕ × ℕ). z .0) (turn-after (t .descriptors) t x .0), runs-on (t .descriptors) len t x (omega arith) h g)),
+    )
+
+-- THE HOST'S LOOP and THE RUN of the rules say the same, line for line, and leave the same track
+pub link : (least len fuel : ℕ) (r : Ring) (script : List Reading) → r .track .descriptors ≡ least → Runs len (r .track) → seen (λ (x : Ring). x .track) (turnByTurn len fuel r script) ≡ run least fuel (r .track) script
+link least len fuel r script p i =
+    loops-alike (called len) (ruled least) (λ (x : Ring). x .track) (λ x. (x .track .descriptors ≡ least) × Runs len (x .track))
+    (λ a x h. subst (λ (k : ℕ). Alike k len a x) (h .0) (same-turn len a x (h .1))) fuel r script (p, i)
 
 -- ---- how a run ends
 
@@ -100,23 +107,25 @@ pub record Ends (fuel : ℕ) (t : Track) (o : Ran Track) : Type 0 where
   pub consistent : Consistent (o .at)
 
 ends-by : (fuel : ℕ) (t n : Track) (said : Said) (line : Line) (rest : Ran Track) → After 1 t n → t .turns < t .budget → Consistent n → (said ≡ Going → Ends fuel n rest) → Ends (suc fuel) t (onward said line n rest)
-ends-by fuel t n Going line rest a l c h =
-    let k = h refl in
+ends-by fuel t n said line rest a l c h =
+    onward-cases (Ends (suc fuel) t) said line n rest
+    (λ e.
+    let k = h e in
     let budget = ap (λ (x : ℕ × ℕ × ℕ × ℕ × ℕ). x .4) (a .0) in
-    record { answered = λ f. k .answered (omega arith); within = omega (arith, k .within); after = (k .after .0 ∙ a .0, omega (arith, k .after .1)); consistent = k .consistent }
-ends-by fuel t n (Ended x) line rest a l c h = record { answered = λ f e. let z : _≡_ {A = ℕ} 0 1 = cc in omega arith; within = omega arith; after = a; consistent = c }
-ends-by fuel t n (Refused x) line rest a l c h = record { answered = λ f e. let z : _≡_ {A = ℕ} 0 1 = cc in omega arith; within = omega arith; after = a; consistent = c }
+    record { answered = λ f. k .answered (omega arith); within = omega (arith, k .within); after = (k .after .0 ∙ a .0, omega (arith, k .after .1)); consistent = k .consistent })
+    (λ e. record { answered = λ _. stays e; within = omega arith; after = a; consistent = c })
 
-pub run-ends : (least len fuel : ℕ) (t : Track) (script : List Reading) → 3 ≤ least → Runs len t → Ends fuel t (run least fuel t script)
+pub run-ends : (least len fuel : ℕ) (t : Track) (script : List Reading) → t .descriptors ≤ least → Runs len t → Ends fuel t (run least fuel t script)
 unfolding loop
 run-ends least len zero t script le r =
     let left = r .consistent .paced .left (r .running) in
     record { answered = λ f e. omega arith; within = omega arith; after = (refl, omega arith); consistent = r .consistent }
 run-ends least len (suc fuel) t script le r =
     let s = ruled least t (firstOf script) in
+    let size = ap (λ (z : ℕ × ℕ × ℕ × ℕ × ℕ). z .0) (turn-after least t (firstOf script) .0) in
     ends-by fuel t (s .left) (s .line .said) (s .line) (run least fuel (s .left) (restOf script)) (turn-after least t (firstOf script)) (r .consistent .paced .left (r .running))
     (turn-keeps least t (firstOf script) le (r .consistent) (r .running))
-    (λ e. run-ends least len fuel (s .left) (restOf script) le (runs-on least len t (firstOf script) le r e))
+    (λ e. run-ends least len fuel (s .left) (restOf script) (omega arith) (runs-on least len t (firstOf script) le r e))
 
 -- ---- THE START of a transfer
 
@@ -137,7 +146,7 @@ begins t stream total period budget =
     (λ c. guarded-by P _ _ _
     (λ _. guarded-by P _ _ _
     (λ p. guarded-by P _ _ _
-    (λ b _. record { track = refl; sent = refl; runs = record { consistent = begun-keeps t stream total period budget (consistent-facts t c .placed .direct) (ltb-true _ _ p) (ltb-true _ _ b); running = refl; whole = refl } })
+    (λ b _. record { track = refl; sent = refl; runs = record { consistent = begun-keeps t stream total period budget (consistent-facts t c .placed .mode) (ltb-true _ _ p) (ltb-true _ _ b); running = refl; whole = refl } })
     (λ _ e. absurd (never _ e)))
     (λ _ e. absurd (never _ e)))
     (λ _ e. absurd (never _ e)))
@@ -147,9 +156,9 @@ rests : (running empty : Bool) → running ≡ false → empty ≡ true → (not
 rests running empty p q = rw (p, q)
 
 -- a consistent ring that runs nothing and has nothing in flight can begin one
-pub goes : (t : Track) (stream total period budget : ℕ) → Consistent t → t .running ≡ false → t .held ≡ 0 → 0 < period → 0 < budget → Going ≡ startCall t stream total period budget .said
+pub goes : (t : Track) (stream total period budget : ℕ) → Consistent t → t .running ≡ false → t .inflight ≡ 0 → 0 < period → 0 < budget → Going ≡ startCall t stream total period budget .said
 unfolding startCall
 goes t stream total period budget c off none p b =
     ap (λ (s : Step). s .said)
     (passes _ _ _ (consistent-true t c)
-    (passes _ _ _ (rests (t .running) (eqb (t .held) 0) off (eq-eqb _ _ none)) (passes _ _ _ (lt-ltb _ _ p) (passes _ _ _ (lt-ltb _ _ b) refl))))
+    (passes _ _ _ (rests (t .running) (eqb (t .inflight) 0) off (eq-eqb _ _ none)) (passes _ _ _ (lt-ltb _ _ p) (passes _ _ _ (lt-ltb _ _ b) refl))))

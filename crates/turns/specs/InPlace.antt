@@ -4,12 +4,10 @@ use mathlib.Core.Path.{_≡_}
 use Prim.Native.Nat.{ℕ}
 use Rattle.turns.specs.Calls.{turnCall, drainCall, turnedOf}
 use Rattle.turns.specs.Script.{readingOf}
-use Rattle.turns.specs.declared.ring.Ring.{Ring}
-use Rattle.turns.specs.declared.ring.Turned.{Turned}
-use Rattle.turns.specs.declared.in_place.Report.{Report}
+use Rattle.turns.specs.Types.{Ring, Turned, Report}
 
 unfoldable pub turnWords : Ring → ℕ → ℕ → ℕ → ℕ → Turned
-turnWords r len kind slot status = turnedOf r (turnCall 3 (r .track) len (readingOf kind slot status))
+turnWords r len kind slot status = turnedOf r (turnCall (r .track) len (readingOf kind slot status))
 
 unfoldable pub drainWords : Ring → ℕ → ℕ → ℕ → Turned
 drainWords r kind slot status = turnedOf r (drainCall (r .track) (readingOf kind slot status))

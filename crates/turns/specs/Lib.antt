@@ -1,4 +1,5 @@
 -- definitions
+pub mod Types
 pub mod Cut
 pub mod Ring
 pub mod Rules
@@ -8,11 +9,12 @@ pub mod Log
 pub mod Script
 pub mod Reads
 pub mod InPlace
-pub mod Steps
+pub mod Private
 pub mod Asked
 -- theorems
 pub mod Demand
 pub mod Drained
+pub mod AnyHost
 pub mod Worked
 -- laws
 pub mod CutLaws
@@ -21,13 +23,14 @@ pub mod DecisionLaws
 pub mod ConsistentLaws
 pub mod CaseLaws
 pub mod KeepLaws
-pub mod PassLaws
+pub mod StaysConsistentLaws
 pub mod CallLaws
 pub mod HostLaws
 pub mod ScriptLaws
-pub mod BookLaws
+pub mod AccountLaws
 pub mod TimeLaws
 pub mod RunLaws
 pub mod OwedLaws
 pub mod RefusalLaws
 pub mod DemandLaws
+pub mod PremiseLaws

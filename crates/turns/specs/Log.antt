@@ -2,21 +2,11 @@
 -- Assumes nothing.
 use mathlib.Core.List.{List, [], _∷_}
 use Prim.Native.Nat.{ℕ, zero, suc, _+_}
+use Rattle.codes.specs.Says.{pick}
+use Rattle.turns.specs.Ring.{goesOn}
 use Rattle.turns.specs.Rules.{chooseOf, turnOf, countedOf}
 use Rattle.turns.specs.Calls.{turnCall, turnedOf}
-use Rattle.turns.specs.declared.ring.Track.{Track}
-use Rattle.turns.specs.declared.ring.Ring.{Ring}
-use Rattle.turns.specs.declared.ring.Step.{Step}
-use Rattle.turns.specs.declared.ring.Sent.{Sent}
-use Rattle.turns.specs.declared.ring.Sent.the-variants.{Nothing, Period}
-use Rattle.turns.specs.declared.ring.Heard.{Heard}
-use Rattle.turns.specs.declared.ring.Heard.the-variants.{Silent, Freed}
-use Rattle.turns.specs.declared.ring.Said.{Said}
-use Rattle.turns.specs.declared.ring.Said.the-variants.{Going, Ended, Refused}
-use Rattle.turns.specs.declared.reading.Reading.{Reading}
-use Rattle.turns.specs.declared.reading.Reading.the-variants.{Quiet}
-use Rattle.turns.specs.declared.rules.Choice.{Choice}
-use Rattle.turns.specs.declared.rules.Choice.the-variants.{Submit, Finish, Wait}
+use Rattle.turns.specs.Types.{Track, Ring, Sent, Nothing, Period, Heard, Silent, Freed, Said, Going, Step, Reading, Quiet, Choice, Submit, Finish, Wait}
 
 -- one line of a log: what the turn submitted, how many were in flight at its reading, the reading, what it freed, what it said
 pub record Line : Type 0 where
@@ -28,9 +18,9 @@ pub record Line : Type 0 where
 
 -- how many are in flight when a turn looks at its reading
 abbrev pub waitingBy : Choice → Track → ℕ
-waitingBy Submit t = t .held + 1
+waitingBy Submit t = t .inflight + 1
 waitingBy Finish t = 0
-waitingBy Wait t = t .held
+waitingBy Wait t = t .inflight
 
 -- "Readings past the end of the script are quiet."
 abbrev pub firstOf : List Reading → Reading
@@ -48,9 +38,7 @@ pub record Ran (A : Type 0) : Type 0 where
   pub log : List Line
 
 abbrev pub onward : {A : Type 0} → Said → Line → A → Ran A → Ran A
-onward Going line a rest = record { said = rest .said; at = rest .at; log = line ∷ rest .log }
-onward (Ended x) line a rest = record { said = Ended x; at = a; log = line ∷ [] }
-onward (Refused x) line a rest = record { said = Refused x; at = a; log = line ∷ [] }
+onward said line a rest = pick (goesOn said) (record { said = rest .said; at = rest .at; log = line ∷ rest .log }) (record { said = said; at = a; log = line ∷ [] })
 
 -- a turn leaves a state, and a line for the log
 pub record Told (A : Type 0) : Type 0 where
@@ -79,16 +67,16 @@ run least = loop (ruled least)
 
 -- ---- THE HOST'S LOOP: the call of a turn, again and again, lent frames of one length
 
-abbrev pub called : ℕ → ℕ → Ring → Reading → Told Ring
-called least len r reading =
-    let u = turnedOf r (turnCall least (r .track) len reading) in
+abbrev pub called : ℕ → Ring → Reading → Told Ring
+called len r reading =
+    let u = turnedOf r (turnCall (r .track) len reading) in
     record {
       left = u .ring;
-      line = record { sent = u .sent; waiting = waitingBy (chooseOf least (r .track)) (r .track); reading = reading; heard = u .heard; said = u .said };
+      line = record { sent = u .sent; waiting = waitingBy (chooseOf (r .track .descriptors) (r .track)) (r .track); reading = reading; heard = u .heard; said = u .said };
     }
 
-abbrev pub hosted : ℕ → ℕ → ℕ → Ring → List Reading → Ran Ring
-hosted least len = loop (called least len)
+abbrev pub turnByTurn : ℕ → ℕ → Ring → List Reading → Ran Ring
+turnByTurn len = loop (called len)
 
 -- ---- what a log says
 

@@ -9,14 +9,9 @@ use lib.ListN.{length, getD, length-set}
 use lib.Seq.{getD-set-same, getD-set-other}
 use Rattle.turns.specs.Ring.{blankSlot}
 use Rattle.turns.specs.Calls.{carry}
-use Rattle.turns.specs.Log.{Line, Ran, onward, firstOf, restOf, loop, called, hosted, sendsMore, sends}
-use Rattle.turns.specs.declared.ring.Slot.{Slot}
-use Rattle.turns.specs.declared.ring.Ring.{Ring}
-use Rattle.turns.specs.declared.ring.Sent.{Sent}
-use Rattle.turns.specs.declared.ring.Sent.the-variants.{Nothing, Period}
-use Rattle.turns.specs.declared.ring.Said.{Said}
-use Rattle.turns.specs.declared.ring.Said.the-variants.{Going, Ended, Refused}
-use Rattle.turns.specs.declared.reading.Reading.{Reading}
+use Rattle.turns.specs.CaseLaws.{onward-cases}
+use Rattle.turns.specs.Log.{Line, Ran, onward, firstOf, restOf, loop, called, turnByTurn, sendsMore, sends}
+use Rattle.turns.specs.Types.{Slot, Ring, Sent, Nothing, Period, Said, Reading}
 
 -- submissions one after the other
 abbrev pub carries : List Slot → List Sent → List Slot
@@ -29,17 +24,18 @@ carries-more slots (Period s o l) xs = refl
 
 onward-carries : (slots : List Slot) (said : Said) (line : Line) (r : Ring) (rest : Ran Ring) → r .slots ≡ carry slots (line .sent) → rest .at .slots ≡ carries (r .slots) (sends (rest .log))
     → onward said line r rest .at .slots ≡ carries slots (sends (onward said line r rest .log))
-onward-carries slots Going line r rest e k = k ∙ ap (λ (l : List Slot). carries l (sends (rest .log))) e ∙ sym (carries-more slots (line .sent) (sends (rest .log)))
-onward-carries slots (Ended x) line r rest e k = e ∙ sym (carries-more slots (line .sent) [])
-onward-carries slots (Refused x) line r rest e k = e ∙ sym (carries-more slots (line .sent) [])
+onward-carries slots said line r rest e k =
+    onward-cases (λ (h : Ran Ring). h .at .slots ≡ carries slots (sends (h .log))) said line r rest
+    (λ _. k ∙ ap (λ (l : List Slot). carries l (sends (rest .log))) e ∙ sym (carries-more slots (line .sent) (sends (rest .log))))
+    (λ _. e ∙ sym (carries-more slots (line .sent) []))
 
 -- the slots after a loop are those before it, with what went out
-pub host-carries : (least len fuel : ℕ) (r : Ring) (script : List Reading) → hosted least len fuel r script .at .slots ≡ carries (r .slots) (sends (hosted least len fuel r script .log))
+pub host-carries : (len fuel : ℕ) (r : Ring) (script : List Reading) → turnByTurn len fuel r script .at .slots ≡ carries (r .slots) (sends (turnByTurn len fuel r script .log))
 unfolding loop
-host-carries least len zero r script = refl
-host-carries least len (suc fuel) r script =
-    let s = called least len r (firstOf script) in
-    onward-carries (r .slots) (s .line .said) (s .line) (s .left) (hosted least len fuel (s .left) (restOf script)) refl (host-carries least len fuel (s .left) (restOf script))
+host-carries len zero r script = refl
+host-carries len (suc fuel) r script =
+    let s = called len r (firstOf script) in
+    onward-carries (r .slots) (s .line .said) (s .line) (s .left) (turnByTurn len fuel (s .left) (restOf script)) refl (host-carries len fuel (s .left) (restOf script))
 
 -- submissions at slots in turn, from slot s on, the j-th of some offset and length
 abbrev pub Lies : ℕ → (ℕ → ℕ) → (ℕ → ℕ) → List Sent → Type 0

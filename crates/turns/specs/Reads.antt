@@ -7,14 +7,9 @@ use lib.ListN.{getD}
 use Rattle.codes.specs.Says.{Says, says, pick, guard}
 use Rattle.turns.specs.Ring.{blankSlot, free}
 use Rattle.turns.specs.Consistent.{consistentOf}
-use Rattle.turns.specs.declared.ring.Slot.{Slot}
-use Rattle.turns.specs.declared.ring.Track.{Track}
-use Rattle.turns.specs.declared.ring.Ring.{Ring}
-use Rattle.turns.specs.declared.ring.RingNumber.{RingNumber}
+use Rattle.turns.specs.Types.{Track, Ring, RingNumber, Carried, Oldest}
 use Rattle.turns.specs.declared.ring.RingNumber.the-variants as number
-use Rattle.turns.specs.declared.ring.Carried.{Carried}
 use Rattle.turns.specs.declared.ring.Carried.the-variants as carried
-use Rattle.turns.specs.declared.ring.Oldest.{Oldest}
 use Rattle.turns.specs.declared.ring.Oldest.the-variants as oldest
 
 abbrev pub saysNumber : RingNumber → Says
@@ -32,13 +27,14 @@ saysOldest oldest.Nothing = says 0 []
 saysOldest oldest.InvalidParam = says 1 []
 
 abbrev pub readOf : Track → List ℕ → Says
-readOf t values = guard (consistentOf t) (says 0 values) (says 1 [])
+readOf t values = guard (consistentOf t) (says 1 [])
+    (says 0 values)
 
 abbrev pub runningOf : Track → Says
 runningOf t = readOf t (pick (t .running) 1 0 ∷ [])
 
 abbrev pub inFlightOf : Track → Says
-inFlightOf t = readOf t (t .held ∷ [])
+inFlightOf t = readOf t (t .inflight ∷ [])
 
 abbrev pub freeOf : Track → Says
 freeOf t = readOf t (free t ∷ [])
@@ -53,7 +49,8 @@ streamOf t = readOf t (t .stream ∷ [])
 abbrev pub carriedOf : Ring → ℕ → Says
 carriedOf r slot =
     let s = getD (r .slots) slot blankSlot in
-    guard (ltb slot 32) (readOf (r .track) (s .offset ∷ s .len ∷ [])) (says 1 [])
+    guard (ltb slot 32) (says 1 [])
+    (readOf (r .track) (s .offset ∷ s .len ∷ []))
 
 abbrev pub oldestOf : Track → Says
-oldestOf t = readOf t (pick (eqb (t .held) 0) [] (t .tail ∷ []))
+oldestOf t = readOf t (pick (eqb (t .inflight) 0) [] (t .tail ∷ []))

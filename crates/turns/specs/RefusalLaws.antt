@@ -7,23 +7,11 @@ use mathlib.Core.Bool.{Bool, true, false}
 use Rattle.codes.specs.Says.{guard}
 use Rattle.codes.specs.SaysLaws.{guarded-by}
 use Rattle.codes.specs.declared.answers.Refusal.{Refusal}
-use Rattle.turns.specs.Rules.{chooseOf, submit, sentOf, judgeOf, hear, act, turnOf, countedOf}
-use Rattle.turns.specs.CaseLaws.{Plain, plain, hear-cases, counted-cases}
+use Rattle.turns.specs.Rules.{chooseOf, submit, sentOf, hear, act, turnOf, countedOf}
+use Rattle.turns.specs.CaseLaws.{Plain, plain, over-plain, hear-cases, counted-cases}
 use Rattle.turns.specs.KeepLaws.{turn-plain}
-use Rattle.turns.specs.Calls.{refusedOf, turnCall, drainBy, drained, drainCall, startCall, ringAfter, offerBy, offerCall}
-use Rattle.turns.specs.declared.ring.Track.{Track}
-use Rattle.turns.specs.declared.ring.Ring.{Ring}
-use Rattle.turns.specs.declared.ring.Step.{Step}
-use Rattle.turns.specs.declared.ring.Sent.{Sent}
-use Rattle.turns.specs.declared.ring.Sent.the-variants.{Nothing}
-use Rattle.turns.specs.declared.ring.Said.the-variants.{Going, Refused}
-use Rattle.turns.specs.declared.reading.Reading.{Reading}
-use Rattle.turns.specs.declared.reading.Reading.the-variants.{Quiet, Completed}
-use Rattle.turns.specs.declared.rules.Choice.{Choice}
-use Rattle.turns.specs.declared.rules.Choice.the-variants.{Submit, Finish, Wait}
-use Rattle.turns.specs.declared.rules.Verdict.{Verdict}
-use Rattle.turns.specs.declared.rules.Verdict.the-variants.{Stranger, Good, Bad}
-use Rattle.turns.specs.declared.calls.Offer.{Offer}
+use Rattle.turns.specs.Calls.{refusedOf, turnCall, drained, drainCall, startCall, ringAfter, offerBy, offerCall}
+use Rattle.turns.specs.Types.{Track, Ring, Sent, Nothing, Going, Refused, Step, Reading, Quiet, Completed, Choice, Submit, Finish, Wait, Offer}
 use Rattle.turns.specs.declared.calls.Offer.the-variants as offer
 
 -- ---- a refusal changes nothing
@@ -36,27 +24,22 @@ refuses : (t : Track) (r : Refusal) → Untouched t (refusedOf r t)
 refuses t r x e = let same : r ≡ x = cc in ap (λ (y : Refusal). refusedOf y t) same
 
 -- a counted turn is never a refusal
-turn-answers : (least : ℕ) (t : Track) (reading : Reading) → Plain (countedOf (turnOf least t reading) .said)
-turn-answers least t reading = counted-cases (λ s. Plain (s .said)) (turnOf least t reading) (turn-plain least t reading) (λ _. tt) (λ _. tt)
-
-drain-answers : (v : Verdict) (t : Track) (slot status : ℕ) → Plain (drainBy v t slot status .said)
-drain-answers Stranger t slot status = tt
-drain-answers Good t slot status = tt
-drain-answers (Bad a) t slot status = tt
+pub turn-answers : (least : ℕ) (t : Track) (reading : Reading) → Plain (countedOf (turnOf least t reading) .said)
+turn-answers least t reading = counted-cases (λ s. Plain (s .said)) (turnOf least t reading) (turn-plain least t reading) (λ _. tt) over-plain
 
 drained-answers : (t : Track) (reading : Reading) → Plain (drained t reading .said)
 drained-answers t Quiet = tt
-drained-answers t (Completed slot status) = drain-answers (judgeOf t slot status) t slot status
+drained-answers t (Completed slot status) = guarded-by (λ (s : Step). Plain (s .said)) _ _ _ (λ _. tt) (λ _. tt)
 
 module _ (t : Track) where
   abbrev P : Step → Type 0
   P s = Untouched t s
 
-  pub turn-refused : (least len : ℕ) (reading : Reading) → Untouched t (turnCall least t len reading)
+  pub turn-refused : (len : ℕ) (reading : Reading) → Untouched t (turnCall t len reading)
   unfolding turnCall
-  turn-refused least len reading =
+  turn-refused len reading =
       guarded-by P _ _ _
-      (λ _. guarded-by P _ _ _ (λ _. guarded-by P _ _ _ (λ _ x e. absurd (plain _ (turn-answers least t reading) x e)) (λ _. refuses t _)) (λ _. refuses t _))
+      (λ _. guarded-by P _ _ _ (λ _. guarded-by P _ _ _ (λ _ x e. absurd (plain _ (turn-answers (t .descriptors) t reading) x e)) (λ _. refuses t _)) (λ _. refuses t _))
       (λ _. refuses t _)
 
   pub drain-refused : (reading : Reading) → Untouched t (drainCall t reading)
@@ -78,7 +61,7 @@ ring-untouched r s h x e = ap (ringAfter r) (h x e)
 
 -- ---- what is offered
 
-guarded-both : {A B : Type 0} (P : A → B → Type 0) (t : Bool) (a b : A) (c d : B) → P a c → P b d → P (guard t a b) (guard t c d)
+guarded-both : {A B : Type 0} (P : A → B → Type 0) (t : Bool) (a b : A) (c d : B) → P a c → P b d → P (guard t b a) (guard t d c)
 unfolding guard
 guarded-both P true a b c d p q = p
 guarded-both P false a b c d p q = q
@@ -95,7 +78,7 @@ turn-sent : (least : ℕ) (t : Track) (reading : Reading) → countedOf (turnOf 
 unfolding turnOf
 turn-sent least t reading =
     let e = act-sent (chooseOf least t) t reading in
-    counted-cases (λ s. s .sent ≡ offerBy (chooseOf least t) t) (turnOf least t reading) (turn-plain least t reading) (λ _. e) (λ _. e)
+    counted-cases (λ s. s .sent ≡ offerBy (chooseOf least t) t) (turnOf least t reading) (turn-plain least t reading) (λ _. e) (λ _ _. e)
 
 -- the turn submits what was offered, and is refused where the offer is
 pub record Offered (t : Track) (o : Offer) (s : Step) : Type 0 where
@@ -109,13 +92,13 @@ bars t r =
       refused = λ x e. let same : r ≡ x = cc in ap (λ (y : Refusal). refusedOf y t) same;
     }
 
-pub offered : (least : ℕ) (t : Track) (len : ℕ) (reading : Reading) → Offered t (offerCall least t len) (turnCall least t len reading)
+pub offered : (t : Track) (len : ℕ) (reading : Reading) → Offered t (offerCall t len) (turnCall t len reading)
 unfolding offerCall turnCall
-offered least t len reading =
+offered t len reading =
     let P : Offer → Step → Type 0 = Offered t in
-    let shows : Offered t (offer.Is (offerBy (chooseOf least t) t)) (countedOf (turnOf least t reading)) =
+    let shows : Offered t (offer.Is (offerBy (chooseOf (t .descriptors) t) t)) (countedOf (turnOf (t .descriptors) t reading)) =
     record {
-      is = λ sent e. let same : offerBy (chooseOf least t) t ≡ sent = cc in turn-sent least t reading ∙ same;
+      is = λ sent e. let same : offerBy (chooseOf (t .descriptors) t) t ≡ sent = cc in turn-sent (t .descriptors) t reading ∙ same;
       refused = λ x e. let z : _≡_ {A = ℕ} 0 1 = cc in absurd (omega arith);
     } in
     guarded-both P _ _ _ _ _ (guarded-both P _ _ _ _ _ (guarded-both P _ _ _ _ _ shows (bars t _)) (bars t _)) (bars t _)

@@ -1,24 +1,13 @@
--- The turn rules of a transfer, over the track. `least` is the least room that a submission needs, `per` the descriptors that one takes.
+-- The turn rules of a transfer, over the track. `least` is the least room that a submission needs.
 -- Assumes nothing.
-use mathlib.Core.Bool.{Bool, true, false}
+use mathlib.Core.Bool.{Bool, true, false, _&&_}
 use Prim.Native.Nat.{ℕ, _+_, _-_}
 use lib.Dec.{ltb, leb, eqb}
-use Rattle.codes.specs.declared.answers.Answer.the-variants.{Ok, IoError, WrongToken, OutOfTurns}
+use Rattle.codes.specs.declared.answers.Refusal.the-variants.{IoError, WrongToken, OutOfTurns}
+use Rattle.codes.specs.Says.{pick}
 use Rattle.turns.specs.Cut.{spanOf}
-use Rattle.turns.specs.Ring.{after, free}
-use Rattle.turns.specs.declared.ring.Track.{Track}
-use Rattle.turns.specs.declared.ring.Step.{Step}
-use Rattle.turns.specs.declared.ring.Sent.{Sent}
-use Rattle.turns.specs.declared.ring.Sent.the-variants.{Nothing, Period}
-use Rattle.turns.specs.declared.ring.Heard.the-variants.{Silent, Freed}
-use Rattle.turns.specs.declared.ring.Said.{Said}
-use Rattle.turns.specs.declared.ring.Said.the-variants.{Going, Ended, Refused}
-use Rattle.turns.specs.declared.reading.Reading.{Reading}
-use Rattle.turns.specs.declared.reading.Reading.the-variants.{Quiet, Completed}
-use Rattle.turns.specs.declared.rules.Choice.{Choice}
-use Rattle.turns.specs.declared.rules.Choice.the-variants.{Submit, Finish, Wait}
-use Rattle.turns.specs.declared.rules.Verdict.{Verdict}
-use Rattle.turns.specs.declared.rules.Verdict.the-variants.{Stranger, Good, Bad}
+use Rattle.turns.specs.Ring.{after, free, goesOn}
+use Rattle.turns.specs.Types.{Track, Sent, Nothing, Period, Silent, Freed, Said, Going, Done, Ended, Step, Reading, Quiet, Completed, Choice, Submit, Finish, Wait, Outcome, Fine, Fails, Verdict, WrongSlot, Good, Bad}
 
 -- ---- RULE 1. "If 3 or more descriptors are free: if a period remains, submit it at head (3 descriptors), showing that part of the caller's
 -- frames itself; else if nothing is in flight, end with Ok and do not look at the reading."
@@ -30,7 +19,7 @@ pickChoice true false false = Wait
 pickChoice false remains none = Wait
 
 unfoldable pub chooseOf : ℕ → Track → Choice
-chooseOf least t = pickChoice (leb least (free t)) (ltb (t .next) (t .total)) (eqb (t .held) 0)
+chooseOf least t = pickChoice (leb least (free t)) (ltb (t .next) (t .total)) (eqb (t .inflight) 0)
 
 -- the length of the period that goes out next
 abbrev pub nextSpan : Track → ℕ
@@ -43,10 +32,10 @@ sentOf t = Period (t .head) (t .next) (nextSpan t)
 abbrev pub submit : Track → Track
 submit t =
     record {
-      per = t .per;
+      descriptors = t .descriptors;
       head = after (t .head);
       tail = t .tail;
-      held = t .held + 1;
+      inflight = t .inflight + 1;
       stream = t .stream;
       total = t .total;
       period = t .period;
@@ -59,23 +48,28 @@ submit t =
 -- ---- RULE 2. "The turn's reading is quiet, or a completed slot with a status. Not the oldest in flight, or nothing in flight: end with 6.
 -- Otherwise free the slot; a status other than 0x8000 ends with 2."
 
-abbrev pub pickVerdict : Bool → Bool → Bool → Verdict
-pickVerdict true true true = Good
-pickVerdict true true false = Bad IoError
-pickVerdict true false ok = Stranger
-pickVerdict false oldest ok = Stranger
+-- what the completion of a period that was played comes to
+unfoldable pub playedOf : ℕ → Outcome
+playedOf status = pick (eqb status 0x8000) Fine (Fails IoError)
 
-unfoldable pub judgeOf : Track → ℕ → ℕ → Verdict
-judgeOf t slot status = pickVerdict (ltb 0 (t .held)) (eqb slot (t .tail)) (eqb status 0x8000)
+unfoldable pub isOldest : Track → ℕ → Bool
+isOldest t slot = ltb 0 (t .inflight) && eqb slot (t .tail)
+
+abbrev pub verdictOf : Outcome → Verdict
+verdictOf Fine = Good
+verdictOf (Fails r) = Bad r
+
+unfoldable pub judgeOf : Track → ℕ → Outcome → Verdict
+judgeOf t slot outcome = pick (isOldest t slot) (verdictOf outcome) WrongSlot
 
 -- the oldest in flight is free
 abbrev pub release : Track → Track
 release t =
     record {
-      per = t .per;
+      descriptors = t .descriptors;
       head = t .head;
       tail = after (t .tail);
-      held = t .held - 1;
+      inflight = t .inflight - 1;
       stream = t .stream;
       total = t .total;
       period = t .period;
@@ -86,19 +80,19 @@ release t =
     }
 
 abbrev pub settle : Verdict → Sent → Track → ℕ → ℕ → Step
-settle Stranger sent t slot status = record { track = t; sent = sent; heard = Silent; said = Ended WrongToken }
+settle WrongSlot sent t slot status = record { track = t; sent = sent; heard = Silent; said = Ended WrongToken }
 settle Good sent t slot status = record { track = release t; sent = sent; heard = Freed slot status; said = Going }
-settle (Bad a) sent t slot status = record { track = release t; sent = sent; heard = Freed slot status; said = Ended a }
+settle (Bad r) sent t slot status = record { track = release t; sent = sent; heard = Freed slot status; said = Ended r }
 
 abbrev pub hear : Sent → Track → Reading → Step
 hear sent t Quiet = record { track = t; sent = sent; heard = Silent; said = Going }
-hear sent t (Completed slot status) = settle (judgeOf t slot status) sent t slot status
+hear sent t (Completed slot status) = settle (judgeOf t slot (playedOf status)) sent t slot status
 
 -- ---- ONE TURN: rule 1, then rule 2
 
 abbrev pub act : Choice → Track → Reading → Step
 act Submit t reading = hear (sentOf t) (submit t) reading
-act Finish t reading = record { track = t; sent = Nothing; heard = Silent; said = Ended Ok }
+act Finish t reading = record { track = t; sent = Nothing; heard = Silent; said = Done }
 act Wait t reading = hear Nothing t reading
 
 unfoldable pub turnOf : ℕ → Track → Reading → Step
@@ -109,10 +103,10 @@ turnOf least t reading = act (chooseOf least t) t reading
 abbrev pub ticked : Bool → Track → Track
 ticked running t =
     record {
-      per = t .per;
+      descriptors = t .descriptors;
       head = t .head;
       tail = t .tail;
-      held = t .held;
+      inflight = t .inflight;
       stream = t .stream;
       total = t .total;
       period = t .period;
@@ -124,10 +118,9 @@ ticked running t =
 
 -- a turn that goes on and spends the last of the budget says 9; a transfer that was answered runs no more
 abbrev pub countedBy : Said → Bool → Step → Step
-countedBy Going true s = record { track = ticked false (s .track); sent = s .sent; heard = s .heard; said = Ended OutOfTurns }
-countedBy Going false s = record { track = ticked true (s .track); sent = s .sent; heard = s .heard; said = Going }
-countedBy (Ended a) last s = record { track = ticked false (s .track); sent = s .sent; heard = s .heard; said = Ended a }
-countedBy (Refused r) last s = record { track = ticked false (s .track); sent = s .sent; heard = s .heard; said = Refused r }
+countedBy said last s =
+    let ends : Said → Step = λ x. record { track = ticked false (s .track); sent = s .sent; heard = s .heard; said = x } in
+    pick (goesOn said) (pick last (ends (Ended OutOfTurns)) (record { track = ticked true (s .track); sent = s .sent; heard = s .heard; said = Going })) (ends said)
 
 unfoldable pub countedOf : Step → Step
 countedOf s = countedBy (s .said) (eqb (s .track .turns + 1) (s .track .budget)) s

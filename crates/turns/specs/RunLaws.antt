@@ -1,4 +1,4 @@
--- Demand 3, both halves, and the book of the periods, of a run of the rules from the beginning of a transfer.
+-- Demand 3, both halves, and the account of the periods, of a run of the rules from the beginning of a transfer.
 -- Assumes nothing.
 use Prim.Native.Nat.{ℕ, zero, suc, _+_, _*_, _%_, _≤_, _<_}
 use native.Mathlib.Omega.{arith}
@@ -8,24 +8,17 @@ use mathlib.Core.Logic.{inl, inr}
 use mathlib.Core.List.{List, [], _∷_, _++_, map, map-map, append-nil}
 use lib.ListN.{length, getD, take, length-append}
 use lib.Seq.{take-append-seam, getD-take}
-use Rattle.codes.specs.declared.answers.Answer.the-variants.{Ok}
 use Rattle.layout.specs.Bytes.{le}
+use Rattle.layout.specs.All.{All}
 use Rattle.turns.specs.Cut.{cut, payload}
 use Rattle.turns.specs.Ring.{after, saysSaid}
 use Rattle.turns.specs.Calls.{begun}
 use Rattle.turns.specs.Log.{Ran, run, sends, frees}
 use Rattle.turns.specs.CutLaws.{plan, spans-done, plan-shows, plan-count, plan-at, cut-joined, cut-whole}
-use Rattle.turns.specs.Asked.{All, Right, Every, Whole, Ending, Accepted, Accounted}
-use Rattle.turns.specs.BookLaws.{ahead, InOrder, book}
+use Rattle.turns.specs.Asked.{NoFault, CompletesWithin, Whole, Ending, Accepted, Accounted}
+use Rattle.turns.specs.AccountLaws.{ahead, InOrder, account}
 use Rattle.turns.specs.TimeLaws.{lively, due-full, live}
-use Rattle.turns.specs.declared.ring.Track.{Track}
-use Rattle.turns.specs.declared.ring.Sent.{Sent}
-use Rattle.turns.specs.declared.ring.Sent.the-variants.{Nothing}
-use Rattle.turns.specs.declared.ring.Heard.{Heard}
-use Rattle.turns.specs.declared.ring.Heard.the-variants.{Silent, Freed}
-use Rattle.turns.specs.declared.ring.Said.{Said}
-use Rattle.turns.specs.declared.ring.Said.the-variants.{Ended}
-use Rattle.turns.specs.declared.reading.Reading.{Reading}
+use Rattle.turns.specs.Types.{Track, Sent, Nothing, Heard, Silent, Freed, Said, Done, Reading}
 
 step : (slot i : ℕ) → (after slot + i) % 32 ≡ (slot + suc i) % 32
 step slot i = omega arith
@@ -64,10 +57,10 @@ map-take f (suc n) (x ∷ xs) = ap (λ l. f x ∷ l) (map-take f n xs)
 
 -- the two halves, of an outcome
 abbrev pub InTime : {A : Type 0} → ℕ → ℕ → Ran A → Type 0
-InTime n g o = All Right (o .log) → Every g (o .log) → (o .said ≡ Ended Ok) × (length (o .log) ≤ n * g + 1)
+InTime n g o = All NoFault (o .log) → CompletesWithin g (o .log) → (o .said ≡ Done) × (length (o .log) ≤ n * g + 1)
 
 abbrev pub OnlyIf : {A : Type 0} → ℕ → ℕ → List ℕ → Ran A → Type 0
-OnlyIf stream period frames o = o .said ≡ Ended Ok → Whole stream period frames (o .log)
+OnlyIf stream period frames o = o .said ≡ Done → Whole stream period frames (o .log)
 
 module _ (least stream period budget : ℕ) (frames : List ℕ) (t : Track) (script : List Reading) (some : 0 < period) where
   pub run-in-time : (g : ℕ) → least ≤ 32 → 0 < g → length (cut period frames) * g + 1 ≤ budget → InTime (length (cut period frames)) g (run least budget (begun t stream (length frames) period budget) script)
@@ -77,10 +70,11 @@ module _ (least stream period budget : ℕ) (frames : List ℕ) (t : Track) (scr
       let got = live least g budget (length frames) n g (begun t stream (length frames) period budget) script fits (omega arith) (omega arith, some) (omega (arith, plan-count period frames)) pos (omega arith) right (lively g _ pos every) (omega arith) in
       (got .0, omega arith)
 
-  pub run-accounted : let o = run least budget (begun t stream (length frames) period budget) script in Accounted period frames (o .said) (o .at) (o .log)
-  run-accounted =
-      let o = run least budget (begun t stream (length frames) period budget) script in
-      let k = book least budget (length frames) (begun t stream (length frames) period budget) script (omega arith, some) in
+  -- after every number of turns
+  pub run-accounted : (n : ℕ) → let o = run least n (begun t stream (length frames) period budget) script in Accounted period frames (o .said) (o .at) (o .log)
+  run-accounted n =
+      let o = run least n (begun t stream (length frames) period budget) script in
+      let k = account least n (length frames) (begun t stream (length frames) period budget) script (omega arith, some) in
       let m = length (sends (o .log)) in
       let L = length frames in
       let first : sends (o .log) ≡ take m (plan period L) = sym (take-append-seam (sends (o .log)) (ahead (k .fuel) (o .at))) ∙ ap (take m) (k .sent) in
@@ -96,7 +90,7 @@ module _ (least stream period budget : ℕ) (frames : List ℕ) (t : Track) (scr
   pub run-only-if : OnlyIf stream period frames (run least budget (begun t stream (length frames) period budget) script)
   run-only-if ok =
       let o = run least budget (begun t stream (length frames) period budget) script in
-      let k = book least budget (length frames) (begun t stream (length frames) period budget) script (omega arith, some) in
+      let k = account least budget (length frames) (begun t stream (length frames) period budget) script (omega arith, some) in
       let number : saysSaid (o .said) .number ≡ 0 = ap (λ (s : Said). saysSaid s .number) ok in
       let done = k .done number in
       let none : ahead (k .fuel) (o .at) ≡ [] = spans-done (k .fuel) (o .at .period) (o .at .total) (o .at .next) (o .at .head) (done .0) in

@@ -10,28 +10,20 @@ use mathlib.Core.List.{List, [], _∷_, _++_, append-assoc}
 use lib.ListN.{length, take, length-append}
 use lib.Seq.{take-at}
 use borrow.Author.Tests.{eqb-true}
-use Rattle.codes.specs.Answers.{saysAnswer}
-use Rattle.codes.specs.declared.answers.Answer.{Answer}
-use Rattle.codes.specs.declared.answers.Answer.the-variants.{Ok}
+use Rattle.codes.specs.Answers.{saysRefusal}
+use Rattle.codes.specs.declared.answers.Refusal.{Refusal}
+use Rattle.layout.specs.All.{All}
+use Rattle.layout.specs.AllLaws.{append-ok}
 use Rattle.turns.specs.Ring.{free}
 use Rattle.turns.specs.CutLaws.{spans-more}
-use Rattle.turns.specs.Rules.{chooseOf, submit, sentOf, judgeOf, settle, hear, act, turnOf, ticked, countedOf}
-use Rattle.turns.specs.RuleLaws.{Chosen, chosen, Judged, judged}
+use Rattle.turns.specs.Rules.{chooseOf, submit, sentOf, playedOf, judgeOf, settle, hear, act, turnOf, ticked, countedOf}
+use Rattle.turns.specs.RuleLaws.{Chosen, chosen, Judged, judged, played-fails}
 use Rattle.turns.specs.CaseLaws.{lastOf}
 use Rattle.turns.specs.KeepLaws.{after-act, turn-plain, counted-track}
-use Rattle.turns.specs.BookLaws.{turned, ahead, Fuelled}
-use Rattle.turns.specs.Asked.{All, Any, Right, InFlight, Completes, Reports, Every}
+use Rattle.turns.specs.AccountLaws.{turned, ahead, Fuelled}
+use Rattle.turns.specs.Asked.{Any, NoFault, InFlight, Completes, Reports, CompletesWithin}
 use Rattle.turns.specs.Log.{Line, Ran, waitingBy, firstOf, restOf, loop, run}
-use Rattle.turns.specs.declared.ring.Track.{Track}
-use Rattle.turns.specs.declared.ring.Sent.{Sent}
-use Rattle.turns.specs.declared.ring.Sent.the-variants.{Nothing}
-use Rattle.turns.specs.declared.ring.Said.the-variants.{Ended}
-use Rattle.turns.specs.declared.reading.Reading.{Reading}
-use Rattle.turns.specs.declared.reading.Reading.the-variants.{Quiet, Completed}
-use Rattle.turns.specs.declared.rules.Choice.{Choice}
-use Rattle.turns.specs.declared.rules.Choice.the-variants.{Submit, Finish, Wait}
-use Rattle.turns.specs.declared.rules.Verdict.{Verdict}
-use Rattle.turns.specs.declared.rules.Verdict.the-variants.{Stranger, Good, Bad}
+use Rattle.turns.specs.Types.{Track, Sent, Nothing, Done, Reading, Quiet, Completed, Choice, Submit, Finish, Wait, Verdict, WrongSlot, Good, Bad}
 
 -- the same by counting down: within j more turns one reports, and after each report within g
 abbrev pub Lively-by : Reading → ℕ → Type 0 → (ℕ → Type 0) → ℕ → Type 0
@@ -42,40 +34,36 @@ abbrev pub Lively : ℕ → ℕ → List Line → Type 0
 Lively g j [] = Unit {0}
 Lively g j (t ∷ ts) = Lively-by (t .reading) (t .waiting) (Lively g g ts) (λ k. Lively g k ts) j
 
-all-append : {A : Type 0} (P : A → Type 0) (xs ys : List A) → All P xs → All P ys → All P (xs ++ ys)
-all-append P [] ys p q = q
-all-append P (x ∷ xs) ys p q = (p .0, all-append P xs ys (p .1) q)
-
 none-of : (pre : List Line) → All (λ t. t .reading ≡ Quiet) pre → Any Reports pre → ⊥
 none-of (t ∷ ts) q (inl h) = subst Completes (q .0) h
 none-of (t ∷ ts) q (inr h) = none-of ts (q .1) h
 
-every-tail : (g : ℕ) (t : Line) (ts : List Line) → Every g (t ∷ ts) → Every g ts
+every-tail : (g : ℕ) (t : Line) (ts : List Line) → CompletesWithin g (t ∷ ts) → CompletesWithin g ts
 every-tail g t ts e i h = e (suc i) (omega arith)
 
-every-after : (g : ℕ) (pre ts : List Line) → Every g (pre ++ ts) → Every g ts
+every-after : (g : ℕ) (pre ts : List Line) → CompletesWithin g (pre ++ ts) → CompletesWithin g ts
 every-after g [] ts e = e
 every-after g (t ∷ pre) ts e = every-after g pre ts (every-tail g t (pre ++ ts) e)
 
 -- what is left of a window, of which pre is the quiet part that has passed
 abbrev Begun : ℕ → ℕ → List Line → List Line → Type 0
-Begun g j pre log = (length pre + j ≡ g) × (0 < j) × All InFlight pre × All (λ t. t .reading ≡ Quiet) pre × Every g (pre ++ log)
+Begun g j pre log = (length pre + j ≡ g) × (0 < j) × All InFlight pre × All (λ t. t .reading ≡ Quiet) pre × CompletesWithin g (pre ++ log)
 
 lively-turn : (g j : ℕ) (pre : List Line) (t : Line) (ts : List Line) → Begun g j pre (t ∷ ts) → ((k : ℕ) (more : List Line) → Begun g k more ts → Lively g k ts)
     → (reading : Reading) → t .reading ≡ reading → Lively-by reading (t .waiting) (Lively g g ts) (λ k. Lively g k ts) j
 lively-turn g zero pre t ts b k Quiet s = λ h. absurd (omega arith)
 lively-turn g (suc zero) pre t ts b k Quiet s = λ h.
     let window : take g (pre ++ t ∷ ts) ≡ pre ++ t ∷ [] = ap (take g) (sym (append-assoc pre (t ∷ []) ts)) ∙ take-at (pre ++ t ∷ []) ts g (simp length-append (omega arith)) in
-    absurd (none-of (pre ++ t ∷ []) (all-append (λ t. t .reading ≡ Quiet) pre (t ∷ []) (b .3) (s, tt)) (rw window at (b .4 0 (simp length-append (omega arith)) (rw window (all-append InFlight pre (t ∷ []) (b .2) (h, tt))))))
+    absurd (none-of (pre ++ t ∷ []) (append-ok (λ t. t .reading ≡ Quiet) pre (t ∷ []) (b .3) (s, tt)) (rw window at (b .4 0 (simp length-append (omega arith)) (rw window (append-ok InFlight pre (t ∷ []) (b .2) (h, tt))))))
 lively-turn g (suc (suc j)) pre t ts b k Quiet s = λ h.
-    (suc j, refl, omega arith, k (suc j) (pre ++ t ∷ []) (simp length-append (omega arith), omega arith, all-append InFlight pre (t ∷ []) (b .2) (h, tt), all-append (λ t. t .reading ≡ Quiet) pre (t ∷ []) (b .3) (s, tt), simp append-assoc (b .4)))
+    (suc j, refl, omega arith, k (suc j) (pre ++ t ∷ []) (simp length-append (omega arith), omega arith, append-ok InFlight pre (t ∷ []) (b .2) (h, tt), append-ok (λ t. t .reading ≡ Quiet) pre (t ∷ []) (b .3) (s, tt), simp append-assoc (b .4)))
 lively-turn g j pre t ts b k (Completed slot status) s = k g [] (omega arith, omega arith, tt, tt, every-tail g t ts (every-after g pre (t ∷ ts) (b .4)))
 
 lively-by : (g j : ℕ) (pre : List Line) (log : List Line) → Begun g j pre log → Lively g j log
 lively-by g j pre [] b = tt
 lively-by g j pre (t ∷ ts) b = lively-turn g j pre t ts b (λ k more. lively-by g k more ts) (t .reading) refl
 
-pub lively : (g : ℕ) (log : List Line) → 0 < g → Every g log → Lively g g log
+pub lively : (g : ℕ) (log : List Line) → 0 < g → CompletesWithin g log → Lively g g log
 lively g log p e = lively-by g g [] log (omega arith, p, tt, tt, e)
 
 -- how many turns it takes to hear w completions, if the first comes within j turns and each later one within g, and to say Ok
@@ -92,35 +80,35 @@ due-some g zero j = omega arith
 due-some g (suc w) j = omega arith
 
 abbrev pub InTime : ℕ → ℕ → ℕ → Ran Track → Type 0
-InTime g w j o = (o .said ≡ Ended Ok) × (length (o .log) ≤ due g w j)
+InTime g w j o = (o .said ≡ Done) × (length (o .log) ≤ due g w j)
 
 -- an outcome that is in time, if it has b turns of the budget, no mistake and enough completions; w are in flight or ahead
 abbrev pub Alive : ℕ → ℕ → ℕ → ℕ → ℕ → Track → Ran Track → Type 0
-Alive g b f w j t o = Fuelled f t → w ≡ t .held + length (ahead f t) → 0 < j → j ≤ g → All Right (o .log) → Lively g j (o .log) → due g w j ≤ b → InTime g w j o
+Alive g b f w j t o = Fuelled f t → w ≡ t .inflight + length (ahead f t) → 0 < j → j ≤ g → All NoFault (o .log) → Lively g j (o .log) → due g w j ≤ b → InTime g w j o
 
-settle-live : (g b f w j : ℕ) (sent : Sent) (t : Track) (slot status : ℕ) (last : Bool) (rest : Ran Track) → (last ≡ true → b ≡ 0) → (v : Verdict) → Judged t slot status v
+settle-live : (g b f w j : ℕ) (sent : Sent) (t : Track) (slot status : ℕ) (last : Bool) (rest : Ran Track) → (last ≡ true → b ≡ 0) → (v : Verdict) → Judged t slot (playedOf status) v
     → ((w j : ℕ) → Alive g b f w j (settle v sent t slot status .track) rest)
-    → Alive g (suc b) f (suc w) j t (turned (t .held) (Completed slot status) last (settle v sent t slot status) rest)
-settle-live g b f w j sent t slot status last rest out Stranger ju k fu e p q c l d = absurd (c .0 .0 refl)
+    → Alive g (suc b) f (suc w) j t (turned (t .inflight) (Completed slot status) last (settle v sent t slot status) rest)
+settle-live g b f w j sent t slot status last rest out WrongSlot ju k fu e p q c l d = absurd (c .0 .0 refl)
 settle-live g b f w j sent t slot status true rest out Good ju k fu e p q c l d = let z : b ≡ 0 = out refl in absurd (omega arith)
 settle-live g b f w j sent t slot status false rest out Good ju k fu e p q c l d =
     let got = k w g fu (omega arith) (omega arith) (omega arith) (c .1) l (omega (arith, due-full g w)) in
     (got .0, omega (arith, due-full g w))
-settle-live g b f w j sent t slot status last rest out (Bad a) ju k fu e p q c l d = absurd (c .0 .1 (ap (λ (x : Answer). saysAnswer x .number) (ju .3)))
+settle-live g b f w j sent t slot status last rest out (Bad a) ju k fu e p q c l d = absurd (c .0 .1 (ap (λ (x : Refusal). saysRefusal x .number) (sym (played-fails status a (ju .2) .1))))
 
-hear-live : (g b f w j : ℕ) (sent : Sent) (t : Track) (reading : Reading) (last : Bool) (rest : Ran Track) → (last ≡ true → b ≡ 0) → 0 < t .held
+hear-live : (g b f w j : ℕ) (sent : Sent) (t : Track) (reading : Reading) (last : Bool) (rest : Ran Track) → (last ≡ true → b ≡ 0) → 0 < t .inflight
     → ((w j : ℕ) → Alive g b f w j (hear sent t reading .track) rest)
-    → Alive g (suc b) f (suc w) j t (turned (t .held) reading last (hear sent t reading) rest)
+    → Alive g (suc b) f (suc w) j t (turned (t .inflight) reading last (hear sent t reading) rest)
 hear-live g b f w j sent t Quiet true rest out some k fu e p q c l d = let z : b ≡ 0 = out refl in absurd (omega arith)
 hear-live g b f w j sent t Quiet false rest out some k fu e p q c l d =
     let n = l some in
     let got = k (suc w) (n .0) fu e (n .2) (omega arith) (c .1) (n .3) (omega arith) in
     (got .0, omega arith)
 hear-live g b f w j sent t (Completed slot status) last rest out some k fu e p q c l d =
-    settle-live g b f w j sent t slot status last rest out (judgeOf t slot status) (judged t slot status) k fu e p q c l d
+    settle-live g b f w j sent t slot status last rest out (judgeOf t slot (playedOf status)) (judged t slot (playedOf status)) k fu e p q c l d
 
 -- with nothing in flight there is room
-room : (least : ℕ) (t : Track) → least ≤ 32 → t .held ≡ 0 → least ≤ free t
+room : (least : ℕ) (t : Track) → least ≤ 32 → t .inflight ≡ 0 → least ≤ free t
 room least t h z = rw (z, zero-mul) h
 
 act-live : (least g b f w j : ℕ) (t : Track) (reading : Reading) (last : Bool) (rest : Ran Track) → (last ≡ true → b ≡ 0) → (c : Choice) → least ≤ 32 → Chosen least t c
@@ -135,10 +123,10 @@ act-live least g b (suc f) (suc w) j t reading last rest out Submit fits ch k fu
     hear-live g b f w j (sentOf t) (submit t) reading last rest out (omega arith) (k f) h (omega arith) p q c l u
 act-live least g b f w j t reading last rest out Finish fits ch k fu e p q c l u = (refl, due-some g w j)
 act-live least g b f zero j t reading last rest out Wait fits ch k fu e p q c l u =
-    let z : t .held ≡ 0 = omega arith in
+    let z : t .inflight ≡ 0 = omega arith in
     absurd (ch .1 (room least t fits z) z)
 act-live least g b f (suc w) j t reading last rest out Wait fits ch k fu e p q c l u =
-    let some : t .held ≢ 0 = λ z. ch .1 (room least t fits z) z in
+    let some : t .inflight ≢ 0 = λ z. ch .1 (room least t fits z) z in
     hear-live g b f w j Nothing t reading last rest out (omega arith) (k f) fu e p q c l u
 
 pub live : (least g b f w j : ℕ) (t : Track) (script : List Reading) → least ≤ 32 → t .turns + b ≡ t .budget → Alive g b f w j t (run least b t script)

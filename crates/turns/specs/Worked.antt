@@ -1,25 +1,22 @@
 -- Document 01's worked transfers, computed over the definitions: a new ring, the start of a transfer, and turns until one does not go on.
 -- Assumes nothing.
-use Prim.Native.Nat.{ℕ, zero, suc}
-use native.Mathlib.Omega.{arith}
-use mathlib.Core.Logic.{inl}
+use Prim.Native.Nat.{ℕ, zero, suc, _+_}
 use mathlib.Core.Path.{_≡_, refl}
+use mathlib.Core.Bool.{true}
 use mathlib.Core.List.{List, [], _∷_}
 use lib.ListN.{length, replicate}
 use Rattle.codes.specs.Says.{guard}
-use Rattle.codes.specs.declared.answers.Answer.the-variants.{Ok, OutOfTurns}
-use Rattle.turns.specs.Ring.{newRing}
-use Rattle.turns.specs.Rules.{chooseOf, judgeOf, turnOf, countedOf}
+use Rattle.codes.specs.declared.answers.Refusal.the-variants.{WrongToken, OutOfTurns}
+use Rattle.layout.specs.All.{All}
+use Rattle.turns.specs.Cut.{cutBy, cut}
+use Rattle.turns.specs.Ring.{direct, newRing}
+use Rattle.turns.specs.Rules.{chooseOf, playedOf, isOldest, judgeOf, turnOf, countedOf}
 use Rattle.turns.specs.Consistent.{placedOf, pacedOf}
-use Rattle.turns.specs.Calls.{startCall, startedOf, turnCall}
-use Rattle.turns.specs.Log.{Line, loop, hosted, sends}
-use Rattle.turns.specs.Asked.{plays, All, Right, Every}
-use Rattle.turns.specs.declared.ring.Sent.{Sent}
-use Rattle.turns.specs.declared.ring.Sent.the-variants.{Nothing, Period}
-use Rattle.turns.specs.declared.ring.Said.{Said}
-use Rattle.turns.specs.declared.ring.Said.the-variants.{Going, Ended}
-use Rattle.turns.specs.declared.reading.Reading.{Reading}
-use Rattle.turns.specs.declared.reading.Reading.the-variants.{Completed}
+use Rattle.turns.specs.Calls.{startCall, startedOf, turnCall, drainCall, turnedOf, idleOf}
+use Rattle.turns.specs.Log.{Ran, loop, turnByTurn, sends}
+use Rattle.turns.specs.Asked.{plays, Idle, NoFault, CompletesWithin}
+use Rattle.turns.specs.PremiseLaws.{by-faultless, by-within}
+use Rattle.turns.specs.Types.{Ring, Sent, Nothing, Period, Said, Going, Done, Ended, Turned, Reading, Quiet, Completed}
 
 abbrev lens : List Sent → List ℕ
 lens [] = []
@@ -29,30 +26,47 @@ lens (Period slot offset len ∷ xs) = len ∷ lens xs
 -- what the start says, what the turns come to, their number, the lengths that went out, and how many are in flight afterwards
 abbrev pub comesTo : ℕ → ℕ → ℕ → List Reading → Said × Said × ℕ × List ℕ × ℕ
 comesTo total period budget script =
-    let s = startedOf (newRing 3) (startCall (newRing 3 .track) 0 total period budget) in
-    let h = hosted 3 total budget (s .ring) script in
-    (s .said, h .said, length (h .log), lens (sends (h .log)), h .at .track .held)
+    let s = startedOf (newRing direct) (startCall (newRing direct .track) 0 total period budget) in
+    let h = turnByTurn total budget (s .ring) script in
+    (s .said, h .said, length (h .log), lens (sends (h .log)), h .at .track .inflight)
 
 -- "empty frames: Ok on turn 1"; "10 bytes, period 4: lengths 4, 4, 2; a right completion every turn: Ok on turn 4";
 -- "11 periods, all quiet, budget 12: answer 9, 10 in flight"
-pub worked : (comesTo 0 4 5 [] ≡ (Going, Ended Ok, 1, [], 0))
-    × (comesTo 10 4 9 (Completed 0 0x8000 ∷ Completed 1 0x8000 ∷ Completed 2 0x8000 ∷ []) ≡ (Going, Ended Ok, 4, 4 ∷ 4 ∷ 2 ∷ [], 0))
+pub worked : (comesTo 0 4 5 [] ≡ (Going, Done, 1, [], 0))
+    × (comesTo 10 4 9 (Completed 0 0x8000 ∷ Completed 1 0x8000 ∷ Completed 2 0x8000 ∷ []) ≡ (Going, Done, 4, 4 ∷ 4 ∷ 2 ∷ [], 0))
     × (comesTo 11 1 12 [] ≡ (Going, Ended OutOfTurns, 12, replicate 10 1, 10))
-unfolding loop startCall turnCall guard placedOf pacedOf turnOf chooseOf judgeOf countedOf
+unfolding loop startCall turnCall guard placedOf pacedOf turnOf chooseOf playedOf isOldest judgeOf countedOf
 worked = (refl, refl, refl)
 
--- the second of them meets demand 3's premises with g = 1, so that they can be met: 3 periods, Ok on turn 3 * 1 + 1
-abbrev tenBytes : List Line
-tenBytes = plays 3 (newRing 3) 0 4 9 (replicate 10 0) (Completed 0 0x8000 ∷ Completed 1 0x8000 ∷ Completed 2 0x8000 ∷ []) .log
+-- ---- DEMAND 3'S PREMISES CAN BE MET, all together: 12 periods, g = 2, a budget of 12 * 2 + 1, a completion every other turn
 
-pub meets-right : All Right tenBytes
-unfolding loop startCall turnCall guard placedOf pacedOf turnOf chooseOf judgeOf countedOf
-meets-right = ((λ e. omega arith, λ e. omega arith), ((λ e. omega arith, λ e. omega arith), ((λ e. omega arith, λ e. omega arith), ((λ e. omega arith, λ e. omega arith), tt))))
+abbrev twoEach : ℕ → ℕ → List Reading
+twoEach zero slot = []
+twoEach (suc n) slot = Quiet ∷ Completed slot 0x8000 ∷ twoEach n (slot + 1)
 
-pub meets-every : Every 1 tenBytes
-unfolding loop startCall turnCall guard placedOf pacedOf turnOf chooseOf judgeOf countedOf
-meets-every zero b w = inl tt
-meets-every (suc zero) b w = inl tt
-meets-every (suc (suc zero)) b w = inl tt
-meets-every (suc (suc (suc zero))) b w = absurd (omega (arith, w .0))
-meets-every (suc (suc (suc (suc i)))) b w = absurd (omega arith)
+abbrev pub announced : Ran Ring
+announced = plays (newRing direct) 0 3 25 (replicate 35 7) (twoEach 12 0)
+
+-- Ok on the last turn that the theorem allows
+pub just-in-time : (announced .said ≡ Done) × (length (announced .log) ≡ 25) × (length (cut {A = ℕ} 3 (replicate 35 7)) ≡ 12)
+unfolding loop startCall turnCall guard placedOf pacedOf turnOf chooseOf playedOf isOldest judgeOf countedOf cutBy
+just-in-time = (refl, refl, refl)
+
+pub premises-met : Idle (newRing direct) × (All NoFault (announced .log)) × (CompletesWithin 2 (announced .log))
+unfolding loop startCall turnCall guard placedOf pacedOf turnOf chooseOf playedOf isOldest judgeOf countedOf
+premises-met = (record { consistent = refl; stopped = refl; empty = refl }, by-faultless (announced .log) refl, by-within 2 (announced .log) refl)
+
+-- ---- A COMPLETION OUT OF ORDER IS LOST. A device completes slot 1 before slot 0, each once: the transfer ends with 6 and slot 1's completion is gone,
+-- a drain turn frees slot 0, and slot 1 stays owed until the host passes its completion again
+
+abbrev outOfOrder : Ran Ring
+outOfOrder = plays (newRing direct) 0 4 9 (replicate 8 0) (Quiet ∷ Completed 1 0x8000 ∷ [])
+
+abbrev drainedOnce : Turned
+drainedOnce = turnedOf (outOfOrder .at) (drainCall (outOfOrder .at .track) (Completed 0 0x8000))
+
+pub stuck : (outOfOrder .said ≡ Ended WrongToken) × (drainedOnce .said ≡ Done) × (drainedOnce .ring .track .inflight ≡ 1)
+    × (turnedOf (drainedOnce .ring) (drainCall (drainedOnce .ring .track) Quiet) .ring .track .inflight ≡ 1)
+    × (idleOf (turnedOf (drainedOnce .ring) (drainCall (drainedOnce .ring .track) (Completed 1 0x8000)) .ring .track) ≡ true)
+unfolding loop startCall turnCall drainCall guard placedOf pacedOf turnOf chooseOf playedOf isOldest judgeOf countedOf
+stuck = (refl, refl, refl, refl, refl)

@@ -3,10 +3,8 @@ ghost use mathlib.Core.Path.{_≡_};
 ghost use Prim.Native.Nat.{_≤_, _<_};
 ghost use lib.ListN.{length, take, drop};
 ghost use Rattle.turns.specs.Cut.{payload};
-ghost use Rattle.turns.specs.Rules.{judgeOf};
-ghost use Rattle.turns.specs.declared.rules.Verdict.the-variants.{Good};
-ghost use Rattle.turns.specs.Calls.{refusedOf, answeredOf, lengthAgrees, turnCall, drainBy, drained, drainCall, begun, idleOf, startCall, ringAfter, turnedOf, startedOf, offerBy, offerCall, shownBy};
-use crate::consistent::consistent;
+ghost use Rattle.turns.specs.Calls.{refusedOf, unchangedOf, lengthAgrees, turnCall, freedOf, drained, drainCall, begun, idleOf, startCall, ringAfter, turnedOf, startedOf, offerBy, offerCall, shownBy};
+use crate::consistent::is_consistent;
 use crate::reading::Reading;
 use crate::ring::Heard;
 use crate::ring::Ring;
@@ -18,12 +16,7 @@ use crate::ring::Track;
 use crate::ring::Turned;
 use crate::rules;
 use crate::rules::Choice;
-use crate::rules::Verdict;
-use codes::Answer;
 use codes::Refusal;
-
-// The least room that a submission needs, with direct descriptors.
-const LEAST: usize = 3;
 
 // What the next turn submits, or why it would be refused.
 pub enum Offer {
@@ -31,26 +24,22 @@ pub enum Offer {
     Refused(Refusal),
 }
 
-fn refused(refusal: Refusal, t: Track) -> Step
-    ensures { λ r. ⌜ r ≡ refusedOf refusal t ⌝ }
+// Nothing was submitted and nothing freed.
+fn unchanged(said: Said, t: Track) -> Step
+    ensures { λ r. ⌜ r ≡ unchangedOf said t ⌝ }
 {
     Step {
         track: t,
         sent: Sent::Nothing,
         heard: Heard::Silent,
-        said: Said::Refused(refusal),
+        said,
     }
 }
 
-fn answered(answer: Answer, t: Track) -> Step
-    ensures { λ r. ⌜ r ≡ answeredOf answer t ⌝ }
+fn refused(refusal: Refusal, t: Track) -> Step
+    ensures { λ r. ⌜ r ≡ refusedOf refusal t ⌝ }
 {
-    Step {
-        track: t,
-        sent: Sent::Nothing,
-        heard: Heard::Silent,
-        said: Said::Ended(answer),
-    }
+    unchanged(Said::Refused(refusal), t)
 }
 
 fn length_agrees(t: Track, len: usize) -> bool
@@ -64,60 +53,50 @@ fn length_agrees(t: Track, len: usize) -> bool
 
 // A turn of the track, lent frames of some length.
 pub fn turn_track(t: Track, len: usize, reading: Reading) -> Step
-    ensures { λ r. ⌜ r ≡ turnCall 3 t len reading ⌝ }
+    ensures { λ r. ⌜ r ≡ turnCall t len reading ⌝ }
 {
     let agrees = length_agrees(t, len);
     if !agrees {
         return refused(Refusal::BadLength, t);
     }
-    let sound = consistent(t);
+    let sound = is_consistent(t);
     if !sound {
         return refused(Refusal::InvalidParam, t);
     }
     if !t.running {
         return refused(Refusal::InvalidParam, t);
     }
-    let s = rules::step(LEAST, t, reading);
+    let s = rules::turn(t.descriptors, t, reading);
     rules::counted(s)
 }
 
-// What an owed slot's completion comes to: its status plays no part.
-fn drained_by(v: Verdict, t: Track, slot: u32, status: u32) -> Step
-    requires { ⌜ (t .tail < 32) × (v ≡ judgeOf t slot status) ⌝ }
-    ensures { λ r. ⌜ r ≡ drainBy v t slot status ⌝ }
-{
-    match v {
-        Verdict::Stranger => answered(Answer::WrongToken, t),
-        Verdict::Good => freed(t, slot, status),
-        Verdict::Bad(_) => freed(t, slot, status),
-    }
-}
-
+// An owed slot's completion: its status plays no part.
 fn freed(t: Track, slot: u32, status: u32) -> Step
-    requires { ⌜ (t .tail < 32) × (0 < t .held) ⌝ }
-    ensures { λ r. ⌜ r ≡ drainBy Good t slot status ⌝ }
+    requires { ⌜ t .tail < 32 ⌝ }
+    ensures { λ r. ⌜ r ≡ freedOf t slot status ⌝ }
 {
+    let oldest = rules::is_oldest(t, slot);
+    if !oldest {
+        return unchanged(Said::Ended(Refusal::WrongToken), t);
+    }
     Step {
-        track: rules::released(t),
+        track: rules::release(t),
         sent: Sent::Nothing,
         heard: Heard::Freed {
             slot: slot as usize,
             status,
         },
-        said: Said::Ended(Answer::Ok),
+        said: Said::Done,
     }
 }
 
-fn drain(t: Track, reading: Reading) -> Step
+fn drained(t: Track, reading: Reading) -> Step
     requires { ⌜ t .tail < 32 ⌝ }
     ensures { λ r. ⌜ r ≡ drained t reading ⌝ }
 {
     match reading {
-        Reading::Quiet => answered(Answer::Ok, t),
-        Reading::Completed { slot, status } => {
-            let v = rules::judge(t, slot, status);
-            drained_by(v, t, slot, status)
-        }
+        Reading::Quiet => unchanged(Said::Done, t),
+        Reading::Completed { slot, status } => freed(t, slot, status),
     }
 }
 
@@ -125,25 +104,25 @@ fn drain(t: Track, reading: Reading) -> Step
 pub fn drain_track(t: Track, reading: Reading) -> Step
     ensures { λ r. ⌜ r ≡ drainCall t reading ⌝ }
 {
-    let sound = consistent(t);
+    let sound = is_consistent(t);
     if !sound {
         return refused(Refusal::InvalidParam, t);
     }
     if t.running {
         return refused(Refusal::InvalidParam, t);
     }
-    drain(t, reading)
+    drained(t, reading)
 }
 
 // The track with which a transfer starts.
-fn fresh(t: Track, stream: u32, total: usize, period: usize, budget: u64) -> Track
+fn begun(t: Track, stream: u32, total: usize, period: usize, budget: u64) -> Track
     ensures { λ r. ⌜ r ≡ begun t stream total period budget ⌝ }
 {
     Track {
-        per: t.per,
+        descriptors: t.descriptors,
         head: 0,
         tail: 0,
-        held: 0,
+        inflight: 0,
         stream,
         total,
         period,
@@ -158,11 +137,11 @@ fn fresh(t: Track, stream: u32, total: usize, period: usize, budget: u64) -> Tra
 pub fn start_track(t: Track, stream: u32, total: usize, period: usize, budget: u64) -> Step
     ensures { λ r. ⌜ r ≡ startCall t stream total period budget ⌝ }
 {
-    let sound = consistent(t);
+    let sound = is_consistent(t);
     if !sound {
         return refused(Refusal::InvalidParam, t);
     }
-    let free = idle(t);
+    let free = is_idle(t);
     if !free {
         return refused(Refusal::Busy, t);
     }
@@ -173,33 +152,26 @@ pub fn start_track(t: Track, stream: u32, total: usize, period: usize, budget: u
         return refused(Refusal::OutOfTurns, t);
     }
     Step {
-        track: fresh(t, stream, total, period, budget),
+        track: begun(t, stream, total, period, budget),
         sent: Sent::Nothing,
         heard: Heard::Silent,
         said: Said::Going,
     }
 }
 
-// No transfer runs and no slot is in flight.
-fn idle(t: Track) -> bool
+// No transfer runs and no slot is in flight: else a new call is Busy.
+pub fn is_idle(t: Track) -> bool
     ensures { λ r. ⌜ r ≡ idleOf t ⌝ }
 {
     if t.running {
         return false;
     }
-    t.held == 0
-}
-
-// The same, for who is handed a ring: else a new call is Busy.
-pub fn is_idle(t: Track) -> bool
-    ensures { λ r. ⌜ r ≡ idleOf t ⌝ }
-{
-    idle(t)
+    t.inflight == 0
 }
 
 // The ring after a step: what was submitted stands in its slot. The rules submit below 32, and no
 // other slot would be stored.
-fn after(r: Ring, s: Step) -> Ring
+fn ring_after(r: Ring, s: Step) -> Ring
     ensures { λ x. ⌜ x ≡ ringAfter r s ⌝ }
 {
     let track = s.track;
@@ -223,7 +195,7 @@ fn turned(r: Ring, s: Step) -> Turned
     let heard = s.heard;
     let said = s.said;
     Turned {
-        ring: after(r, s),
+        ring: ring_after(r, s),
         sent,
         heard,
         said,
@@ -233,7 +205,7 @@ fn turned(r: Ring, s: Step) -> Turned
 
 // A turn of the ring, lent frames of some length.
 pub(crate) fn turn_of(r: Ring, len: usize, reading: Reading) -> Turned
-    ensures { λ x. ⌜ x ≡ turnedOf r (turnCall 3 (r .track) len reading) ⌝ }
+    ensures { λ x. ⌜ x ≡ turnedOf r (turnCall (r .track) len reading) ⌝ }
 {
     let s = turn_track(r.track, len, reading);
     turned(r, s)
@@ -241,7 +213,7 @@ pub(crate) fn turn_of(r: Ring, len: usize, reading: Reading) -> Turned
 
 // A turn of a transfer, lent the frames again: rule 1 and rule 2, counted.
 pub fn turn(r: Ring, frames: &[u8], reading: Reading) -> Turned
-    ensures { λ x. ⌜ x ≡ turnedOf r (turnCall 3 (r .track) (length (now (frames .entry))) reading) ⌝ }
+    ensures { λ x. ⌜ x ≡ turnedOf r (turnCall (r .track) (length (now (frames .entry))) reading) ⌝ }
 {
     turn_of(r, frames.len(), reading)
 }
@@ -266,7 +238,7 @@ pub fn start(r: Ring, stream: u32, frames: &[u8], period: usize, budget: u64) ->
 }
 
 // What the next turn of the track submits.
-fn next_sent(choice: Choice, t: Track) -> Sent
+fn offer_by(choice: Choice, t: Track) -> Sent
     requires { ⌜ t .next ≤ t .total ⌝ }
     ensures { λ r. ⌜ r ≡ offerBy choice t ⌝ }
 {
@@ -279,27 +251,27 @@ fn next_sent(choice: Choice, t: Track) -> Sent
 
 // What the next turn of the track submits, or its refusal.
 pub fn offer_track(t: Track, len: usize) -> Offer
-    ensures { λ r. ⌜ r ≡ offerCall 3 t len ⌝ }
+    ensures { λ r. ⌜ r ≡ offerCall t len ⌝ }
 {
     let agrees = length_agrees(t, len);
     if !agrees {
         return Offer::Refused(Refusal::BadLength);
     }
-    let sound = consistent(t);
+    let sound = is_consistent(t);
     if !sound {
         return Offer::Refused(Refusal::InvalidParam);
     }
     if !t.running {
         return Offer::Refused(Refusal::InvalidParam);
     }
-    let choice = rules::choose(LEAST, t);
-    Offer::Is(next_sent(choice, t))
+    let choice = rules::choose(t.descriptors, t);
+    Offer::Is(offer_by(choice, t))
 }
 
 // What the next turn submits: slot, offset and length, or nothing; refused as the turn would be.
 // The ring is unchanged: submit the period to the device, poll, then call `turn`.
 pub fn next_offer(r: Ring, frames: &[u8]) -> Offer
-    ensures { λ x. ⌜ x ≡ offerCall 3 (r .track) (length (now (frames .entry))) ⌝ }
+    ensures { λ x. ⌜ x ≡ offerCall (r .track) (length (now (frames .entry))) ⌝ }
 {
     offer_track(r.track, frames.len())
 }
@@ -320,7 +292,7 @@ fn part<'a>(frames: &'a [u8], offset: usize, len: usize) -> &'a [u8]
 }
 
 // The part of the frames that a submission shows.
-fn part_of<'a>(frames: &'a [u8], sent: Sent) -> &'a [u8]
+fn payload<'a>(frames: &'a [u8], sent: Sent) -> &'a [u8]
     ensures { λ x. ⌜ now x ≡ payload (now (frames .entry)) sent ⌝ }
 {
     match sent {
@@ -335,11 +307,11 @@ fn part_of<'a>(frames: &'a [u8], sent: Sent) -> &'a [u8]
 
 // The period that the next turn submits, as a part of the caller's frames itself.
 pub fn offered<'a>(r: Ring, frames: &'a [u8]) -> &'a [u8]
-    ensures { λ x. ⌜ now x ≡ shownBy (offerCall 3 (r .track) (length (now (frames .entry)))) (now (frames .entry)) ⌝ }
+    ensures { λ x. ⌜ now x ≡ shownBy (offerCall (r .track) (length (now (frames .entry)))) (now (frames .entry)) ⌝ }
 {
     let o = next_offer(r, frames);
     match o {
-        Offer::Is(sent) => part_of(frames, sent),
+        Offer::Is(sent) => payload(frames, sent),
         Offer::Refused(_) => &frames[..0],
     }
 }

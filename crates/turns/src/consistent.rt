@@ -1,25 +1,26 @@
 // The consistency test of a ring: what calls leave never fails it.
 ghost use mathlib.Core.Path.{_≡_};
 ghost use Rattle.turns.specs.Consistent.{placedOf, pacedOf, consistentOf};
+use crate::ring::DIRECT;
 use crate::ring::Track;
 
 // The slots are in line.
 fn placed(t: Track) -> bool
     ensures { λ r. ⌜ r ≡ placedOf t ⌝ }
 {
-    let held = t.held;
-    if t.per != 3 {
+    let inflight = t.inflight;
+    if t.descriptors != DIRECT {
         return false;
     }
     if 32 <= t.tail {
         return false;
     }
-    // with 3 to a submission, in flight × 3 is at most 32
-    if 10 < held {
+    // in flight × 3 is then at most 32
+    if 10 < inflight {
         return false;
     }
     // which head below 32 follows from
-    (t.tail + held) % 32 == t.head
+    (t.tail + inflight) % 32 == t.head
 }
 
 // The transfer holds together.
@@ -39,7 +40,7 @@ fn paced(t: Track) -> bool
 }
 
 // The consistency test of a ring.
-pub(crate) fn consistent(t: Track) -> bool
+pub fn is_consistent(t: Track) -> bool
     ensures { λ r. ⌜ r ≡ consistentOf t ⌝ }
 {
     let slots = placed(t);
@@ -47,11 +48,4 @@ pub(crate) fn consistent(t: Track) -> bool
         return false;
     }
     paced(t)
-}
-
-// The same, for who is handed a ring.
-pub fn is_consistent(t: Track) -> bool
-    ensures { λ r. ⌜ r ≡ consistentOf t ⌝ }
-{
-    consistent(t)
 }

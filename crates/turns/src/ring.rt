@@ -1,11 +1,13 @@
 // The ring record: 32 slots, and where the ring and the transfer that runs over it stand.
 ghost use mathlib.Core.Path.{_≡_};
 ghost use mathlib.Core.List.{[], _∷_};
-ghost use Rattle.turns.specs.Ring.{newRing};
+ghost use Rattle.turns.specs.Ring.{direct, newRing, goesOn};
 ghost use Rattle.turns.specs.Reads.{saysNumber, readOf, runningOf, inFlightOf, freeOf, turnsOf, streamOf, saysCarried, carriedOf, saysOldest, oldestOf};
-use crate::consistent::consistent;
-use codes::Answer;
+use crate::consistent::is_consistent;
 use codes::Refusal;
+
+// The descriptors that a submission takes where none is indirect.
+pub const DIRECT: usize = 3;
 
 // What a slot carries: a part of the caller's frames. It stays after the slot was freed, until the
 // slot is used again.
@@ -17,12 +19,12 @@ pub struct Slot {
 // All of the ring but its slots: small, so that a turn can be decided without them. What is in
 // flight is a number of its own: head equal to tail says nothing of it.
 pub struct Track {
-    // Descriptors per submission.
-    pub per: usize,
+    // Descriptors that one submission takes.
+    pub descriptors: usize,
     pub head: usize,
     pub tail: usize,
     // Slots in flight.
-    pub held: usize,
+    pub inflight: usize,
     pub stream: u32,
     // The length of the frames.
     pub total: usize,
@@ -56,11 +58,26 @@ pub enum Heard {
     Freed { slot: usize, status: u32 },
 }
 
-// What a turn says: it goes on, it ended with an answer, or it was refused and ran no turn.
+// What a turn says: it goes on, it is done with Ok, it ended with a refusal, or it was refused and
+// ran no turn.
 pub enum Said {
     Going,
-    Ended(Answer),
+    Done,
+    Ended(Refusal),
     Refused(Refusal),
+}
+
+impl Said {
+    pub(crate) fn goes_on(self) -> bool
+        ensures { λ r. ⌜ r ≡ goesOn self ⌝ }
+    {
+        match self {
+            Said::Going => true,
+            Said::Done => false,
+            Said::Ended(_) => false,
+            Said::Refused(_) => false,
+        }
+    }
 }
 
 // What a turn does to the track.
@@ -102,7 +119,7 @@ pub enum Oldest {
 fn number(t: Track, n: u64) -> RingNumber
     ensures { λ r. ⌜ saysNumber r ≡ readOf t (n ∷ []) ⌝ }
 {
-    let sound = consistent(t);
+    let sound = is_consistent(t);
     if !sound {
         return RingNumber::InvalidParam;
     }
@@ -110,15 +127,15 @@ fn number(t: Track, n: u64) -> RingNumber
 }
 
 impl Ring {
-    // A ring that no transfer ran on, with direct descriptors: 3 to a submission.
+    // A ring that no transfer ran on, with direct descriptors.
     pub fn new() -> Ring
-        ensures { λ r. ⌜ r ≡ newRing 3 ⌝ }
+        ensures { λ r. ⌜ r ≡ newRing direct ⌝ }
     {
         let track = Track {
-            per: 3,
+            descriptors: DIRECT,
             head: 0,
             tail: 0,
-            held: 0,
+            inflight: 0,
             stream: 0,
             total: 0,
             period: 0,
@@ -148,18 +165,18 @@ impl Ring {
         ensures { λ r. ⌜ saysNumber r ≡ inFlightOf (self .track) ⌝ }
     {
         let t = self.track;
-        number(t, t.held as u64)
+        number(t, t.inflight as u64)
     }
 
     pub fn free_descriptors(self) -> RingNumber
         ensures { λ r. ⌜ saysNumber r ≡ freeOf (self .track) ⌝ }
     {
         let t = self.track;
-        let sound = consistent(t);
+        let sound = is_consistent(t);
         if !sound {
             return RingNumber::InvalidParam;
         }
-        RingNumber::Is((32 - t.held * t.per) as u64)
+        RingNumber::Is((32 - t.inflight * t.descriptors) as u64)
     }
 
     // Turns run in the transfer that runs, or in the last one that ran.
@@ -183,7 +200,7 @@ impl Ring {
         if 32 <= slot {
             return Carried::InvalidParam;
         }
-        let sound = consistent(self.track);
+        let sound = is_consistent(self.track);
         if !sound {
             return Carried::InvalidParam;
         }
@@ -194,11 +211,11 @@ impl Ring {
         ensures { λ r. ⌜ saysOldest r ≡ oldestOf (self .track) ⌝ }
     {
         let t = self.track;
-        let sound = consistent(t);
+        let sound = is_consistent(t);
         if !sound {
             return Oldest::InvalidParam;
         }
-        if t.held == 0 {
+        if t.inflight == 0 {
             return Oldest::Nothing;
         }
         Oldest::Slot(t.tail)

@@ -2,15 +2,15 @@
 ghost use mathlib.Core.Path.{_≡_};
 ghost use Prim.Native.Nat.{_+_, _*_, _≤_, _<_};
 ghost use Rattle.turns.specs.Cut.{spanOf};
-ghost use Rattle.turns.specs.Rules.{chooseOf, sentOf, submit, judgeOf, release, settle, hear, turnOf, ticked, countedOf};
-ghost use Rattle.turns.specs.Steps.{Placed};
+ghost use Rattle.turns.specs.Rules.{chooseOf, sentOf, submit, playedOf, isOldest, judgeOf, release, settle, hear, turnOf, ticked, countedOf};
+ghost use Rattle.turns.specs.Private.{Placed};
 use crate::reading::Reading;
 use crate::ring::Heard;
 use crate::ring::Said;
 use crate::ring::Sent;
 use crate::ring::Step;
 use crate::ring::Track;
-use codes::Answer;
+use codes::Refusal;
 use codes::StatusCode;
 
 // What rule 1 does.
@@ -20,11 +20,17 @@ pub enum Choice {
     Wait,
 }
 
-// What rule 2 makes of a completion. A bad one carries the answer that ends the transfer.
+// What a completion of the oldest in flight comes to.
+pub enum Outcome {
+    Fine,
+    Fails(Refusal),
+}
+
+// What rule 2 makes of a completion. A bad one carries the refusal that ends the transfer.
 pub enum Verdict {
-    Stranger,
+    WrongSlot,
     Good,
-    Bad(Answer),
+    Bad(Refusal),
 }
 
 // The length of the period at an offset.
@@ -38,17 +44,17 @@ fn span(period: usize, total: usize, offset: usize) -> usize
 
 // Rule 1's decision.
 pub(crate) fn choose(least: usize, t: Track) -> Choice
-    requires { ⌜ t .held * t .per ≤ 32 ⌝ }
+    requires { ⌜ t .inflight * t .descriptors ≤ 32 ⌝ }
     ensures { λ r. ⌜ r ≡ chooseOf least t ⌝ }
 {
-    let held = t.held;
-    if 32 - held * t.per < least {
+    let inflight = t.inflight;
+    if 32 - inflight * t.descriptors < least {
         return Choice::Wait;
     }
     if t.next < t.total {
         return Choice::Submit;
     }
-    if held == 0 {
+    if inflight == 0 {
         Choice::Finish
     } else {
         Choice::Wait
@@ -70,63 +76,84 @@ pub(crate) fn outgoing(t: Track) -> Sent
 }
 
 // The track with the next period in flight.
-fn submitted(t: Track) -> Track
-    requires { ⌜ (t .head < 32) × (t .held ≤ 32) × (t .next ≤ t .total) ⌝ }
+fn submit(t: Track) -> Track
+    requires { ⌜ (t .head < 32) × (t .inflight ≤ 32) × (t .next ≤ t .total) ⌝ }
     ensures { λ r. ⌜ r ≡ submit t ⌝ }
 {
     let next = t.next;
     let len = span(t.period, t.total, next);
     Track {
         head: (t.head + 1) % 32,
-        held: t.held + 1,
+        inflight: t.inflight + 1,
         next: next + len,
         ..t
     }
 }
 
 // The track with the oldest slot free.
-pub(crate) fn released(t: Track) -> Track
-    requires { ⌜ (t .tail < 32) × (0 < t .held) ⌝ }
+pub(crate) fn release(t: Track) -> Track
+    requires { ⌜ (t .tail < 32) × (0 < t .inflight) ⌝ }
     ensures { λ r. ⌜ r ≡ release t ⌝ }
 {
     Track {
         tail: (t.tail + 1) % 32,
-        held: t.held - 1,
+        inflight: t.inflight - 1,
         ..t
     }
 }
 
-// Rule 2's decision.
-pub(crate) fn judge(t: Track, slot: u32, status: u32) -> Verdict
-    ensures { λ r. ⌜ r ≡ judgeOf t slot status ⌝ }
+// What the completion of a period that was played comes to.
+fn played(status: u32) -> Outcome
+    ensures { λ r. ⌜ r ≡ playedOf status ⌝ }
 {
-    if t.held == 0 {
-        return Verdict::Stranger;
-    }
-    if slot as usize != t.tail {
-        return Verdict::Stranger;
-    }
-    if status == StatusCode::OK {
-        Verdict::Good
+    let found = StatusCode::from_code(status);
+    let ok = found.is_ok();
+    if ok {
+        Outcome::Fine
     } else {
-        Verdict::Bad(Answer::IoError)
+        Outcome::Fails(Refusal::IoError)
     }
 }
 
-// What a completion comes to.
-fn settled(v: Verdict, sent: Sent, t: Track, slot: u32, status: u32) -> Step
-    requires { ⌜ (t .tail < 32) × (v ≡ judgeOf t slot status) ⌝ }
-    ensures { λ r. ⌜ r ≡ settle v sent t slot status ⌝ }
+// The slot is the oldest in flight.
+pub(crate) fn is_oldest(t: Track, slot: u32) -> bool
+    ensures { λ r. ⌜ r ≡ isOldest t slot ⌝ }
 {
+    if t.inflight == 0 {
+        return false;
+    }
+    slot as usize == t.tail
+}
+
+// Rule 2's decision.
+fn judge(t: Track, slot: u32, outcome: Outcome) -> Verdict
+    ensures { λ r. ⌜ r ≡ judgeOf t slot outcome ⌝ }
+{
+    let oldest = is_oldest(t, slot);
+    if !oldest {
+        return Verdict::WrongSlot;
+    }
+    match outcome {
+        Outcome::Fine => Verdict::Good,
+        Outcome::Fails(refusal) => Verdict::Bad(refusal),
+    }
+}
+
+// What is made of a completion, by what it comes to.
+fn settle(outcome: Outcome, sent: Sent, t: Track, slot: u32, status: u32) -> Step
+    requires { ⌜ t .tail < 32 ⌝ }
+    ensures { λ r. ⌜ r ≡ settle (judgeOf t slot outcome) sent t slot status ⌝ }
+{
+    let v = judge(t, slot, outcome);
     match v {
-        Verdict::Stranger => Step {
+        Verdict::WrongSlot => Step {
             track: t,
             sent,
             heard: Heard::Silent,
-            said: Said::Ended(Answer::WrongToken),
+            said: Said::Ended(Refusal::WrongToken),
         },
         Verdict::Good => Step {
-            track: released(t),
+            track: release(t),
             sent,
             heard: Heard::Freed {
                 slot: slot as usize,
@@ -134,20 +161,20 @@ fn settled(v: Verdict, sent: Sent, t: Track, slot: u32, status: u32) -> Step
             },
             said: Said::Going,
         },
-        Verdict::Bad(answer) => Step {
-            track: released(t),
+        Verdict::Bad(refusal) => Step {
+            track: release(t),
             sent,
             heard: Heard::Freed {
                 slot: slot as usize,
                 status,
             },
-            said: Said::Ended(answer),
+            said: Said::Ended(refusal),
         },
     }
 }
 
 // Rule 2.
-fn listen(sent: Sent, t: Track, reading: Reading) -> Step
+fn hear(sent: Sent, t: Track, reading: Reading) -> Step
     requires { ⌜ t .tail < 32 ⌝ }
     ensures { λ r. ⌜ r ≡ hear sent t reading ⌝ }
 {
@@ -159,14 +186,14 @@ fn listen(sent: Sent, t: Track, reading: Reading) -> Step
             said: Said::Going,
         },
         Reading::Completed { slot, status } => {
-            let v = judge(t, slot, status);
-            settled(v, sent, t, slot, status)
+            let outcome = played(status);
+            settle(outcome, sent, t, slot, status)
         }
     }
 }
 
 // One turn: rule 1, then rule 2.
-pub(crate) fn step(least: usize, t: Track, reading: Reading) -> Step
+pub(crate) fn turn(least: usize, t: Track, reading: Reading) -> Step
     requires { ⌜ (Placed t) × (t .next ≤ t .total) ⌝ }
     ensures { λ r. ⌜ r ≡ turnOf least t reading ⌝ }
 {
@@ -174,21 +201,21 @@ pub(crate) fn step(least: usize, t: Track, reading: Reading) -> Step
     match choice {
         Choice::Submit => {
             let sent = outgoing(t);
-            let fuller = submitted(t);
-            listen(sent, fuller, reading)
+            let fuller = submit(t);
+            hear(sent, fuller, reading)
         }
         Choice::Finish => Step {
             track: t,
             sent: Sent::Nothing,
             heard: Heard::Silent,
-            said: Said::Ended(Answer::Ok),
+            said: Said::Done,
         },
-        Choice::Wait => listen(Sent::Nothing, t, reading),
+        Choice::Wait => hear(Sent::Nothing, t, reading),
     }
 }
 
 // The track with one turn more.
-fn tick(running: bool, t: Track) -> Track
+fn ticked(running: bool, t: Track) -> Track
     requires { ⌜ t .turns < t .budget ⌝ }
     ensures { λ r. ⌜ r ≡ ticked running t ⌝ }
 {
@@ -206,29 +233,25 @@ pub(crate) fn counted(s: Step) -> Step
 {
     let t = s.track;
     let said = s.said;
-    match said {
-        Said::Going => {
-            let spent = t.turns + 1;
-            if spent == t.budget {
-                Step {
-                    track: tick(false, t),
-                    said: Said::Ended(Answer::OutOfTurns),
-                    ..s
-                }
-            } else {
-                Step {
-                    track: tick(true, t),
-                    ..s
-                }
-            }
+    let going = said.goes_on();
+    if !going {
+        return Step {
+            track: ticked(false, t),
+            ..s
+        };
+    }
+    let spent = t.turns + 1;
+    if spent == t.budget {
+        Step {
+            track: ticked(false, t),
+            said: Said::Ended(Refusal::OutOfTurns),
+            ..s
         }
-        Said::Ended(_) => Step {
-            track: tick(false, t),
+    } else {
+        Step {
+            track: ticked(true, t),
+            said: Said::Going,
             ..s
-        },
-        Said::Refused(_) => Step {
-            track: tick(false, t),
-            ..s
-        },
+        }
     }
 }

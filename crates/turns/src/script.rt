@@ -2,9 +2,9 @@
 ghost use mathlib.Core.Path.{_≡_};
 ghost use Prim.Native.Nat.{_+_, _<_};
 ghost use lib.ListN.{length};
-ghost use Rattle.turns.specs.Log.{firstOf, hosted};
-ghost use Rattle.turns.specs.Script.{readingAt, scriptOf, doneOf, transferOf};
-ghost use Rattle.turns.specs.Steps.{scriptFrom};
+ghost use Rattle.turns.specs.Log.{firstOf, turnByTurn};
+ghost use Rattle.turns.specs.Script.{readingAt, scriptOf, transferredOf, transferOf};
+ghost use Rattle.turns.specs.Private.{scriptFrom};
 use crate::calls;
 use crate::reading::Reading;
 use crate::ring::Ring;
@@ -13,14 +13,14 @@ use codes::Refusal;
 use layout;
 
 // What a transfer over a script came to, and the number of turns that were run.
-pub struct Done {
+pub struct Transferred {
     pub ring: Ring,
     pub said: Said,
     pub turns: u64,
 }
 
 // The reading at a place of a script.
-fn decoded(script: &[u8], at: usize) -> Reading
+fn reading_at(script: &[u8], at: usize) -> Reading
     requires { ⌜ at + 8 < length (now script) ⌝ }
     ensures { λ r. ⌜ r ≡ readingAt at (now (script .entry)) ⌝ }
 {
@@ -36,14 +36,14 @@ fn reading_of(script: &[u8], n: u64) -> Reading
 {
     let count = script.len() / Reading::SIZE;
     if n < count as u64 {
-        return decoded(script, n as usize * Reading::SIZE);
+        return reading_at(script, n as usize * Reading::SIZE);
     }
     Reading::Quiet
 }
 
 // Turns until one does not go on, at most budget of them.
-fn run(r: Ring, frames: &[u8], budget: u64, script: &[u8]) -> Done
-    ensures { λ x. ⌜ x ≡ doneOf (hosted 3 (length (now (frames .entry))) budget r (scriptOf (now (script .entry)))) ⌝ }
+fn turn_by_turn(r: Ring, frames: &[u8], budget: u64, script: &[u8]) -> Transferred
+    ensures { λ x. ⌜ x ≡ transferredOf (turnByTurn (length (now (frames .entry))) budget r (scriptOf (now (script .entry)))) ⌝ }
 {
     let mut ring = r;
     let mut n = 0;
@@ -54,14 +54,14 @@ fn run(r: Ring, frames: &[u8], budget: u64, script: &[u8]) -> Done
         ring = t.ring;
         n += 1;
         let Said::Going = said else {
-            return Done {
+            return Transferred {
                 ring,
                 said,
                 turns: n,
             };
         };
     }
-    Done {
+    Transferred {
         ring,
         said: Said::Going,
         turns: n,
@@ -76,11 +76,11 @@ pub fn transfer(
     period: usize,
     budget: u64,
     script: &[u8],
-) -> Done
-    ensures { λ x. ⌜ x ≡ transferOf 3 r stream (length (now (frames .entry))) period budget (now (script .entry)) ⌝ }
+) -> Transferred
+    ensures { λ x. ⌜ x ≡ transferOf r stream (length (now (frames .entry))) period budget (now (script .entry)) ⌝ }
 {
     if script.len() % Reading::SIZE != 0 {
-        return Done {
+        return Transferred {
             ring: r,
             said: Said::Refused(Refusal::BadLength),
             turns: 0,
@@ -90,11 +90,11 @@ pub fn transfer(
     let said = t.said;
     let ring = t.ring;
     let Said::Going = said else {
-        return Done {
+        return Transferred {
             ring,
             said,
             turns: 0,
         };
     };
-    run(ring, frames, budget, script)
+    turn_by_turn(ring, frames, budget, script)
 }

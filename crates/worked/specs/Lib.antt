@@ -1,4 +1,5 @@
 -- definitions
+pub mod Types
 pub mod Talk
 pub mod Play
 -- theorems

@@ -12,38 +12,26 @@ use Rattle.layout.specs.Layout.{write, Fit}
 use Rattle.layout.specs.LayoutLaws.{length-write}
 use Rattle.codes.specs.Says.{says}
 use Rattle.codes.specs.SaysLaws.{picks}
-use Rattle.codes.specs.declared.answers.Answer.the-variants.{Ok}
 use Rattle.records.specs.Records.{pcmCommand, setParameters, setParametersValues}
 use Rattle.turns.specs.Asked as ring
-use Rattle.turns.specs.ConsistentLaws.{consistent-facts}
 use Rattle.turns.specs.Cut.{cut}
-use Rattle.turns.specs.declared.ring.Track.{Track}
-use Rattle.turns.specs.declared.ring.Ring.{Ring}
-use Rattle.turns.specs.declared.ring.Said.the-variants.{Going, Ended}
-use Rattle.exchange.specs.State.{unset, paramsOf, withStage}
-use Rattle.exchange.specs.Consistent.{periodOk, numbersOk, callOk}
+use Rattle.core.specs.State.{unset, withStage}
+use Rattle.core.specs.Consistent.{periodOk, numbersOk, callOk}
+use Rattle.core.specs.Plan.{kindCode, setOf, ownOf, storedOf}
+use Rattle.core.specs.Reply.{requestBytes}
+use Rattle.core.specs.declared.plan.Request.the-variants as request
+use Rattle.exchange.specs.State.{paramsOf, withCore}
 use Rattle.exchange.specs.Kept.{Playable}
 use Rattle.exchange.specs.XferLaws.{set-range, period-divides, start-is}
 use Rattle.exchange.specs.Demand.{periodOf, starting}
-use Rattle.exchange.specs.Plan.{kindCode, setOf, lookOf, ownOf, storedOf}
-use Rattle.exchange.specs.Exchange.{requestBytes, stepOf}
-use Rattle.exchange.specs.declared.state.Params.{Params}
-use Rattle.exchange.specs.declared.state.Kind.{Kind}
-use Rattle.exchange.specs.declared.state.Call.{Call}
-use Rattle.exchange.specs.declared.state.Call.the-variants.{SetParams, Command}
-use Rattle.exchange.specs.declared.state.Stage.{Stage}
-use Rattle.exchange.specs.declared.state.Stage.the-variants.{Idle}
-use Rattle.exchange.specs.declared.state.Sound.{Sound}
-use Rattle.exchange.specs.declared.plan.Request.the-variants as request
-use Rattle.exchange.specs.declared.plan.Plan.{Plan}
-use Rattle.exchange.specs.declared.xfer.XferReply.the-variants.{Says}
-use Rattle.exchange.specs.declared.xfer.XferStep.{XferStep}
+use Rattle.exchange.specs.Tables.{lookOf}
+use Rattle.exchange.specs.Exchange.{stepOf}
 use Rattle.model.specs.Device.{paramsSays, playedSays}
-use Rattle.model.specs.DeviceLaws.{passed, few-streams}
+use Rattle.model.specs.DeviceLaws.{and-passes, few-streams}
 use Rattle.model.specs.Control.{keptBy}
 use Rattle.model.specs.Transfer.{playedBy}
 use Rattle.model.specs.ModelLaws.{setting-answer, setting-held}
-use Rattle.model.specs.declared.device.Device.{Device}
+use Rattle.worked.specs.Types.{Track, Ring, Going, Done, Params, Kind, Call, SetParams, Command, Stage, Idle, Plan, Sound, Says, XferStep, Device}
 use Rattle.worked.specs.Talk.{Talk, opened, relay, Fitting, Lent, countsOf, newFor, Settled, Took}
 use Rattle.worked.specs.Play.{attended}
 use Rattle.worked.specs.TalkLaws.{calls}
@@ -141,7 +129,7 @@ meets-command s t d kind stream page message o h =
     let out = command-taken d kind stream h in
     let y = result s t d (Command kind stream) q page message o refl refl (omega arith) d out in (
       took s t d (Command kind stream) q page message o refl refl (omega arith) d out 8 l (o .device) refl,
-      ap (λ (z : Talk). z .driver .sound) y ∙ ap (λ (g : Stage). record { core = withStage (s .core) g; jacks = s .jacks; pcms = s .pcms; maps = s .maps; params = s .params }) (sym (o .closed)),
+      ap (λ (z : Talk). z .driver .sound) y ∙ ap (λ (g : Stage). withCore (withStage (s .core) g) s) (sym (o .closed)),
       ap (λ (z : Talk). z .device) y,
     )
 
@@ -154,7 +142,7 @@ pub meets-transfer : (s : Sound) (r : Ring) (d : Device) (stream budget m : ℕ)
     → let x = starting s r stream budget m frames in
     let y = attended frames budget (x .ring) d in
     (x .reply ≡ Says Going)
-    × (y .said ≡ Ended Ok)
+    × (y .said ≡ Done)
     × (length (y .log) ≡ length (cut (periodOf s stream) frames) + 1)
     × (playedSays (y .at .device) stream ≡ says 0 ((getD (d .played) stream 0 + length frames) % 2 ^ 64 ∷ []))
     × (y .at .device ≡ playedBy d stream (length frames))
@@ -163,17 +151,17 @@ meets-transfer s r d stream budget m frames o f same long enough =
     let h : stream < d .counts .streams = rw same at (ltb-true stream (s .core .counts .streams) (set-range s (o .state) stream (o .set))) in
     let few = few-streams (d .counts) (f .within) in
     let p : Plays d stream = record { within = f .within; range = h; size = f .played; count = f .count stream h } in
-    let idle : ring.Idle r = record { consistent = consistent-facts (r .track) (o .ring); stopped = o .still; empty = o .empty } in
+    let idle : ring.Idle r = record { consistent = o .ring; stopped = o .still; empty = o .empty } in
     let a = transfer-ends r d stream period budget frames idle p (period-divides s (o .state) stream (o .set) .some) enough in
     let c = a .1 in
     let v = (getD (d .played) stream 0 + length frames) % 2 ^ 64 in
     let count : playedSays (playedBy d stream (length frames)) stream ≡ says 0 (v ∷ []) =
-    picks _ _ _ (passed _ _ (f .within) ∙ lt-ltb stream (d .counts .streams) h) ∙ ap (λ (n : ℕ). says 0 (n ∷ [])) (getD-set-same (d .played) stream v 0 (omega (arith, f .played))) in
+    picks _ _ _ (and-passes _ _ (f .within) ∙ lt-ltb stream (d .counts .streams) h) ∙ ap (λ (n : ℕ). says 0 (n ∷ [])) (getD-set-same (d .played) stream v 0 (omega (arith, f .played))) in
     subst
     (λ (x : XferStep).
     let y = attended frames budget (x .ring) d in
     (x .reply ≡ Says Going)
-    × (y .said ≡ Ended Ok)
+    × (y .said ≡ Done)
     × (length (y .log) ≡ length (cut period frames) + 1)
     × (playedSays (y .at .device) stream ≡ says 0 (v ∷ []))
     × (y .at .device ≡ playedBy d stream (length frames)))

@@ -7,14 +7,10 @@ use lib.ListN.{length, replicate}
 use Rattle.layout.specs.Bytes.{le, numAt}
 use Rattle.turns.specs.Calls.{offerCall, shownBy}
 use Rattle.turns.specs.Log.{Told, Ran, loop, called}
-use Rattle.turns.specs.declared.ring.Ring.{Ring}
-use Rattle.turns.specs.declared.ring.Sent.the-variants.{Nothing, Period}
-use Rattle.turns.specs.declared.reading.Reading.{Reading}
-use Rattle.turns.specs.declared.reading.Reading.the-variants.{Quiet, Completed}
-use Rattle.turns.specs.declared.calls.Offer.{Offer}
+use Rattle.turns.specs.declared.ring.Sent.the-variants.{Nothing}
 use Rattle.turns.specs.declared.calls.Offer.the-variants as offer
-use Rattle.model.specs.Transfer.{transferCall, answerAfter}
-use Rattle.model.specs.declared.device.Device.{Device}
+use Rattle.model.specs.Transfer.{transferCall}
+use Rattle.worked.specs.Types.{Ring, Period, Reading, Quiet, Completed, Offer, Device}
 
 -- the driver's ring and the device
 pub record Desk : Type 0 where
@@ -28,16 +24,18 @@ pub record Comes : Type 0 where
 
 -- a period that is offered in a slot is played at once, and completed with the status in the device's 8 bytes; without an offer the reading is quiet
 abbrev pub comesOf : Offer → Device → List ℕ → Comes
-comesOf (offer.Is (Period slot offset len)) d request = record { reading = Completed slot (numAt 0 4 (answerAfter d request (replicate 8 0))); device = transferCall d request 8 .device }
+comesOf (offer.Is (Period slot offset len)) d request =
+    let g = transferCall d request (replicate 8 0) in
+    record { reading = Completed slot (numAt 0 4 (g .lent)); device = g .answered .device }
 comesOf (offer.Is Nothing) d request = record { reading = Quiet; device = d }
 comesOf (offer.Refused r) d request = record { reading = Quiet; device = d }
 
 -- ONE TURN. What is handed over is the stream id, 4 bytes little-endian, and then that part of the frames which the offer shows
 abbrev pub turnAt : List ℕ → Desk → Told Desk
 turnAt frames x =
-    let o = offerCall 3 (x .ring .track) (length frames) in
+    let o = offerCall (x .ring .track) (length frames) in
     let g = comesOf o (x .device) (le 4 (x .ring .track .stream) ++ shownBy o frames) in
-    let u = called 3 (length frames) (x .ring) (g .reading) in
+    let u = called (length frames) (x .ring) (g .reading) in
     record { left = record { ring = u .left; device = g .device }; line = u .line }
 
 -- TURN AFTER TURN, at most budget of them: the loop of `turns`, with its readings from the device and none from a script

@@ -13,32 +13,24 @@ use borrow.Author.Tests.{eq-eqb, ne-eqb}
 use Rattle.layout.specs.Bytes.{le, numAt}
 use Rattle.layout.specs.LayoutLaws.{read-write}
 use Rattle.codes.specs.SaysLaws.{passes}
-use Rattle.codes.specs.declared.answers.Answer.the-variants.{Ok}
 use Rattle.records.specs.Records.{transferStatus}
 use Rattle.turns.specs.Cut.{spanOf}
 use Rattle.turns.specs.Ring.{after}
-use Rattle.turns.specs.Rules.{chooseOf, submit, sentOf, settle, act, turnOf, ticked, countedBy, countedOf}
+use Rattle.turns.specs.Rules.{chooseOf, submit, sentOf, settle, act, playedOf, turnOf, ticked, countedBy, countedOf}
 use Rattle.turns.specs.DecisionLaws.{submits, finishes, good}
 use Rattle.turns.specs.ConsistentLaws.{consistent-true}
 use Rattle.turns.specs.Calls.{offerBy, offerCall}
 use Rattle.turns.specs.HostLaws.{Runs}
-use Rattle.turns.specs.declared.ring.Track.{Track}
-use Rattle.turns.specs.declared.ring.Sent.the-variants.{Nothing, Period}
-use Rattle.turns.specs.declared.ring.Heard.the-variants.{Silent, Freed}
-use Rattle.turns.specs.declared.ring.Said.the-variants.{Going, Ended}
-use Rattle.turns.specs.declared.reading.Reading.{Reading}
-use Rattle.turns.specs.declared.reading.Reading.the-variants.{Completed}
-use Rattle.turns.specs.declared.rules.Choice.{Choice}
-use Rattle.turns.specs.declared.rules.Choice.the-variants.{Submit, Finish}
+use Rattle.turns.specs.declared.ring.Sent.the-variants.{Nothing}
 use Rattle.turns.specs.declared.rules.Verdict.{Verdict}
 use Rattle.turns.specs.declared.rules.Verdict.the-variants.{Good}
 use Rattle.turns.specs.declared.calls.Offer.the-variants as offer
 use Rattle.model.specs.Device.{withinOf}
 use Rattle.model.specs.DeviceLaws.{few-streams}
-use Rattle.model.specs.Transfer.{playedBy, statusIn, transferCall, answerAfter}
+use Rattle.model.specs.Control.{Given}
+use Rattle.model.specs.Transfer.{playedBy, statusIn, transferCall}
 use Rattle.model.specs.ModelLaws.{transfer-answers, played-ok, played-after}
-use Rattle.model.specs.declared.device.Device.{Device}
-use Rattle.model.specs.declared.transfer.Transferred.{Transferred}
+use Rattle.worked.specs.Types.{Track, Period, Silent, Freed, Going, Done, Reading, Completed, Choice, Submit, Finish, Device}
 
 -- ---- the device
 
@@ -79,16 +71,16 @@ module _ (d : Device) (stream : ℕ) (p : Plays d stream) where
     fits : stream < 256 ^ 4
     fits = let k = few-streams (d .counts) (p .within) in let r = p .range in omega arith
 
-    pub status-is : numAt 0 4 (answerAfter d (le 4 stream ++ payload) (replicate 8 0)) ≡ 0x8000
+    pub status-is : numAt 0 4 (transferCall d (le 4 stream ++ payload) (replicate 8 0) .lent) ≡ 0x8000
     status-is =
         let s = le 4 stream ++ payload in
-        ap (numAt 0 4) (transfer-answers d s (replicate 8 0) (omega arith) (p .within) .1)
+        ap (λ (g : Given). numAt 0 4 (g .lent)) (transfer-answers d s (replicate 8 0) (omega arith) (p .within))
         ∙ ap (λ (v : ℕ). numAt 0 4 (statusIn v (replicate 8 0))) (played-ok d stream payload fits (p .range))
         ∙ ap (λ (k : List ℕ). getD k 0 0) (read-write transferStatus (0x8000 ∷ 0 ∷ []) (drop 8 (replicate 8 0)) (lit< tt, (lit< tt, tt)))
 
-    pub device-is : transferCall d (le 4 stream ++ payload) 8 .device ≡ playedBy d stream (length payload)
+    pub device-is : transferCall d (le 4 stream ++ payload) (replicate 8 0) .answered .device ≡ playedBy d stream (length payload)
     device-is =
-        ap (λ (x : Transferred). x .device) (transfer-answers d (le 4 stream ++ payload) (replicate 8 0) (omega arith) (p .within) .0) ∙ played-after d stream payload fits (p .range)
+        ap (λ (g : Given). g .answered .device) (transfer-answers d (le 4 stream ++ payload) (replicate 8 0) (omega arith) (p .within)) ∙ played-after d stream payload fits (p .range)
 
 -- ---- the ring, with nothing in flight
 
@@ -96,10 +88,10 @@ module _ (d : Device) (stream : ℕ) (p : Plays d stream) where
 abbrev pub trackAt : ℕ → ℕ → ℕ → ℕ → ℕ → ℕ → ℕ → ℕ → Track
 trackAt per stream total period budget h o k =
     record {
-      per = per;
+      descriptors = per;
       head = h;
       tail = h;
-      held = 0;
+      inflight = 0;
       stream = stream;
       total = total;
       period = period;
@@ -109,33 +101,33 @@ trackAt per stream total period budget h o k =
       running = true;
     }
 
-module _ (per stream total period budget h o k : ℕ) where
+module _ (per stream total period budget h o k : ℕ) (room : per ≤ 32) where
   abbrev t : Track
   t = trackAt per stream total period budget h o k
 
   abbrev span : ℕ
   span = spanOf period total o
 
-  pub submitted : o < total → chooseOf 3 t ≡ Submit
-  submitted more = sym (submits 3 t (omega arith) more)
+  pub submitted : o < total → chooseOf per t ≡ Submit
+  submitted more = sym (submits per t (omega arith) more)
 
-  pub finished : total ≤ o → chooseOf 3 t ≡ Finish
-  finished none = sym (finishes 3 t (omega arith) none refl)
+  pub finished : total ≤ o → chooseOf per t ≡ Finish
+  finished none = sym (finishes per t (omega arith) none refl)
 
   -- a turn with a period left, and one with none
   pub goes : o < total → k + 1 < budget
-      → countedOf (turnOf 3 t (Completed h 0x8000))
+      → countedOf (turnOf per t (Completed h 0x8000))
       ≡ record { track = trackAt per stream total period budget (after h) (o + span) (k + 1); sent = Period h o span; heard = Freed h 0x8000; said = Going }
-  unfolding turnOf countedOf
+  unfolding turnOf countedOf playedOf
   goes more left =
       ap (λ (c : Choice). countedOf (act c t (Completed h 0x8000))) (submitted more)
-      ∙ ap (λ (v : Verdict). countedOf (settle v (sentOf t) (submit t) h 0x8000)) (sym (good (submit t) h 0x8000 (omega arith) refl refl))
+      ∙ ap (λ (v : Verdict). countedOf (settle v (sentOf t) (submit t) h 0x8000)) (sym (good (submit t) h (omega arith) refl))
       ∙ ap (λ (b : Bool). countedBy Going b (settle Good (sentOf t) (submit t) h 0x8000)) (ne-eqb (k + 1) budget (λ e. omega arith))
 
-  pub stops : total ≤ o → (reading : Reading) → countedOf (turnOf 3 t reading) ≡ record { track = ticked false t; sent = Nothing; heard = Silent; said = Ended Ok }
+  pub stops : total ≤ o → (reading : Reading) → countedOf (turnOf per t reading) ≡ record { track = ticked false t; sent = Nothing; heard = Silent; said = Done }
   unfolding turnOf countedOf
   stops none reading = ap (λ (c : Choice). countedOf (act c t reading)) (finished none)
 
-  pub offers : Runs total t → offerCall 3 t total ≡ offer.Is (offerBy (chooseOf 3 t) t)
+  pub offers : Runs total t → offerCall t total ≡ offer.Is (offerBy (chooseOf per t) t)
   unfolding offerCall
   offers r = sym (passes _ _ _ (eq-eqb total total refl) (passes _ _ _ (consistent-true t (r .consistent)) (passes _ _ _ refl refl)))

@@ -9,39 +9,31 @@ use native.Mathlib.Omega.{arith}
 use lib.ListN.{length, take, drop, set, length-drop}
 use lib.Seq.{length-take-le}
 use Rattle.layout.specs.Bytes.{le}
-use Rattle.codes.specs.declared.answers.Answer.the-variants.{Ok}
 use Rattle.turns.specs.Cut.{cut, spanOf}
 use Rattle.turns.specs.CutLaws.{spans, spans-more, spans-done, plan-count}
 use Rattle.turns.specs.Ring.{after}
 use Rattle.turns.specs.Rules.{chooseOf, ticked}
+use Rattle.turns.specs.ConsistentLaws.{consistent-facts}
 use Rattle.turns.specs.Asked.{Idle, starts}
 use Rattle.turns.specs.Calls.{carry, startCall, ringAfter, offerBy, shownBy}
 use Rattle.turns.specs.Log.{Ran, Told, onward, waitingBy, loop, called}
 use Rattle.turns.specs.HostLaws.{Runs, call-turns, runs-on, begins}
 use Rattle.turns.specs.HostLaws as host
-use Rattle.turns.specs.declared.ring.Slot.{Slot}
-use Rattle.turns.specs.declared.ring.Track.{Track}
-use Rattle.turns.specs.declared.ring.Ring.{Ring}
+use Rattle.turns.specs.declared.ring.Sent.the-variants.{Nothing}
 use Rattle.turns.specs.declared.ring.Step.{Step}
-use Rattle.turns.specs.declared.ring.Sent.the-variants.{Nothing, Period}
-use Rattle.turns.specs.declared.ring.Heard.the-variants.{Silent, Freed}
-use Rattle.turns.specs.declared.ring.Said.the-variants.{Going, Ended}
-use Rattle.turns.specs.declared.reading.Reading.the-variants.{Quiet, Completed}
-use Rattle.turns.specs.declared.rules.Choice.{Choice}
-use Rattle.turns.specs.declared.calls.Offer.{Offer}
 use Rattle.turns.specs.declared.calls.Offer.the-variants as offer
 use Rattle.model.specs.Transfer.{playedBy}
-use Rattle.model.specs.declared.device.Device.{Device}
+use Rattle.worked.specs.Types.{Slot, Track, Ring, Period, Silent, Freed, Going, Done, Quiet, Completed, Choice, Offer, Device}
 use Rattle.worked.specs.Play.{Desk, comesOf, turnAt, attended}
 use Rattle.worked.specs.PlayLaws.{Plays, played-none, played-more, plays-still, status-is, device-is, trackAt, submitted, finished, goes, stops, offers}
 
 -- how it ends: with Ok, after n turns, and the device is e
 pub record Ends (n : ℕ) (e : Device) (x : Ran Desk) : Type 0 where
-  pub said : x .said ≡ Ended Ok
+  pub said : x .said ≡ Done
   pub turns : length (x .log) ≡ n
   pub device : x .at .device ≡ e
 
-module _ (per stream period budget : ℕ) (frames : List ℕ) where
+module _ (per stream period budget : ℕ) (frames : List ℕ) (room : per ≤ 32) where
   abbrev total : ℕ
   total = length frames
 
@@ -55,7 +47,7 @@ module _ (per stream period budget : ℕ) (frames : List ℕ) where
   abbrev turnBy : Desk → Offer → Told Desk
   turnBy x a =
       let g = comesOf a (x .device) (le 4 stream ++ shownBy a frames) in
-      let u = called 3 total (x .ring) (g .reading) in
+      let u = called total (x .ring) (g .reading) in
       record { left = record { ring = u .left; device = g .device }; line = u .line }
 
   module _ (h o k : ℕ) (slots : List Slot) (d : Device) (p : Plays d stream) (r : Runs total (tk h o k)) where
@@ -66,7 +58,7 @@ module _ (per stream period budget : ℕ) (frames : List ℕ) where
     r₀ = record { track = tk h o k; slots = slots }
 
     abbrev w : ℕ
-    w = waitingBy (chooseOf 3 (tk h o k)) (tk h o k)
+    w = waitingBy (chooseOf per (tk h o k)) (tk h o k)
 
     turn-goes : o < total → k + 1 < budget → turnAt frames (desk h o k slots d)
         ≡ record {
@@ -77,22 +69,22 @@ module _ (per stream period budget : ℕ) (frames : List ℕ) where
         let part = take span (drop o frames) in
         let long : length part ≡ span = length-take-le span (drop o frames) (omega (arith, length-drop o frames)) in
         let device = device-is d stream p part ∙ ap (playedBy d stream) long in
-        let e = sym (call-turns 3 total (tk h o k) (Completed h 0x8000) r) ∙ goes per stream total period budget h o k more left in
-        ap (turnBy (desk h o k slots d)) (offers per stream total period budget h o k r ∙ ap (λ (c : Choice). offer.Is (offerBy c (tk h o k))) (submitted per stream total period budget h o k more))
-        ∙ (λ i. let u = called 3 total r₀ (Completed h (status-is d stream p part i)) in record { left = record { ring = u .left; device = device i }; line = u .line })
+        let e = sym (call-turns total (tk h o k) (Completed h 0x8000) r) ∙ goes per stream total period budget h o k room more left in
+        ap (turnBy (desk h o k slots d)) (offers per stream total period budget h o k room r ∙ ap (λ (c : Choice). offer.Is (offerBy c (tk h o k))) (submitted per stream total period budget h o k room more))
+        ∙ (λ i. let u = called total r₀ (Completed h (status-is d stream p part i)) in record { left = record { ring = u .left; device = device i }; line = u .line })
         ∙ ap (λ (s : Step). record { left = record { ring = ringAfter r₀ s; device = playedBy d stream span }; line = record { sent = s .sent; waiting = w; reading = Completed h 0x8000; heard = s .heard; said = s .said } }) e
 
     turn-stops : total ≤ o → turnAt frames (desk h o k slots d)
-        ≡ record { left = record { ring = record { track = ticked false (tk h o k); slots = slots }; device = d }; line = record { sent = Nothing; waiting = w; reading = Quiet; heard = Silent; said = Ended Ok } }
+        ≡ record { left = record { ring = record { track = ticked false (tk h o k); slots = slots }; device = d }; line = record { sent = Nothing; waiting = w; reading = Quiet; heard = Silent; said = Done } }
     turn-stops none =
-        let e = sym (call-turns 3 total (tk h o k) Quiet r) ∙ stops per stream total period budget h o k none Quiet in
-        ap (turnBy (desk h o k slots d)) (offers per stream total period budget h o k r ∙ ap (λ (c : Choice). offer.Is (offerBy c (tk h o k))) (finished per stream total period budget h o k none))
+        let e = sym (call-turns total (tk h o k) Quiet r) ∙ stops per stream total period budget h o k room none Quiet in
+        ap (turnBy (desk h o k slots d)) (offers per stream total period budget h o k room r ∙ ap (λ (c : Choice). offer.Is (offerBy c (tk h o k))) (finished per stream total period budget h o k room none))
         ∙ ap (λ (s : Step). record { left = record { ring = ringAfter r₀ s; device = d }; line = record { sent = s .sent; waiting = w; reading = Quiet; heard = s .heard; said = s .said } }) e
 
     runs-next : o < total → k + 1 < budget → Runs total (tk (after h) (o + span) (k + 1))
     runs-next more left =
-        let e = goes per stream total period budget h o k more left in
-        subst (λ (s : Step). Runs total (s .track)) e (runs-on 3 total (tk h o k) (Completed h 0x8000) (omega arith) r (ap (λ (s : Step). s .said) e))
+        let e = goes per stream total period budget h o k room more left in
+        subst (λ (s : Step). Runs total (s .track)) e (runs-on per total (tk h o k) (Completed h 0x8000) (omega arith) r (ap (λ (s : Step). s .said) e))
 
   -- the claim of a loop, from a place on; f is enough for the periods that are left
   abbrev Claim : ℕ → Type 0
@@ -133,10 +125,12 @@ pub transfer-ends : (r : Ring) (d : Device) (stream period budget : ℕ) (frames
     × Ends (length (cut period frames) + 1) (playedBy d stream (length frames)) (attended frames budget (starts r stream period budget frames .ring) d)
 transfer-ends r d stream period budget frames idle p some enough =
     let n = plan-count period frames in
-    let began = sym (host.goes (r .track) stream (length frames) period budget (idle .consistent) (idle .stopped) (idle .empty) some (omega arith)) in
+    let f = consistent-facts (r .track) (idle .consistent) in
+    let mode = f .placed .mode in
+    let began = sym (host.goes (r .track) stream (length frames) period budget f (idle .stopped) (idle .empty) some (omega arith)) in
     let b = begins (r .track) stream (length frames) period budget began in
     let slots = carry (r .slots) (startCall (r .track) stream (length frames) period budget .sent) in
-    let c = plays-on (r .track .per) stream period budget frames budget (length frames) 0 0 0 slots d p (b .runs) (omega arith) (omega arith) (omega arith) in (
+    let c = plays-on (r .track .descriptors) stream period budget frames (omega arith) budget (length frames) 0 0 0 slots d p (b .runs) (omega arith) (omega arith) (omega arith) in (
       began,
       subst (λ (t : Track). Ends (length (cut period frames) + 1) (playedBy d stream (length frames)) (attended frames budget (record { track = t; slots = slots }) d)) (sym (b .track))
           (record { said = c .said; turns = c .turns ∙ ap (λ (k : ℕ). k + 1) n; device = c .device ∙ ap (playedBy d stream) (omega arith) }),

@@ -12,42 +12,30 @@ use borrow.Author.Tests.{lt-ltb}
 use Rattle.layout.specs.Bytes.{le}
 use Rattle.layout.specs.Layout.{write}
 use Rattle.layout.specs.BytesLaws.{length-le}
-use Rattle.codes.specs.SaysLaws.{picks}
+use Rattle.codes.specs.Says.{guard}
+use Rattle.codes.specs.SaysLaws.{picks, passes}
 use Rattle.codes.specs.declared.requests.RequestCode.the-variants.{RPcmPrepare, RPcmRelease, RPcmStart, RPcmStop}
 use Rattle.records.specs.Records.{pcmCommand}
 use Rattle.tables.specs.Tables.{judged}
-use Rattle.tables.specs.declared.verdict.Verdict.{Verdict}
-use Rattle.tables.specs.declared.verdict.Verdict.the-variants.{Good}
-use Rattle.turns.specs.declared.ring.Track.{Track}
-use Rattle.exchange.specs.State.{withStage}
-use Rattle.exchange.specs.Consistent.{periodOk, callOk}
+use Rattle.core.specs.State.{withStage}
+use Rattle.core.specs.Consistent.{periodOk, callOk}
+use Rattle.core.specs.Plan.{sendOf, endOf, kindCode, setOf, ownSet, ownOf, effectOf, afterSent}
+use Rattle.core.specs.Reply.{requestBytes}
+use Rattle.core.specs.declared.plan.Request.the-variants as request
+use Rattle.core.specs.declared.plan.Value.the-variants as value
+use Rattle.core.specs.declared.plan.Say.the-variants.{Done}
+use Rattle.core.specs.declared.reply.Reply.the-variants as reply
 use Rattle.exchange.specs.Feed.{paged}
 use Rattle.exchange.specs.Kept.{Kept}
 use Rattle.exchange.specs.KeptLaws.{call-kept, feed-kept}
 use Rattle.exchange.specs.StayLaws.{after-core}
-use Rattle.exchange.specs.Plan.{sendOf, endOf, kindCode, setOf, lookOf, ownSet, ownOf, effectOf, afterSent, soundAfter}
-use Rattle.exchange.specs.Exchange.{requestBytes, messageAfter, listed, stepOf, callOf, feedOf}
-use Rattle.exchange.specs.declared.state.Params.{Params}
-use Rattle.exchange.specs.declared.state.Kind.{Kind}
-use Rattle.exchange.specs.declared.state.Kind.the-variants.{Prepare, Release, Start, Stop}
-use Rattle.exchange.specs.declared.state.Call.{Call}
-use Rattle.exchange.specs.declared.state.Call.the-variants.{SetParams}
-use Rattle.exchange.specs.declared.state.Stage.the-variants.{Idle, Sent}
-use Rattle.exchange.specs.declared.state.Core.{Core}
-use Rattle.exchange.specs.declared.state.Sound.{Sound}
-use Rattle.exchange.specs.declared.plan.Request.{Request}
-use Rattle.exchange.specs.declared.plan.Request.the-variants as request
-use Rattle.exchange.specs.declared.plan.Value.the-variants as value
-use Rattle.exchange.specs.declared.plan.Say.the-variants.{Done}
-use Rattle.exchange.specs.declared.plan.Effect.the-variants.{Nothing}
-use Rattle.exchange.specs.declared.plan.Plan.{Plan}
-use Rattle.exchange.specs.declared.calls.Reply.the-variants as reply
-use Rattle.model.specs.Control.{ok, keptBy, outcomeOf}
+use Rattle.exchange.specs.Tables.{lookOf, soundAfter}
+use Rattle.exchange.specs.Exchange.{listed, stepOf, callOf, feedOf}
+use Rattle.model.specs.Control.{laid, ok, keptBy, outcomeOf}
 use Rattle.model.specs.ModelLaws.{command-answer}
-use Rattle.model.specs.declared.device.Held.{Held}
-use Rattle.model.specs.declared.device.Device.{Device}
-use Rattle.worked.specs.Talk.{Talk, opened, relay, Fitting, countsOf, Settled, Took}
-use Rattle.worked.specs.TalkLaws.{laid, length-laid, asking, after, feeds, relays, good-page, calls}
+use Rattle.worked.specs.Types.{Verdict, Good, Track, Params, Kind, Prepare, Release, Start, Stop, Call, SetParams, Idle, Sent, Core, Request, Nothing, Plan, Sound, Held, Device}
+use Rattle.worked.specs.Talk.{Talk, talkOf, opened, relay, Fitting, countsOf, Settled, Took}
+use Rattle.worked.specs.TalkLaws.{length-laid, asking, after, feeds, relays, good-page, calls}
 
 -- the state that waits for the answer to a call, the page with an ok at its front, and the plan that follows
 abbrev pub waiting : Sound → Call → Sound
@@ -66,7 +54,7 @@ module _ (s : Sound) (t : Track) (d : Device) (call : Call) (q : Request) (page 
 
   -- the request goes out
   sends : opened s t call d page m ≡ asking (waiting s call) q (listed []) d page m
-  sends = ap (λ (p : Plan). record { driver = stepOf p s []; device = d; page = page; message = messageAfter (p .say) m }) plan-is
+  sends = ap (λ (p : Plan). talkOf p s [] d page m) plan-is
 
   waiting-kept : Kept (waiting s call)
   waiting-kept = subst (λ (p : Plan). Kept (stepOf p s [] .sound)) plan-is (call-kept s t call (length m) (o .state))
@@ -81,7 +69,7 @@ module _ (s : Sound) (t : Track) (d : Device) (call : Call) (q : Request) (page 
   ok-good = good-page (drop (length (le 4 0x8000)) page) 0 0 ok-whole (omega arith)
 
   ok-feed : feedOf (waiting s call) (okPage page) (length (laid (requestBytes q) m)) ≡ donePlan s call
-  unfolding afterSent
+  unfolding afterSent guard
   ok-feed =
       feeds (waiting s call) (okPage page) (length (laid (requestBytes q) m)) ok-whole long (waiting-kept .consistent)
       ∙ ap (λ (v : Verdict). afterSent (withStage (s .core) (Sent call)) call v) ok-good
@@ -89,7 +77,7 @@ module _ (s : Sound) (t : Track) (d : Device) (call : Call) (q : Request) (page 
   -- the device takes it, and the driver says Ok
   module _ (e : Device) (out : outcomeOf (requestBytes q) d ≡ ok e) where
     pub result : relay (opened s t call d page m) ≡ after (donePlan s call) (waiting s call) e (okPage page) (laid (requestBytes q) m)
-    unfolding afterSent
+    unfolding afterSent guard
     result =
         ap relay sends
         ∙ relays (waiting s call) q (listed []) d e page m (le 4 0x8000) (o .device .within) (o .lent .whole) long out (omega (arith, length-le 4 0x8000)) (waiting-kept .consistent)
@@ -131,7 +119,7 @@ command-taken d Stop stream h = command-answer d RPcmStop stream (λ s. refl) (l
 pub own-sends : (c : Core) (stream : ℕ) (to : Params) → periodOk (to .buffer) (to .period) ≡ true → stream < c .counts .streams
     → ownSet c stream to ≡ sendOf c (Sent (SetParams stream to)) (request.Set (setOf stream to)) Nothing
 unfolding ownSet
-own-sends c stream to period h = picks _ _ _ period ∙ picks _ _ _ (lt-ltb stream (c .counts .streams) h)
+own-sends c stream to period h = sym (passes _ _ _ period (passes _ _ _ (lt-ltb stream (c .counts .streams) h) refl))
 
 pub kept-fitting : (d : Device) (stream : ℕ) (h : Held) → Fitting d → Fitting (keptBy d stream h)
 kept-fitting d stream h f =

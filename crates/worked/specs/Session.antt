@@ -1,62 +1,51 @@
 -- A WHOLE SESSION of the driver with the model device, by the theorems of Meets: their premises are met one after the other.
 -- Assumes nothing.
 use mathlib.Core.Path.{_≡_, refl, sym, ap, _∙_, subst}
-use mathlib.Core.Bool.{Bool, true, false, not}
+use mathlib.Core.Bool.{true, not}
 use mathlib.Core.List.{List, _∷_, []}
 use Prim.Native.Nat.{ℕ, _+_, _%_, _≤_, _<_, _^_}
 use native.Mathlib.Omega.{arith}
 use lib.Dec.{lit<, eqb}
 use lib.ListN.{length, getD, replicate, getD-replicate}
-use borrow.Author.Tests.{eqb-true}
+use borrow.Author.Tests.{not-true, eqb-true}
 use Rattle.layout.specs.Layout.{Fit}
 use Rattle.codes.specs.Says.{says}
-use Rattle.codes.specs.declared.answers.Answer.the-variants.{Ok}
 use Rattle.records.specs.Records.{setParameters, setParametersValues, jackInfo, jackInfoValues, pcmInfo, pcmInfoValues, channelMap, channelMapValues, jackInfoOf, pcmInfoOf, channelMapOf}
 use Rattle.records.specs.declared.info.JackInfo.{JackInfo}
 use Rattle.records.specs.declared.info.PcmInfo.{PcmInfo}
 use Rattle.records.specs.declared.info.ChannelMap.{ChannelMap}
 use Rattle.tables.specs.Tables.{noJacks, noStreams, noMaps}
-use Rattle.turns.specs.PassLaws.{new-passes}
-use Rattle.turns.specs.Ring.{newTrack}
+use Rattle.turns.specs.StaysConsistentLaws.{new-passes}
+use Rattle.turns.specs.Ring.{direct, newTrack}
 use Rattle.turns.specs.Cut.{cut}
 use Rattle.turns.specs.Log.{Ran}
 use Rattle.turns.specs.ConsistentLaws.{both}
-use Rattle.turns.specs.declared.ring.Ring.{Ring}
-use Rattle.turns.specs.declared.ring.Said.the-variants.{Going, Ended}
+use Rattle.core.specs.Consistent.{periodOk, numbersOk}
+use Rattle.core.specs.Plan.{setOf, storedOf}
+use Rattle.core.specs.declared.plan.Value.the-variants as value
+use Rattle.core.specs.declared.reply.Reply.the-variants as reply
 use Rattle.exchange.specs.State.{paramsOf}
-use Rattle.exchange.specs.Consistent.{periodOk, numbersOk}
 use Rattle.exchange.specs.Kept.{Playable}
 use Rattle.exchange.specs.Demand.{periodOf, starting}
-use Rattle.exchange.specs.Plan.{setOf, storedOf}
-use Rattle.exchange.specs.declared.state.Params.{Params}
-use Rattle.exchange.specs.declared.state.Call.the-variants.{SetParams}
-use Rattle.exchange.specs.declared.state.Sound.{Sound}
-use Rattle.exchange.specs.declared.plan.Value.the-variants as value
-use Rattle.exchange.specs.declared.calls.Reply.the-variants as reply
-use Rattle.exchange.specs.declared.xfer.XferReply.the-variants.{Says}
 use Rattle.model.specs.Device.{newDevice, withinOf, paramsSays, playedSays}
 use Rattle.model.specs.DeviceLaws.{few-jacks, few-streams, few-maps}
 use Rattle.model.specs.declared.device.Counts.{Counts}
-use Rattle.model.specs.declared.device.Device.{Device}
+use Rattle.worked.specs.Types.{Ring, Going, Done, Params, SetParams, Sound, Says, Device}
 use Rattle.worked.specs.Talk.{Talk, opened, relay, Fitting, Lent, newFor, Settled}
 use Rattle.worked.specs.Play.{Desk, attended}
 use Rattle.worked.specs.Meets.{meets-set-up, meets-set-params, meets-transfer}
 
-is-false : (b : Bool) → not b ≡ true → b ≡ false
-is-false true e = sym e
-is-false false e = refl
-
 -- a stream that was set, on a driver at rest, can be played
 playable : (s : Sound) (r : Ring) (d : Device) (stream : ℕ) (to : Params) (page message : List ℕ) → Settled s (r .track) d page message → paramsOf s stream ≡ storedOf to → Playable s r stream
 playable s r d stream to page message o e =
-    let i = both (not (r .track .running)) (eqb (r .track .held) 0) (o .lent .idle) in
+    let i = both (not (r .track .running)) (eqb (r .track .inflight) 0) (o .lent .idle) in
     record {
       state = o .state;
       ring = o .lent .consistent;
       set = λ z. omega (arith, z, ap (λ (p : Params). p .known) e);
       closed = o .closed;
-      still = is-false (r .track .running) (i .0);
-      empty = eqb-true (r .track .held) 0 (i .1);
+      still = not-true (r .track .running) (i .0);
+      empty = eqb-true (r .track .inflight) 0 (i .1);
     }
 
 -- the transfer that follows a conversation
@@ -69,7 +58,7 @@ pub record Session (d : Device) (r : Ring) (stream : ℕ) (to : Params) (budget 
   pub held : paramsSays (y .device) stream ≡ says 0 (setParametersValues (setOf stream to))
   -- then the transfer starts, says Ok, and the device has counted what was played
   pub starts : starting (y .driver .sound) r stream budget (length (y .message)) frames .reply ≡ Says Going
-  pub plays : then r stream budget frames y .said ≡ Ended Ok
+  pub plays : then r stream budget frames y .said ≡ Done
   pub counted : playedSays (then r stream budget frames y .at .device) stream ≡ says 0 ((getD (d .played) stream 0 + length frames) % 2 ^ 64 ∷ [])
 
 -- A new driver's first call sets a stream's parameters, by set-up's three exchanges and its own; then frames are played on that stream
@@ -95,7 +84,7 @@ meets-session d r stream to budget page message frames f l h period numbers fit 
 
 -- ---- these premises can be met: by a device of any counts that a page holds, with records of zeros, a new ring, a page of zeros, and a buffer of 24 bytes
 
-pub can-meet : (n : Counts) → withinOf n ≡ true → Fitting (newDevice n noJacks noStreams noMaps) × Lent (newTrack 3) (replicate 4096 0) (replicate 24 0)
+pub can-meet : (n : Counts) → withinOf n ≡ true → Fitting (newDevice n noJacks noStreams noMaps) × Lent (newTrack direct) (replicate 4096 0) (replicate 24 0)
 can-meet n w =
     let j = few-jacks n w in
     let p = few-streams n w in

@@ -10,21 +10,16 @@ use Rattle.layout.specs.Layout.{Fit}
 use Rattle.records.specs.Records.{jackInfo, jackInfoValues, pcmInfo, pcmInfoValues, channelMap, channelMapValues, jackInfoOf, pcmInfoOf, channelMapOf}
 use Rattle.turns.specs.Calls.{idleOf}
 use Rattle.turns.specs.Consistent as ring
-use Rattle.turns.specs.declared.ring.Track.{Track}
+use Rattle.core.specs.Reply.{messageAfter}
+use Rattle.core.specs.declared.state.Counts.{Counts}
+use Rattle.core.specs.declared.plan.Value.the-variants as value
+use Rattle.core.specs.declared.reply.Reply.the-variants as reply
 use Rattle.exchange.specs.State.{newSound}
 use Rattle.exchange.specs.Kept.{Kept}
-use Rattle.exchange.specs.Exchange.{messageAfter, stepOf, callOf, feedOf}
-use Rattle.exchange.specs.declared.state.Counts.{Counts}
-use Rattle.exchange.specs.declared.state.Call.{Call}
-use Rattle.exchange.specs.declared.state.Stage.the-variants.{Idle}
-use Rattle.exchange.specs.declared.state.Sound.{Sound}
-use Rattle.exchange.specs.declared.plan.Value.the-variants as value
-use Rattle.exchange.specs.declared.calls.Reply.{Reply}
-use Rattle.exchange.specs.declared.calls.Reply.the-variants as reply
-use Rattle.exchange.specs.declared.calls.Step.{Step}
+use Rattle.exchange.specs.Exchange.{stepOf, callOf, feedOf}
 use Rattle.model.specs.Device.{withinOf}
-use Rattle.model.specs.Control.{controlOf, pageAfter}
-use Rattle.model.specs.declared.device.Device.{Device}
+use Rattle.model.specs.Control.{controlOf}
+use Rattle.worked.specs.Types.{Track, Call, Idle, Plan, Reply, Sound, Step, Device}
 
 -- where both stand: what the driver gave last (its state, its reply, its list of streams), the device, the answer page, and the message buffer
 pub record Talk : Type 0 where
@@ -33,19 +28,20 @@ pub record Talk : Type 0 where
   pub page : List ℕ
   pub message : List ℕ
 
+-- what a plan on a state comes to, fed with some page or with none
+abbrev pub talkOf : Plan → Sound → List ℕ → Device → List ℕ → List ℕ → Talk
+talkOf p s fed d page message = record { driver = stepOf p s fed; device = d; page = page; message = messageAfter (p .say) message }
+
 -- A CALL opens it
 abbrev pub opened : Sound → Track → Call → Device → List ℕ → List ℕ → Talk
-opened s t call d page message =
-    let p = callOf s t call (length message) in
-    record { driver = stepOf p s []; device = d; page = page; message = messageAfter (p .say) message }
+opened s t call d page message = talkOf (callOf s t call (length message)) s [] d page message
 
 -- the device answers a request in the page, and the page is fed to the driver
 abbrev pub fedWith : List ℕ → Talk → Talk
 fedWith request x =
     let s = x .driver .sound in
-    let page = pageAfter (x .device) request (x .page) in
-    let p = feedOf s page (length (x .message)) in
-    record { driver = stepOf p s page; device = controlOf (x .device) request (length (x .page)) .device; page = page; message = messageAfter (p .say) (x .message) }
+    let g = controlOf (x .device) request (x .page) in
+    talkOf (feedOf s (g .lent) (length (x .message))) s (g .lent) (g .answered .device) (g .lent) (x .message)
 
 -- ONE EXCHANGE: of a request of n bytes the first n of the message go to the device; after a result there is none. The page carries over
 abbrev pub relayBy : Reply → Talk → Talk

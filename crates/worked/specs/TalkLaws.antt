@@ -19,36 +19,26 @@ use Rattle.codes.specs.SaysLaws.{picks, passes}
 use Rattle.codes.specs.Requests.{requestCode}
 use Rattle.codes.specs.declared.requests.RequestCode.{RequestCode}
 use Rattle.records.specs.Records.{query}
-use Rattle.tables.specs.Tables.{judged, isGood, filled}
-use Rattle.tables.specs.declared.verdict.Verdict.{Verdict}
-use Rattle.tables.specs.declared.verdict.Verdict.the-variants.{Good}
+use Rattle.tables.specs.Tables.{judged, isGood, fits, filled}
+use Rattle.tables.specs.TablesLaws.{good-fits}
 use Rattle.turns.specs.Calls.{idleOf}
 use Rattle.turns.specs.Consistent as ring
-use Rattle.turns.specs.declared.ring.Track.{Track}
-use Rattle.exchange.specs.Consistent.{callOk, consistentOf}
+use Rattle.core.specs.Consistent.{callOk, consistentOf}
+use Rattle.core.specs.Plan.{queryOf, isIdle, setUpOf, beginOf, answerBy, answerOf, verdictBy}
+use Rattle.core.specs.Reply.{requestBytes}
+use Rattle.core.specs.declared.reply.Reply.the-variants as reply
 use Rattle.exchange.specs.ConsistentLaws.{both-of}
 use Rattle.exchange.specs.Feed.{paged}
 use Rattle.exchange.specs.PlanLaws.{long-verdict}
-use Rattle.exchange.specs.Plan.{queryOf, lookOf, isIdle, setUpOf, beginOf, answerBy, answerOf, verdictBy, pendingLook}
-use Rattle.exchange.specs.Exchange.{requestBytes, messageAfter, stepOf, callOf, feedOf}
-use Rattle.exchange.specs.declared.state.Call.{Call}
-use Rattle.exchange.specs.declared.state.Stage.the-variants.{Idle}
-use Rattle.exchange.specs.declared.state.Sound.{Sound}
-use Rattle.exchange.specs.declared.plan.Request.{Request}
-use Rattle.exchange.specs.declared.plan.Plan.{Plan}
-use Rattle.exchange.specs.declared.calls.Reply.the-variants as reply
-use Rattle.exchange.specs.declared.calls.StreamList.{StreamList}
+use Rattle.exchange.specs.Tables.{lookOf, pendingLook}
+use Rattle.exchange.specs.Exchange.{callOf, feedOf}
 use Rattle.model.specs.Device.{withinOf}
-use Rattle.model.specs.Control.{Outcome, rowsIn, outcomeOf, controlOf, pageAfter}
+use Rattle.model.specs.Control.{Outcome, Given, laid, rowsIn, outcomeOf, controlOf}
 use Rattle.model.specs.ModelLaws.{Answers, control-answers}
-use Rattle.model.specs.declared.device.Device.{Device}
-use Rattle.model.specs.declared.control.Answered.{Answered}
-use Rattle.worked.specs.Talk.{Talk, fedWith, relay}
+use Rattle.worked.specs.Types.{Verdict, Good, Track, Call, Idle, Request, Plan, Sound, StreamList, Device}
+use Rattle.worked.specs.Talk.{Talk, talkOf, fedWith, relay}
 
 -- bytes over the front of others
-abbrev pub laid : List ℕ → List ℕ → List ℕ
-laid b l = b ++ drop (length b) l
-
 pub length-laid : (b l : List ℕ) → length b ≤ length l → length (laid b l) ≡ length l
 length-laid b l h = simp (length-append, length-drop) (omega arith)
 
@@ -62,13 +52,15 @@ asking s q l d page m = record { driver = record { sound = s; reply = reply.Send
 
 -- the driver has made a plan of a page
 abbrev pub after : Plan → Sound → Device → List ℕ → List ℕ → Talk
-after p s d page m = record { driver = stepOf p s page; device = d; page = page; message = messageAfter (p .say) m }
+after p s d page m = talkOf p s page d page m
 
 -- a page of the right length, in a consistent state
 pub feeds : (s : Sound) (page : List ℕ) (n : ℕ) → length page ≡ 4096 → 24 ≤ n → consistentOf (s .core) ≡ true
     → feedOf s page n ≡ answerBy (s .core .stage) (s .core) (verdictBy (s .core .stage) (s .core .counts) page) (pendingLook (s .core .stage) s)
 unfolding feedOf answerOf
-feeds s page n l m e = sym (passes _ _ _ (both-of (eqb (length page) 4096) (leb 24 n) (eq-eqb _ _ l) (le-leb _ _ m)) (passes _ _ _ (ap not (long-verdict s (paged page n) (both-of (eqb (length page) 4096) (leb 24 n) (eq-eqb _ _ l) (le-leb _ _ m)))) (passes _ _ _ e refl)))
+feeds s page n l m e =
+    let long = both-of (eqb (length page) 4096) (leb 24 n) (eq-eqb _ _ l) (le-leb _ _ m) in
+    sym (passes _ _ _ long (passes _ _ _ (ap not (long-verdict s (paged page n) long .1)) (passes _ _ _ e refl)))
 
 -- THE LAW OF AN EXCHANGE: the device answers with bytes b, and the driver goes on as it decides on the page that begins with them
 module _ (s : Sound) (q : Request) (l : StreamList) (d e : Device) (page m b : List ℕ) (w : withinOf (d .counts) ≡ true) (whole : length page ≡ 4096)
@@ -80,8 +72,8 @@ module _ (s : Sound) (q : Request) (l : StreamList) (d e : Device) (page m b : L
       let r = requestBytes q in
       let n = laid r m in
       let a = control-answers d r page whole w in
-      let device : controlOf d r (length page) .device ≡ e = ap (λ (x : Answered). x .device) (a .0) ∙ ap (λ (o : Outcome). o .device) out in
-      let told : pageAfter d r page ≡ laid b page = a .1 ∙ ap (λ (o : Outcome). laid (o .bytes) page) out in
+      let device : controlOf d r page .answered .device ≡ e = ap (λ (g : Given). g .answered .device) a ∙ ap (λ (o : Outcome). o .device) out in
+      let told : controlOf d r page .lent ≡ laid b page = ap (λ (g : Given). g .lent) a ∙ ap (λ (o : Outcome). laid (o .bytes) page) out in
       ap (λ (x : List ℕ). fedWith x (asking s q l d page m)) (take-append-seam r (drop (length r) m))
       ∙ (λ i. after (feedOf s (told i) (length n)) s (device i) (told i) n)
       ∙ ap (λ (p : Plan). after p s e (laid b page) n) (feeds s (laid b page) (length n) (length-laid b page (rw whole small) ∙ whole) long ok)
@@ -95,16 +87,16 @@ header r =
 
 pub good-page : (r : List ℕ) (n size : ℕ) → length (le 4 0x8000 ++ r) ≡ 4096 → 4 + n * size ≤ 4096 → judged (le 4 0x8000 ++ r) n size ≡ Good
 unfolding judged
-good-page r n size l h = picks _ _ _ (eq-eqb (length (le 4 0x8000 ++ r)) 4096 l) ∙ picks _ _ _ (eq-eqb (numAt 0 4 (le 4 0x8000 ++ r)) 0x8000 (header r)) ∙ picks _ _ _ (le-leb _ _ h)
+good-page r n size l h = sym (passes _ _ _ (eq-eqb _ _ l) (passes _ _ _ (eq-eqb _ _ (header r)) (passes _ _ _ (le-leb _ _ h) refl)))
 
 -- a page that answers a query: it is whole and good, and n records are read from it
 pub record Told {A : Type 0} (f : ℕ → List ℕ → A) (size n : ℕ) (rows : List A) (page : List ℕ) : Type 0 where
   pub whole : length page ≡ 4096
   pub good : judged page n size ≡ Good
-  pub same : (old : List A) → take n (pick (isGood (judged page n size)) (filled f size page n old) old) ≡ take n rows
+  pub same : (old : List A) → take n (pick (fits page n size) (filled f size page n old) old) ≡ take n rows
 
 -- THE LAW OF A QUERY, over the table: so is the page that the device answers in, and the records are those of the device
-module _ {A : Type 0} (c : RequestCode) (ws : List ℕ) (values : A → List ℕ) (of : List ℕ → A) (n : ℕ) (rows : List A) (d : Device) (a : Answers c ws values of n rows d)
+module _ {A : Type 0} {c : RequestCode} {ws : List ℕ} {values : A → List ℕ} {of : List ℕ → A} {n : ℕ} {rows : List A} {d : Device} (a : Answers c ws values of n rows d)
     (page : List ℕ) (whole : length page ≡ 4096) where
   abbrev bytes : List ℕ
   bytes = rowsIn (λ (x : A). write ws (values x)) 0 n rows
@@ -128,7 +120,7 @@ module _ {A : Type 0} (c : RequestCode) (ws : List ℕ) (values : A → List ℕ
         whole = told-whole;
         good = told-good;
         same = λ old.
-            ap (λ (v : Verdict). take n (pick (isGood v) (filled one (size ws) (laid bytes page) n old) old)) told-good
+            ap (take n) (picks _ _ _ (good-fits (laid bytes page) n (size ws) (ap isGood told-good)))
             ∙ take-at (rowsAt one (size ws) 4 n (laid bytes page)) (drop n old) n (length-rows one (size ws) 4 n (laid bytes page))
             ∙ a .back z (drop (length bytes) page) fit;
       }

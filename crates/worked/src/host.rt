@@ -1,13 +1,15 @@
 // The host between driver and device: it carries requests, answers and periods, and says what it
 // carried.
 use crate::show;
-use exchange::Reply;
+use core::MESSAGE;
+use core::Reply;
+use core::Value;
 use exchange::Sound;
 use exchange::Step;
 use exchange::StreamList;
-use exchange::Value;
 use model::Control;
 use model::Device;
+use tables::PAGE;
 use turns::Ring;
 use turns::Said;
 
@@ -18,7 +20,7 @@ pub struct Host {
     // What the driver said last, and the request that it wrote.
     pub reply: Reply,
     pub streams: StreamList,
-    pub message: [u8; 24],
+    pub message: [u8; MESSAGE],
     // The device's last answer to a request: its bytes and its status.
     pub answer: usize,
     pub status: u32,
@@ -42,7 +44,7 @@ pub(crate) fn new(sound: Sound, device: Device) -> Host {
             count: 0,
             ids: [0; 127],
         },
-        message: [0; 24],
+        message: [0; MESSAGE],
         answer: 0,
         status: 0,
         said: Said::Going,
@@ -54,7 +56,7 @@ pub(crate) fn new(sound: Sound, device: Device) -> Host {
 }
 
 // What a call or a feed led to.
-pub(crate) fn told(h: Host, step: Step, message: [u8; 24]) -> Host {
+pub(crate) fn told(h: Host, step: Step, message: [u8; MESSAGE]) -> Host {
     let sound = step.sound;
     let reply = step.reply;
     let streams = step.streams;
@@ -75,7 +77,7 @@ pub(crate) fn part<'a>(s: &'a [u8], n: usize) -> &'a [u8] {
     &s[..n]
 }
 
-fn front<'a>(message: &'a [u8; 24], n: usize) -> &'a [u8] {
+fn front<'a>(message: &'a [u8; MESSAGE], n: usize) -> &'a [u8] {
     part(message, n)
 }
 
@@ -93,11 +95,11 @@ pub(crate) fn carry(h: Host) -> Host {
         return h;
     };
     let message = h.message;
-    let mut page = [0u8; 4096];
+    let mut page = [0u8; PAGE];
     let a = model::control::control(h.device, front(&message, n), &mut page);
     let device = a.device;
     let said = a.said;
-    let mut next = [0u8; 24];
+    let mut next = [0u8; MESSAGE];
     let step = exchange::feed(h.sound, &page, &mut next);
     let answer = length_of(said);
     let status = layout::get_u32(&page, 0);

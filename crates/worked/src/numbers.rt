@@ -5,11 +5,13 @@ use crate::host;
 use crate::host::Host;
 use crate::show;
 use crate::transfer;
-use codes::Answer;
+use codes::Refusal;
 use codes::StatusCode;
+use core::MESSAGE;
 use exchange::Sound;
 use records::Event;
 use records::Notice;
+use tables::PAGE;
 
 // A driver that is set up against the small device.
 pub(crate) fn ready() -> Host {
@@ -54,11 +56,11 @@ fn streams_told() -> Host {
 // A driver that was fed an ok header and zeros to its query of 128 streams: no device of the model
 // has so many.
 fn streams_fed() -> Host {
-    let mut page = [0u8; 4096];
+    let mut page = [0u8; PAGE];
     layout::put_u32(&mut page, 0, StatusCode::OK);
     let h = host::new(Sound::new(0, 128, 0), device::streams(0));
     let asked = host::carry(calls::output_streams(h));
-    let mut message = [0u8; 24];
+    let mut message = [0u8; MESSAGE];
     let step = exchange::feed(asked.sound, &page, &mut message);
     host::told(asked, step, message)
 }
@@ -86,14 +88,14 @@ fn notice(n: Notice) {
     show::text(b"  says ");
     match n {
         Notice::Is(_, data) => show::decimal(data as u64),
-        Notice::IoError => show::answer(Answer::IoError),
+        Notice::IoError => show::refusal(Refusal::IoError),
         Notice::Nothing => show::text(b"nothing"),
     }
     show::text(b"\n");
 }
 
 fn events() {
-    let mut bytes = [0u8; 8];
+    let mut bytes = [0u8; Event::SIZE];
     let event = Event {
         code: 0x1002,
         data: 0,

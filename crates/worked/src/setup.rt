@@ -4,6 +4,7 @@ use crate::device;
 use crate::host;
 use crate::host::Host;
 use crate::show;
+use core::MESSAGE;
 use exchange::Sound;
 
 fn told_of_0(h: Host) {
@@ -30,14 +31,14 @@ pub(crate) fn done() {
 
 // The queue fails the query that is out.
 fn failed(h: Host) -> Host {
-    let mut message = [0u8; 24];
+    let mut message = [0u8; MESSAGE];
     let step = exchange::feed_failure(h.sound, &mut message);
     host::told(h, step, message)
 }
 
 fn short_page(h: Host) -> Host {
     let page = [0u8; 4095];
-    let mut message = [0u8; 24];
+    let mut message = [0u8; MESSAGE];
     let step = exchange::feed(h.sound, &page, &mut message);
     host::told(h, step, message)
 }

@@ -1,8 +1,7 @@
 // Words and numbers of the output.
-use codes::Answer;
 use codes::Refusal;
+use core::Value;
 use exchange::StreamList;
-use exchange::Value;
 use libc::STDOUT_FILENO;
 
 pub(crate) fn text(s: &[u8]) {
@@ -40,31 +39,30 @@ pub(crate) fn bytes(s: &[u8]) {
     }
 }
 
-fn name(a: Answer) {
-    match a {
-        Answer::Ok => text(b"Ok"),
-        Answer::InvalidParam => text(b"InvalidParam"),
-        Answer::IoError => text(b"IoError"),
-        Answer::Unsupported => text(b"Unsupported"),
-        Answer::NoInfo => text(b"NoInfo"),
-        Answer::TooMany => text(b"TooMany"),
-        Answer::WrongToken => text(b"WrongToken"),
-        Answer::QueueFailed => text(b"QueueFailed"),
-        Answer::Busy => text(b"Busy"),
-        Answer::OutOfTurns => text(b"OutOfTurns"),
-        Answer::BadLength => text(b"BadLength"),
+fn name(r: Refusal) {
+    match r {
+        Refusal::InvalidParam => text(b"InvalidParam"),
+        Refusal::IoError => text(b"IoError"),
+        Refusal::Unsupported => text(b"Unsupported"),
+        Refusal::NoInfo => text(b"NoInfo"),
+        Refusal::TooMany => text(b"TooMany"),
+        Refusal::WrongToken => text(b"WrongToken"),
+        Refusal::QueueFailed => text(b"QueueFailed"),
+        Refusal::Busy => text(b"Busy"),
+        Refusal::OutOfTurns => text(b"OutOfTurns"),
+        Refusal::BadLength => text(b"BadLength"),
     }
 }
 
 // An answer's number, and document 01's name for it.
-pub(crate) fn answer(a: Answer) {
-    decimal(a.number() as u64);
-    text(b" ");
-    name(a);
+pub(crate) fn ok() {
+    text(b"0 Ok");
 }
 
 pub(crate) fn refusal(r: Refusal) {
-    answer(r.answer());
+    decimal(r.number() as u64);
+    text(b" ");
+    name(r);
 }
 
 // A space, and the id at a place of a list.
@@ -87,7 +85,7 @@ fn ids(list: StreamList) {
 
 // What a call results in.
 pub(crate) fn value(v: Value, list: StreamList) {
-    answer(Answer::Ok);
+    ok();
     match v {
         Value::Nothing => text(b""),
         Value::Number(n) => {

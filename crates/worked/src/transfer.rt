@@ -3,11 +3,13 @@ use crate::host;
 use crate::host::Host;
 use crate::show;
 use codes::StatusCode;
+use core::MESSAGE;
 use exchange::XferReply;
 use exchange::XferStep;
+use model::Answered;
 use model::Device;
-use model::Transferred;
 use records::Transfer;
+use records::TransferStatus;
 use std::num::wrapping_add_u64;
 use turns::Carried;
 use turns::Heard;
@@ -47,14 +49,14 @@ fn started(h: Host, x: XferStep) -> Host {
 }
 
 fn start(h: Host, frames: &[u8], budget: u64) -> Host {
-    let mut message = [0u8; 24];
+    let mut message = [0u8; MESSAGE];
     let x = exchange::pcm_xfer_start(h.sound, h.ring, 0, frames, budget, &mut message);
     started(h, x)
 }
 
 // A whole transfer to stream 0 in one call, every reading quiet.
 pub(crate) fn run_quiet(h: Host, frames: &[u8], budget: u64) -> Host {
-    let mut message = [0u8; 24];
+    let mut message = [0u8; MESSAGE];
     let x = exchange::pcm_xfer(h.sound, h.ring, 0, frames, budget, &[], &mut message);
     started(h, x)
 }
@@ -74,7 +76,7 @@ fn front<'a>(request: &'a [u8; 20], n: usize) -> &'a [u8] {
 }
 
 // The stream's number and the period, which has at most 16 bytes here.
-fn send(d: Device, stream: u32, period: &[u8], answer: &mut [u8]) -> Transferred {
+fn send(d: Device, stream: u32, period: &[u8], answer: &mut [u8]) -> Answered {
     let mut request = [0u8; 20];
     let head = Transfer { stream };
     head.write(&mut request);
@@ -106,7 +108,7 @@ fn submit(h: Host, frames: &[u8], offer: Offer) -> Host {
         return h;
     };
     let period = turns::offered(h.ring, frames);
-    let mut answer = [0u8; 8];
+    let mut answer = [0u8; TransferStatus::SIZE];
     let t = send(h.device, h.ring.track.stream, period, &mut answer);
     let device = t.device;
     let status = layout::get_u32(&answer, 0);
@@ -224,7 +226,8 @@ fn seen_in(w: Words) {
 fn says(said: Said) {
     match said {
         Said::Going => show::text(b"goes on"),
-        Said::Ended(a) => show::answer(a),
+        Said::Done => show::ok(),
+        Said::Ended(r) => show::refusal(r),
         Said::Refused(r) => show::refusal(r),
     }
 }

@@ -157,7 +157,7 @@ fn entries_by_stage(options: &Options) -> bool {
     let since = Instant::now();
     let agreed = stages::all();
     match &agreed {
-        Ok(count) => println!("entries at every stage, each length in turn: {count}"),
+        Ok(count) => println!("entries at every stage, each length and each reserved byte in turn: {count}"),
         Err(text) => println!("DIFFERENCE\n{text}"),
     }
     println!("  {:.1} s", since.elapsed().as_secs_f64());

@@ -6,7 +6,7 @@ use crate::plain::Plain;
 use crate::port::{LEAD, PAST, Port};
 use crate::random::STATUSES;
 use crate::stages;
-use rules::entries::{Asked, RESULT_SIZE};
+use rules::entries::{Asked, RESULT_SIZE, RING_RESERVED, STATE_RESERVED};
 use rules::sound::{Call, Params};
 use rules::{FIT, MESSAGE, PAGE, wire};
 
@@ -144,6 +144,13 @@ fn stores(what: &What, left: &Left, open: bool, before: &Port, after: &Port) -> 
     None
 }
 
+/// A reserved byte, counted from the first.
+#[derive(Copy, Clone, Debug)]
+pub enum Reserved {
+    State(usize),
+    Ring(usize),
+}
+
 #[derive(Clone)]
 pub struct Pair {
     pub port: Port,
@@ -161,8 +168,24 @@ impl Pair {
         pair
     }
 
+    /// A reserved byte of the state or of the ring becomes what it may not be.
+    pub fn spoil(&mut self, store: Reserved, byte: u8) {
+        match store {
+            Reserved::State(at) => {
+                self.port.state[LEAD + STATE_RESERVED + at] = byte;
+                self.rules.sound.reserved[at] = byte;
+            }
+            Reserved::Ring(at) => {
+                self.port.ring[LEAD + RING_RESERVED + at] = byte;
+                self.rules.ring.reserved[at] = byte;
+            }
+        }
+    }
+
     pub fn step(&mut self, op: &Op) -> Result<(), String> {
-        let (before, open) = (self.port.clone(), self.rules.sound.open.is_some());
+        // an inconsistent state ends nothing
+        let open = self.rules.sound.open.is_some() && self.rules.sound.consistent();
+        let before = self.port.clone();
         let rules_before = self.rules.clone();
         let port = enter(&mut self.port, op);
         let rules = enter(&mut self.rules, op);

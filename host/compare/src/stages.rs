@@ -1,11 +1,11 @@
-//! Every entry at every stage of a driver's life, with each lent slice in turn empty, one short, right and one long: the port against
-//! the rules.
+//! Every entry at every stage of a driver's life, with each lent slice in turn empty, one short, right and one long, and with each reserved
+//! byte in turn not 0: the port against the rules.
 use crate::case::{Body, Kind};
 use crate::entries::Lent;
-use crate::raw::{Op, Pair, What};
+use crate::raw::{Op, Pair, Reserved, What};
 use rules::entries::{Asked, RESULT_SIZE};
 use rules::sound::{Call, Params};
-use rules::{MESSAGE, PAGE, wire};
+use rules::{MESSAGE, PAGE, RESERVED, wire};
 
 pub fn whole(what: What) -> Op {
     Op { lent: Lent::WHOLE, message: MESSAGE, result: RESULT_SIZE, what }
@@ -123,6 +123,16 @@ fn lengths(what: &What) -> Vec<Op> {
     all
 }
 
+/// The same stores with each reserved byte in turn not 0, one bit of it set.
+fn spoilt(pair: &Pair) -> impl Iterator<Item = Pair> {
+    let bytes = (0..RESERVED).flat_map(|at| [Reserved::State(at), Reserved::Ring(at)]);
+    bytes.zip((0..8).cycle()).map(|(byte, bit)| {
+        let mut spoilt = pair.clone();
+        spoilt.spoil(byte, 1 << bit);
+        spoilt
+    })
+}
+
 /// How many entries agreed, or the first that did not.
 pub fn all() -> Result<u64, String> {
     let whats = [calls(), rings(), others()].concat();
@@ -130,10 +140,17 @@ pub fn all() -> Result<u64, String> {
     let mut pair = Pair::new();
     for (at, step) in life().into_iter().enumerate() {
         pair.step(&whole(step))?;
+        let after = |text| format!("after {} entries of src/stages.rs: {text}", at + 1);
         for op in whats.iter().flat_map(lengths) {
-            let tried = pair.clone().step(&op);
-            tried.map_err(|text| format!("after {} entries of src/stages.rs: {text}", at + 1))?;
+            pair.clone().step(&op).map_err(after)?;
             count += 1;
+        }
+        for spoilt in spoilt(&pair) {
+            for what in &whats {
+                let tried = spoilt.clone().step(&whole(what.clone()));
+                tried.map_err(|text| after(format!("with a reserved byte that is not 0: {text}")))?;
+                count += 1;
+            }
         }
     }
     Ok(count)

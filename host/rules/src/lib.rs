@@ -27,5 +27,7 @@ pub const BAD_LENGTH: u8 = 10;
 pub const PAGE: usize = 4096;
 /// The least room for a control message, whatever the call sends.
 pub const MESSAGE: usize = 24;
+/// Bytes of a state and of a ring that are reserved: a store in which one is not 0 is inconsistent.
+pub const RESERVED: usize = 16;
 /// A page holds this many jacks, streams, channel maps.
 pub const FIT: [u32; 3] = [170, 127, 170];

@@ -1,6 +1,6 @@
 //! Turns of a transfer.
 
-use crate::{BAD_LENGTH, BUSY, INVALID_PARAM, IO_ERROR, OUT_OF_TURNS, WRONG_TOKEN, wire::STATUS_OK};
+use crate::{BAD_LENGTH, BUSY, INVALID_PARAM, IO_ERROR, OUT_OF_TURNS, RESERVED, WRONG_TOKEN, wire::STATUS_OK};
 
 pub const SLOTS: usize = 32;
 /// Descriptors of one submission, and the least room for one.
@@ -22,6 +22,7 @@ pub struct Ring {
     pub in_flight: u64,
     /// what each slot carries or carried: offset, length
     pub slots: [(u64, u64); SLOTS],
+    pub reserved: [u8; RESERVED],
 }
 
 /// What a turn saw.
@@ -69,6 +70,7 @@ impl Default for Ring {
             tail: 0,
             in_flight: 0,
             slots: [(0, 0); SLOTS],
+            reserved: [0; RESERVED],
         }
     }
 }
@@ -78,6 +80,7 @@ impl Ring {
         let slots = SLOTS as u64;
         let small = self.head < slots && self.tail < slots && self.in_flight <= slots / PER;
         small
+            && self.reserved == [0; RESERVED]
             && self.head == (self.tail + self.in_flight) % slots
             && self.next <= self.frames_len
             && (!self.running || (self.period > 0 && self.turns < self.budget))

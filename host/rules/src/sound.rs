@@ -85,6 +85,7 @@ pub struct Sound {
     pub tables: [Vec<Vec<u8>>; 3],
     pub params: BTreeMap<u32, Params>,
     pub open: Option<(Awaits, Call)>,
+    pub reserved: [u8; RESERVED],
 }
 
 /// Period 0, period above buffer, or buffer not a multiple of period is against the rule.
@@ -112,7 +113,8 @@ fn done(value: Value) -> Plan {
 
 impl Sound {
     pub fn new(counts: [u32; 3]) -> Self {
-        Sound { counts, set_up: false, tables: Default::default(), params: BTreeMap::new(), open: None }
+        let (tables, params) = (Default::default(), BTreeMap::new());
+        Sound { counts, set_up: false, tables, params, open: None, reserved: [0; RESERVED] }
     }
 
     /// The consistency test of every call.
@@ -134,7 +136,7 @@ impl Sound {
             Some((Awaits::Table(_), _)) => true,
             Some((Awaits::Own, call)) => self.may_be_out(&call),
         };
-        self.set_up == (behind == 3) && tables && call
+        self.set_up == (behind == 3) && tables && call && self.reserved == [0; RESERVED]
     }
 
     /// A call whose own request can be out.

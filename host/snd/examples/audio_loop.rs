@@ -6,7 +6,19 @@ use snd::{Page, Reading, Refusal, Ring, Sound, Step, Turn};
 trait Queues {
     fn control(&mut self, request: &[u8], page: &mut Page) -> bool; // send, and wait for the answer; false: the queue failed
     fn submit(&mut self, slot: usize, stream: u32, period: &[u8]); // put a period on the transmit queue, under this slot
-    fn poll(&mut self) -> Reading; // look at the transmit queue once
+    fn poll(&mut self) -> Reading; // look at the transmit queue once; a completion of nothing that is out has slot u32::MAX
+}
+
+/// Completions out of order, by slot. One that is refused with 6 frees nothing and is not seen again: it is kept here, and passed again
+/// when its slot is the oldest. Else that slot is owed for good.
+type Early = [Option<Reading>; 32];
+
+fn keep(early: &mut Early, reading: Reading) {
+    if let Reading::Completed { slot, .. } = reading
+        && let Some(place) = early.get_mut(slot as usize)
+    {
+        *place = Some(reading);
+    }
 }
 
 /// Speaks one announcement, in at most `budget` turns.
@@ -14,6 +26,7 @@ fn speak(
     sound: &mut Sound,
     ring: &mut Ring,
     queues: &mut impl Queues,
+    early: &mut Early,
     stream: u32,
     frames: &[u8],
     budget: u64,
@@ -28,25 +41,31 @@ fn speak(
             sound.feed_failure()?
         };
     }
-    sound.pcm_xfer_start(ring, stream, frames, budget)?;
+    sound.pcm_xfer_start(ring, stream, frames, budget)?; // not Busy: nothing was in flight
+    *early = [None; 32];
     loop {
         if let Some(offer) = ring.offered(frames)? {
             queues.submit(offer.slot, stream, offer.period);
         }
-        if ring.turn(frames, queues.poll())? == Turn::Done {
-            return Ok(()); // the device has accepted every byte of the frames, in order
+        let reading = queues.poll();
+        let said = ring.turn(frames, reading);
+        if said.inspect_err(|_| keep(early, reading))? == Turn::Done {
+            return Ok(()); // the device has accepted every byte of the frames, in order; what it has not played yet is its own
         }
     }
 }
 
-/// After a refusal: frees what the device still holds, in at most so many turns. Until it is free every call is Busy.
-fn drain(ring: &mut Ring, queues: &mut impl Queues, turns: u64) -> Result<bool, Refusal> {
+/// After a refusal: frees what is owed, in at most so many turns. Until nothing is owed every call is Busy.
+fn drain(ring: &mut Ring, queues: &mut impl Queues, early: &mut Early, turns: u64) -> Result<bool, Refusal> {
     for _ in 0..turns {
-        if ring.in_flight()? == 0 {
+        let Some(oldest) = ring.oldest()? else {
             return Ok(true);
-        }
-        match ring.drain_turn(queues.poll()) {
-            Ok(()) | Err(Refusal::WrongToken) => {} // a wrong slot frees none
+        };
+        let kept = early.get_mut(oldest).and_then(Option::take);
+        let reading = kept.unwrap_or_else(|| queues.poll());
+        match ring.drain_turn(reading) {
+            Ok(()) => {}
+            Err(Refusal::WrongToken) => keep(early, reading),
             Err(other) => return Err(other),
         }
     }
@@ -61,6 +80,8 @@ struct Prompt {
     device: Model,
     completed: std::collections::VecDeque<Reading>,
     heard: Vec<u8>,
+    /// Completes two periods in the other order, once.
+    swaps: bool,
 }
 
 impl Queues for Prompt {
@@ -79,19 +100,28 @@ impl Queues for Prompt {
     }
 
     fn poll(&mut self) -> Reading {
+        if self.swaps {
+            if self.completed.len() < 2 {
+                return Reading::Quiet;
+            }
+            self.completed.swap(0, 1);
+            self.swaps = false;
+        }
         self.completed.pop_front().unwrap_or(Reading::Quiet)
     }
 }
 
-/// A sentence that is spoken whole, and one whose budget is too small.
+/// A sentence that is spoken whole, one whose budget is too small, and one whose first two periods come back in the other order.
 pub fn main() -> Result<(), Refusal> {
     let device = Model::new(&[], &[PcmInfo::output(1, 2).to_bytes()], &[])?;
     let mut queues = Prompt {
         device,
         completed: [].into(),
         heard: vec![],
+        swaps: false,
     };
     let (mut sound, mut ring, mut page) = (Sound::new(0, 1, 0), Ring::new(), Page::new());
+    let mut early = [None; 32];
     let to = Params {
         buffer: 8,
         period: 4,
@@ -105,12 +135,17 @@ pub fn main() -> Result<(), Refusal> {
         queues.control(request.bytes(), &mut page);
         step = sound.feed(&page)?;
     }
-    speak(&mut sound, &mut ring, &mut queues, 0, b"feeder one four", 5)?;
-    assert_eq!(queues.heard, b"feeder one four");
+    let words = b"feeder one four";
+    speak(&mut sound, &mut ring, &mut queues, &mut early, 0, words, 5)?;
+    assert_eq!(queues.heard, words);
     queues.heard.clear();
-    let cut_short = speak(&mut sound, &mut ring, &mut queues, 0, b"feeder one four", 2);
+    let cut_short = speak(&mut sound, &mut ring, &mut queues, &mut early, 0, words, 2);
     assert_eq!(cut_short, Err(Refusal::OutOfTurns));
     assert_eq!(queues.heard, b"feeder o");
-    assert_eq!(drain(&mut ring, &mut queues, 10), Ok(true));
+    assert_eq!(drain(&mut ring, &mut queues, &mut early, 10), Ok(true));
+    queues.swaps = true;
+    let confused = speak(&mut sound, &mut ring, &mut queues, &mut early, 0, words, 5);
+    assert_eq!((confused, ring.in_flight()?), (Err(Refusal::WrongToken), 2));
+    assert_eq!(drain(&mut ring, &mut queues, &mut early, 2), Ok(true));
     sound.pcm_stop(&ring, 0).map(|_request| ())
 }

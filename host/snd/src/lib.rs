@@ -60,9 +60,9 @@ pub use sound::Sound;
 pub use step::{Bits, ChannelRange, Message, Page, Step, StreamList, Value};
 
 /// The size of a state's store.
-pub const STATE_SIZE: usize = 14_304;
+pub const STATE_SIZE: usize = 14_320;
 /// The size of a ring's store.
-pub const RING_SIZE: usize = 592;
+pub const RING_SIZE: usize = 608;
 /// The size of a message buffer.
 pub const MESSAGE_SIZE: usize = 24;
 /// The size of a result.

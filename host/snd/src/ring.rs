@@ -12,7 +12,8 @@ pub enum Reading {
     Quiet,
     /// The device has completed a slot, with this status.
     Completed {
-        /// The slot that the device names. Any number is safe; one that is not the oldest in flight is [`Refusal::WrongToken`].
+        /// The slot that the device names. Any number is safe; one that is not the oldest in flight is [`Refusal::WrongToken`]. A queue
+        /// entry that names nothing you have out, as after a reset, is passed as `u32::MAX`.
         slot: u32,
         /// The status in the device's answer; 0x8000 is ok.
         status: u32,
@@ -34,7 +35,7 @@ impl Reading {
 pub enum Turn {
     /// It runs: another turn.
     Going,
-    /// It is over, with Ok: the device has accepted every period.
+    /// It is over, with Ok: the device has accepted every period. It may not have played them all yet: wait before a stop.
     Done,
 }
 
@@ -72,7 +73,8 @@ pub struct Carried {
 pub struct Ring<R = [u8; RING_SIZE]>(R);
 
 impl Ring {
-    /// A ring with nothing in flight.
+    /// A ring with nothing in flight. For a device that held periods, a reset and a new ring are not enough: see "After a reset" in
+    /// docs/HOST.md.
     #[must_use]
     pub fn new() -> Self {
         Self::new_in([0; RING_SIZE])
@@ -144,7 +146,8 @@ impl<R: BorrowMut<[u8; RING_SIZE]>> Ring<R> {
     }
 
     /// One turn. `frames` are those of the start, unchanged. [`Refusal::IoError`], [`Refusal::WrongToken`] and [`Refusal::OutOfTurns`] end
-    /// the transfer, and what is then in flight is owed: see [`Ring::drain_turn`].
+    /// the transfer, and what is then in flight is owed: see [`Ring::drain_turn`]. A reading that is refused with `WrongToken` frees
+    /// nothing, and is to be kept for the drain.
     pub fn turn(&mut self, frames: &[u8], reading: Reading) -> Result<Turn, Refusal> {
         let (kind, slot, status) = reading.numbers();
         match Said::of(ffi::snd_turn(self.store_mut(), frames, kind, slot, status)) {
@@ -155,7 +158,34 @@ impl<R: BorrowMut<[u8; RING_SIZE]>> Ring<R> {
         }
     }
 
-    /// After a transfer that failed: frees the oldest slot in flight, whatever its status, once the device has completed it.
+    /// After a transfer that failed: frees the oldest slot in flight, whatever its status, once the device has completed it. Another slot
+    /// is [`Refusal::WrongToken`] and frees none.
+    ///
+    /// A completion out of order is consumed by the turn or drain turn that refuses it. Its slot is owed for good, and every call is
+    /// [`Refusal::Busy`], unless you pass that completion again when its slot is [`Ring::oldest`]:
+    ///
+    /// ```
+    /// # use snd::{Format, Model, Page, Params, PcmInfo, Rate, Reading, Refusal, Ring, STATUS_OK, Sound, Step};
+    /// # let mut device = Model::new(&[], &[PcmInfo::output(1, 2).to_bytes()], &[])?;
+    /// # let (mut sound, mut ring, mut page) = (Sound::new(0, 1, 0), Ring::new(), Page::new());
+    /// # let to = Params { buffer: 8, period: 4, features: 0, channels: 2, format: Format::S16, rate: Rate::Hz48000 };
+    /// # let mut step = sound.pcm_set_params(&ring, 0, to)?;
+    /// # while let Step::Send(request) = step {
+    /// #     device.control(request.bytes(), &mut page)?;
+    /// #     step = sound.feed(&page)?;
+    /// # }
+    /// // periods of 4 bytes; the second comes back before the first
+    /// let frames = b"8 bytes.";
+    /// let (first, second) = (Reading::Completed { slot: 0, status: STATUS_OK }, Reading::Completed { slot: 1, status: STATUS_OK });
+    /// sound.pcm_xfer_start(&mut ring, 0, frames, 9)?;
+    /// ring.turn(frames, Reading::Quiet)?;
+    /// assert_eq!(ring.turn(frames, second), Err(Refusal::WrongToken));
+    /// ring.drain_turn(first)?;
+    /// assert_eq!(ring.oldest()?, Some(1)); // the device has no period left, and this slot is owed
+    /// ring.drain_turn(second)?;
+    /// assert_eq!(ring.oldest()?, None);
+    /// # Ok::<(), Refusal>(())
+    /// ```
     pub fn drain_turn(&mut self, reading: Reading) -> Result<(), Refusal> {
         let (kind, slot, status) = reading.numbers();
         Said::done(ffi::snd_drain_turn(self.store_mut(), kind, slot, status))

@@ -162,17 +162,18 @@ impl<S: BorrowMut<[u8; STATE_SIZE]>> Sound<S> {
         self.of_stream(ffi::snd_pcm_prepare, ring, stream)
     }
 
-    /// Releases a stream.
+    /// Releases a stream. Busy while a slot is in flight: a device may give such periods back with ok, unplayed.
     pub fn pcm_release(&mut self, ring: &Ring<impl Borrow<[u8; RING_SIZE]>>, stream: u32) -> Result<Step<()>, Refusal> {
         self.of_stream(ffi::snd_pcm_release, ring, stream)
     }
 
-    /// Starts a stream.
+    /// Starts a stream. A transfer comes after it: see [`Sound::pcm_xfer_start`].
     pub fn pcm_start(&mut self, ring: &Ring<impl Borrow<[u8; RING_SIZE]>>, stream: u32) -> Result<Step<()>, Refusal> {
         self.of_stream(ffi::snd_pcm_start, ring, stream)
     }
 
-    /// Stops a stream.
+    /// Stops a stream. What the device has accepted and not played yet may be kept back: after a transfer's Ok, wait as long as its buffer
+    /// lasts.
     pub fn pcm_stop(&mut self, ring: &Ring<impl Borrow<[u8; RING_SIZE]>>, stream: u32) -> Result<Step<()>, Refusal> {
         self.of_stream(ffi::snd_pcm_stop, ring, stream)
     }
@@ -251,6 +252,10 @@ impl<S: BorrowMut<[u8; STATE_SIZE]>> Sound<S> {
     /// call then ends with a refusal at a feed.
     ///
     /// n periods need no more than n·g + 1 turns from a device that completes one within any g turns.
+    ///
+    /// Start the stream first. Nothing here checks it, and a device may complete nothing of a stream that is only prepared: the budget is
+    /// then used up, ten slots are owed, and [`Sound::pcm_start`] and [`Sound::pcm_release`] are Busy. Let `frames` be whole frames of the
+    /// format: a device may never give back a last period that is none.
     pub fn pcm_xfer_start(
         &mut self,
         ring: &mut Ring<impl BorrowMut<[u8; RING_SIZE]>>,

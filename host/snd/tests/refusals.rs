@@ -85,6 +85,27 @@ fn invalid_param_1_for_garbage() {
 }
 
 #[test]
+fn invalid_param_1_for_a_reserved_byte() {
+    let good = Desk::with_transfer(b"frames", 9);
+    for at in 0..16 {
+        let mut state = *good.sound.store();
+        state[48 + at] = 1 << (at % 8);
+        let mut sound = Sound::over(state);
+        assert_eq!(sound.pcm_stop(&Ring::new(), 0), Err(Refusal::InvalidParam));
+        assert_eq!(sound.jacks(), Err(Refusal::InvalidParam));
+        assert_eq!(sound.store(), &state);
+        let mut store = *good.ring.store();
+        store[80 + at] = 1 << (at % 8);
+        let mut ring = Ring::over(store);
+        assert_eq!(ring.offered(b"frames"), Err(Refusal::InvalidParam));
+        assert_eq!(ring.turn(b"frames", OK), Err(Refusal::InvalidParam));
+        assert_eq!(ring.turn(b"", OK), Err(Refusal::BadLength));
+        assert_eq!(ring.running(), Err(Refusal::InvalidParam));
+        assert_eq!(ring.store(), &store);
+    }
+}
+
+#[test]
 fn io_error_2() {
     let mut desk = Desk::with_params();
     assert_eq!(

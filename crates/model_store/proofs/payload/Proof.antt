@@ -1,13 +1,10 @@
 -- `model_store::payload` meets its contract. Assumes nothing.
 use mathlib.Core.Path.{sym, ap, _∙_}
-use mathlib.Core.Bool.{true, false}
 use native.Mathlib.Omega.{arith}
 use Rattle.model.specs.Device.{withinOf}
 use Rattle.model.specs.TransferLaws.{plays-length}
-use Rattle.model_store.specs.Store.{deviceOf}
-use Rattle.model_store.specs.CallLaws.{short-store, short-result, long}
-use Rattle.model_store.specs.PlayLaws.{plays-by}
-use Rattle.model_store.specs.LookLaws.{seen, payload-short, payload-many, payload-part, payload-none}
+use Rattle.model_store.specs.ControlLaws.{short-store, short-result, long}
+use Rattle.model_store.specs.ReadsLaws.{plays-by, payload-short, payload-many, payload-part, payload-none}
 use borrow.Author.Needs.{needs}
 use Rattle.model_store.proofs.payload.Statement.{statement}
 use Rattle.model_store.proofs.payload.Tie as tie
@@ -17,20 +14,18 @@ returns c =
     let a = c .before .before .before .before .args in
     let s = a .device .now in
     let r = a .result .now in
-    seen (payload-short s (a .request .now) r (short-store s r (c .if1 .taken)))
+    payload-short s (a .request .now) r (short-store s r (c .if1 .taken))
 
 returns-2 : tie.Need-returns-2
 returns-2 c =
     let a = c .before .before .before .before .before .args in
     let s = a .device .now in
     let r = a .result .now in
-    seen (payload-short s (a .request .now) r (short-result s r (c .before .if1 .left) (c .if2 .taken)))
+    payload-short s (a .request .now) r (short-result s r (c .before .if1 .left) (c .if2 .taken))
 
 sub-n : tie.Need-sub-n
 sub-n c =
-    let a = c .before .before .before .before .before .before .before .before .before .before .args in
-    let s = a .device .now in
-    let h = plays-length (deviceOf s) (a .request .now) (plays-by s (a .request .now) _ (c .before .before .before .before .counts-at .ensures) true (sym (c .before .plays .ensures) ∙ c .if4 .taken)) in
+    let h = plays-length (c .before .before .before .before .counts-at .result) (c .before .before .before .before .before .before .before .before .before .before .args .request .now) (sym (c .before .plays .ensures) ∙ c .if4 .taken) in
     omega arith
 
 returns-3 : tie.Need-returns-3
@@ -41,8 +36,8 @@ returns-3 c =
     let r = a .result .now in
     let n = q .before .before .counts-at .ensures in
     let w = sym (q .before .within .ensures ∙ ap withinOf n) ∙ q .if3 .taken in
-    let t = plays-by s (a .request .now) _ n true (sym (c .before .before .before .before .before .plays .ensures) ∙ c .before .before .before .before .if4 .taken) in
-    seen (payload-part s (a .request .now) r (long s r (q .before .before .before .before .if1 .left) (q .before .before .before .if2 .left)) w _ t (c .before .before .put-part .ensures))
+    let t = plays-by s (a .request .now) _ n (c .before .before .before .before .before .plays .ensures) ∙ c .before .before .before .before .if4 .taken in
+    payload-part s (a .request .now) r (long s r (q .before .before .before .before .if1 .left) (q .before .before .before .if2 .left)) w _ t (c .before .before .put-part .ensures)
 
 returns-4 : tie.Need-returns-4
 returns-4 c =
@@ -52,8 +47,8 @@ returns-4 c =
     let r = a .result .now in
     let n = q .before .before .counts-at .ensures in
     let w = sym (q .before .within .ensures ∙ ap withinOf n) ∙ q .if3 .taken in
-    let t = plays-by s (a .request .now) _ n false (sym (c .before .before .before .before .before .plays .ensures) ∙ c .before .before .before .before .if4 .left) in
-    seen (payload-none s (a .request .now) r (long s r (q .before .before .before .before .if1 .left) (q .before .before .before .if2 .left)) w _ t (c .before .before .put-part2 .ensures))
+    let t = plays-by s (a .request .now) _ n (c .before .before .before .before .before .plays .ensures) ∙ c .before .before .before .before .if4 .left in
+    payload-none s (a .request .now) r (long s r (q .before .before .before .before .if1 .left) (q .before .before .before .if2 .left)) w _ t (c .before .before .put-part2 .ensures)
 
 returns-5 : tie.Need-returns-5
 returns-5 c =
@@ -61,22 +56,10 @@ returns-5 c =
     let s = a .device .now in
     let r = a .result .now in
     let w = sym (c .before .within .ensures ∙ ap withinOf (c .before .before .counts-at .ensures)) ∙ c .if3 .left in
-    seen (payload-many s (a .request .now) r (long s r (c .before .before .before .before .if1 .left) (c .before .before .before .if2 .left)) w)
+    payload-many s (a .request .now) r (long s r (c .before .before .before .before .if1 .left) (c .before .before .before .if2 .left)) w
 
 pub payload-spec : {M : Type 1} → statement M
 payload-spec =
     tie.close
-    (tie.spec
-    returns
-    returns-2
-    (λ c κs. search needs)
-    (λ c κs. search needs)
-    (λ c κs. search needs)
-    sub-n
-    (λ c κs. search needs)
-    (λ c. search needs)
-    returns-3
-    (λ c κs. search needs)
-    (λ c. search needs)
-    returns-4
-    returns-5)
+    (tie.spec returns returns-2 (λ c κs. search needs) (λ c κs. search needs) (λ c κs. search needs) sub-n (λ c κs. search needs) (λ c. search needs) returns-3
+    (λ c κs. search needs) (λ c. search needs) returns-4 returns-5)

@@ -6,12 +6,13 @@ use borrow.Author.Needs.{needs}
 use borrow.Author.Tests.{le-leb, lt-leb}
 use Rattle.codes.specs.SaysLaws.{passes, stops}
 use Rattle.turns.specs.declared.ring.Track.{Track}
+use Rattle.ring_store.specs.Store.{ringSize}
 use Rattle.state_store.specs.Calls.{callIn}
 use Rattle.console.proofs.calls.call.Statement.{statement}
 use Rattle.console.proofs.calls.call.Tie as tie
 
 returns : tie.Need-returns
-returns c = stops _ _ _ (lt-leb 592 (length (c .before .before .before .before .before .args .ring .now)) (omega (arith, c .if1 .taken))) refl
+returns c = stops _ _ _ (lt-leb ringSize (length (c .before .before .before .before .before .args .ring .now)) (omega (arith, c .if1 .taken))) refl
 
 returns-2 : tie.Need-returns-2
 returns-2 c =

@@ -5,7 +5,8 @@ use borrow.Author.Tests.{le-leb, lt-leb}
 use Rattle.codes.specs.SaysLaws.{stops}
 use Rattle.records.specs.Notice.{saysNotice}
 use Rattle.records.specs.declared.event.Notice.the-variants as notice
-use Rattle.console.specs.Entries.{shown, noticeEntry}
+use Rattle.layout.specs.Lent.{shown}
+use Rattle.console.specs.Entries.{noticeEntry}
 use Rattle.console.specs.EntryLaws.{two-put, noticed-is}
 use Rattle.console.proofs.event.snd_latest_notification.Statement.{statement}
 use Rattle.console.proofs.event.snd_latest_notification.Tie as tie

@@ -26,7 +26,7 @@ returns-3 c =
     let o = b .before .before .before .before .before .before .before .before .before in
     let t = o .before .before .before in
     let a = t .before .before .before .before .before .before .before .args in
-    (λ i. began (b .start .ensures .0 i) (o .«open» .last .0) (b .start .ensures .1 i) (o .«open» .last .1 .1 .1 .0))
+    (λ i. began (b .start .ensures i .answer) (o .«open» .last .0) (b .start .ensures i .store) (o .«open» .last .1 .1 .1 .0))
     ∙ started (a .state .now) (a .ring .now) (a .stream) _ (a .budget) (a .message .now) (λ k. (t .before .before .before .before .before .before .slice-known .given k) .fits) (le-leb _ _ (t .before .before .if1 .left))
     (opening.Open _) _ (o .«open» .last .0) (o .«open» .last .1 .1 .1 .0) _ (b .before .before .before .opening2 .given .1) (t .track .ensures) (o .«open» .ensures)
 

@@ -4,8 +4,8 @@ use mathlib.Core.Path.{refl, ap, _∙_}
 use lib.ListN.{length}
 use borrow.Author.Needs.{needs}
 use borrow.Author.Tests.{le-leb, lt-leb}
-use Rattle.exchange.specs.StepLaws.{moved}
-use Rattle.exchange.specs.Plan.{beginOf}
+use Rattle.exchange.specs.StepLaws.{stepped, moved}
+use Rattle.core.specs.Plan.{beginOf}
 use Rattle.exchange.specs.Exchange.{callOf}
 use Rattle.codes.specs.SaysLaws.{passes, stops}
 use Rattle.exchange.proofs.calls.call.Statement.{statement}
@@ -17,7 +17,7 @@ returns c =
     let a = c .before .before .before .args in
     moved (callOf (a .s) (a .ring .track) (a .asked) (length (a .message .now))) (a .s) [] (a .message .now)
     (stops _ _ _ (lt-leb _ _ (c .before .if1 .taken)) refl)
-    (c .bad-length .ensures, refl)
+    (stepped (c .bad-length .ensures) refl)
 
 returns-2 : tie.Need-returns-2
 unfolding callOf

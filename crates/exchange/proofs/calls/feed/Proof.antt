@@ -3,8 +3,8 @@ use mathlib.Core.Path.{refl, _∙_}
 use lib.ListN.{length}
 use borrow.Author.Needs.{needs}
 use borrow.Author.Tests.{eq-eqb, ne-eqb, le-leb, lt-leb}
-use Rattle.exchange.specs.StepLaws.{moved}
-use Rattle.exchange.specs.Plan.{answerOf}
+use Rattle.exchange.specs.StepLaws.{stepped, moved}
+use Rattle.core.specs.Plan.{answerOf}
 use Rattle.exchange.specs.Exchange.{feedOf}
 use Rattle.codes.specs.SaysLaws.{passes, stops}
 use Rattle.exchange.proofs.calls.feed.Statement.{statement}
@@ -16,7 +16,7 @@ returns c =
     let a = c .before .before .before .before .args in
     moved (feedOf (a .s) (a .page .now) (length (a .message .now))) (a .s) (a .page .now) (a .message .now)
     (stops _ _ _ (simp (ne-eqb _ _ (c .before .if1 .taken))) refl)
-    (c .bad-length .ensures, refl)
+    (stepped (c .bad-length .ensures) refl)
 
 returns-2 : tie.Need-returns-2
 unfolding feedOf
@@ -24,7 +24,7 @@ returns-2 c =
     let a = c .before .before .before .before .before .args in
     moved (feedOf (a .s) (a .page .now) (length (a .message .now))) (a .s) (a .page .now) (a .message .now)
     (stops _ _ _ (simp (eq-eqb _ _ (c .before .before .if1 .left), lt-leb _ _ (c .before .if2 .taken))) refl)
-    (c .bad-length2 .ensures, refl)
+    (stepped (c .bad-length2 .ensures) refl)
 
 returns-3 : tie.Need-returns-3
 unfolding feedOf

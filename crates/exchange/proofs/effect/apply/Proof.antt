@@ -7,16 +7,16 @@ returns : tie.Need-returns
 returns c = rw (c .before .before .before .before .enum-told .given .1)
 
 returns-2 : tie.Need-returns-2
-returns-2 c = rw (c .before .before .before .before .before .before .enum-told2 .given .1) (simp (c .before .before .before .before .read-jacks .ensures))
+returns-2 c = rw (c .before .before .before .before .before .before .effect .given .1) (simp (c .before .before .before .read-jacks .ensures))
 
 returns-3 : tie.Need-returns-3
-returns-3 c = rw (c .before .before .before .before .before .before .enum-told3 .given .1) (simp (c .before .before .before .before .read-streams .ensures))
+returns-3 c = rw (c .before .before .before .before .before .before .effect2 .given .1) (simp (c .before .before .before .read-streams .ensures))
 
 returns-4 : tie.Need-returns-4
-returns-4 c = rw (c .before .before .before .before .before .before .enum-told4 .given .1) (simp (c .before .before .before .before .read-maps .ensures))
+returns-4 c = rw (c .before .before .before .before .before .before .effect3 .given .1) (simp (c .before .before .before .read-maps .ensures))
 
 returns-5 : tie.Need-returns-5
-returns-5 c = rw (c .before .before .before .before .before .before .effect .given .1) (simp (c .before .before .before .store .ensures))
+returns-5 c = rw (c .before .before .before .before .before .before .effect4 .given .1) (simp (c .before .before .before .store .ensures))
 
 pub apply-spec : {M : Type 1} → statement M
 apply-spec =

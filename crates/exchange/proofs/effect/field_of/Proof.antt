@@ -3,8 +3,17 @@ use borrow.Author.Needs.{needs}
 use Rattle.exchange.proofs.effect.field_of.Statement.{statement}
 use Rattle.exchange.proofs.effect.field_of.Tie as tie
 
+returns : tie.Need-returns
+returns c = rw (c .enum-told .given .1)
+
+returns-2 : tie.Need-returns-2
+returns-2 c = rw (c .enum-told2 .given .1)
+
 returns-3 : tie.Need-returns-3
-returns-3 c = rw (c .before .before .enum-told3 .given .1)
+returns-3 c = rw (c .enum-told3 .given .1)
+
+returns-4 : tie.Need-returns-4
+returns-4 c = rw (c .before .enum-told4 .given .1)
 
 pub field-of-spec : {M : Type 1} → statement M
 field-of-spec =
@@ -15,11 +24,7 @@ field-of-spec =
     (λ c. search needs)
     (λ c. search needs)
     (λ c. search needs)
-    (λ c. search needs)
-    (λ c. search needs)
-    (λ c. search needs)
-    (λ c. search needs)
-    (λ c. search needs)
-    (λ c. search needs)
+    returns
+    returns-2
     returns-3
-    (λ c. search needs))
+    returns-4)

@@ -4,7 +4,7 @@ use Rattle.exchange.proofs.effect.look.Statement.{statement}
 use Rattle.exchange.proofs.effect.look.Tie as tie
 
 returns-3 : tie.Need-returns-3
-returns-3 c = rw (c .before .before .before .call .given .1) (simp (c .before .jack-of .ensures))
+returns-3 c = rw (c .before .before .call .given .1) (simp (c .jack-of .ensures))
 
 returns-5 : tie.Need-returns-5
 returns-5 c = rw (c .before .before .before .call2 .given .1) (simp (c .field-of .ensures, c .before .pcm-of .ensures))
@@ -17,7 +17,6 @@ look-spec =
     (λ c. search needs)
     (λ c. search needs)
     (λ c κs. search needs)
-    (λ c. search needs)
     (λ c. search needs)
     (λ c. search needs)
     (λ c κs. search needs)

@@ -4,7 +4,7 @@ use Prim.Native.Nat.{_≤_}
 use native.Mathlib.Omega.{arith}
 use lib.ListN.{length, List·getD-eq-default}
 use borrow.Author.Needs.{needs}
-use Rattle.exchange.specs.State.{unset}
+use Rattle.core.specs.State.{unset}
 use Rattle.exchange.proofs.effect.params_at.Statement.{statement}
 use Rattle.exchange.proofs.effect.params_at.Tie as tie
 

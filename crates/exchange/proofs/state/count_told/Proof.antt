@@ -2,7 +2,7 @@
 use borrow.Author.Needs.{needs}
 use mathlib.Core.Path.{refl}
 use Rattle.codes.specs.SaysLaws.{passes, stops}
-use Rattle.turns.specs.CallLaws.{passed, failed}
+use Rattle.codes.specs.SaysLaws.{passed, failed}
 use Rattle.exchange.proofs.state.count_told.Statement.{statement}
 use Rattle.exchange.proofs.state.count_told.Tie as tie
 

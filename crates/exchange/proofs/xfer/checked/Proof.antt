@@ -1,9 +1,9 @@
 -- `exchange::xfer::checked` meets its contract: the checks, with the stream's parameters. Assumes nothing.
 use mathlib.Core.Path.{ap, _∙_}
 use borrow.Author.Needs.{needs}
-use Rattle.exchange.specs.Xfer.{gateBy}
-use Rattle.exchange.specs.declared.state.Params.{Params}
-use Rattle.exchange.specs.declared.xfer.Gate.the-variants.{Shut, SetUp, Open}
+use Rattle.core.specs.Gate.{gateBy}
+use Rattle.core.specs.declared.state.Params.{Params}
+use Rattle.core.specs.declared.gate.Gate.the-variants.{Shut, SetUp, Open}
 use Rattle.exchange.proofs.xfer.checked.Statement.{statement}
 use Rattle.exchange.proofs.xfer.checked.Tie as tie
 

@@ -2,7 +2,7 @@
 use mathlib.Core.Path.{refl, sym, _∙_}
 use borrow.Author.Needs.{needs}
 use borrow.Author.Tests.{leb-true}
-use Rattle.exchange.specs.StepLaws.{set-up-long, started-by, replied}
+use Rattle.exchange.specs.StepLaws.{set-up-long, started-by, start-says, replied}
 use Rattle.exchange.proofs.xfer.pcm_xfer_start.Statement.{statement}
 use Rattle.exchange.proofs.xfer.pcm_xfer_start.Tie as tie
 
@@ -13,19 +13,19 @@ returns : tie.Need-returns
 returns c =
     let a = c .before .before .before .before .before .before .before .args in
     replied (a .s) (a .stream) (a .message .now) (c .refused .ensures)
-    (started-by (a .s) (a .ring) (a .stream) _ (a .budget) _ _ (sym (c .before .before .outcome .given .1) ∙ c .before .before .before .before .checked .ensures)) refl
+    (started-by (a .s) (a .ring) (a .stream) _ (a .budget) _ _ (sym (c .before .before .outcome .given .1) ∙ c .before .before .before .before .checked .ensures)) (start-says (a .s) (a .ring) (a .stream) _ (a .budget) _) refl
 
 returns-2 : tie.Need-returns-2
 returns-2 c =
     let a = c .before .before .before .before .before .before .before .before .before .args in
     replied (a .s) (a .stream) (a .message .now) (c .before .before .set-up .ensures .0)
-    (started-by (a .s) (a .ring) (a .stream) _ (a .budget) _ _ (sym (c .before .before .before .before .enum-told .given .1) ∙ c .before .before .before .before .before .before .checked .ensures)) (c .before .before .set-up .ensures .1)
+    (started-by (a .s) (a .ring) (a .stream) _ (a .budget) _ _ (sym (c .before .before .before .before .enum-told .given .1) ∙ c .before .before .before .before .before .before .checked .ensures)) (start-says (a .s) (a .ring) (a .stream) _ (a .budget) _) (c .before .before .set-up .ensures .1)
 
 returns-3 : tie.Need-returns-3
 returns-3 c =
     let a = c .before .before .before .before .before .before .before .before .args in
     replied (a .s) (a .stream) (a .message .now) (simp (c .started .ensures, c .before .start .ensures))
-    (started-by (a .s) (a .ring) (a .stream) _ (a .budget) _ _ (sym (c .before .before .before .outcome2 .given .1) ∙ c .before .before .before .before .before .checked .ensures)) refl
+    (started-by (a .s) (a .ring) (a .stream) _ (a .budget) _ _ (sym (c .before .before .before .outcome2 .given .1) ∙ c .before .before .before .before .before .checked .ensures)) (start-says (a .s) (a .ring) (a .stream) _ (a .budget) _) refl
 
 pub pcm-xfer-start-spec : {M : Type 1} → statement M
 pcm-xfer-start-spec =

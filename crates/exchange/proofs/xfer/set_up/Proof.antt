@@ -1,10 +1,14 @@
 -- `exchange::xfer::set_up` meets its contract. Assumes nothing.
+use mathlib.Core.Path.{_∙_}
 use borrow.Author.Needs.{needs}
+use Rattle.core.specs.ReplyLaws.{tells-message}
 use Rattle.exchange.proofs.xfer.set_up.Statement.{statement}
 use Rattle.exchange.proofs.xfer.set_up.Tie as tie
 
 returns : tie.Need-returns
-returns c = (simp (c .before .before .before .before .before .before .before .before .before .ask-jacks .ensures), simp (c .before .before .before .before .before .before .put .ensures .1, c .before .before .before .before .before .before .before .before .before .ask-jacks .ensures))
+returns c =
+    let a = c .before .before .before .before .before .before .before .before .before .ask-jacks .ensures in
+    (simp a, simp (c .before .before .before .before .before .before .tell .ensures .1 ∙ tells-message (c .before .before .before .before .before .before .before .before .before .ask-jacks .result .say) (c .before .before .before .before .before .before .before .before .before .before .before .args .message .now) (c .before .before .before .before .before .before .before .before .before .before .before .pre), a))
 
 pub set-up-spec : {M : Type 1} → statement M
 set-up-spec = tie.close (tie.spec (λ c κs. search needs) (λ c κs. search needs) (λ c. search needs) returns)

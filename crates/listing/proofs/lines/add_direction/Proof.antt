@@ -21,15 +21,4 @@ returns-3 c =
     simp (ne-eqb _ _ (h .0 .1), ne-eqb _ _ (h .1)) (c .add3 .ensures, omega arith)
 
 pub add-direction-spec : {M : Type 1} → statement M
-add-direction-spec =
-    tie.close
-    (tie.spec
-    (λ c. search needs)
-    (λ c κs. search needs)
-    (λ c. search needs)
-    (λ c κs. search needs)
-    (λ c. search needs)
-    (λ c κs. search needs)
-    returns
-    returns-2
-    returns-3)
+add-direction-spec = tie.close (tie.spec (λ c. search needs) (λ c κs. search needs) (λ c. search needs) (λ c κs. search needs) (λ c. search needs) (λ c κs. search needs) returns returns-2 returns-3)

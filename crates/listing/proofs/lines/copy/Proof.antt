@@ -32,17 +32,4 @@ returns c =
     c .before .loop .inv .1 ∙ ap (sets (a .out .now) (a .at)) (take-all (c .before .loop .i) (a .word .now) (omega arith))
 
 pub copy-spec : {M : Type 1} → statement M
-copy-spec =
-    tie.close
-    (tie.spec
-    Inv-loop
-    μ-loop
-    (λ c. (omega arith, refl))
-    (λ c. omega arith)
-    (λ c. omega arith)
-    slice-write-out
-    (λ c. omega arith)
-    (λ c. omega arith)
-    loop-again
-    same-length
-    returns)
+copy-spec = tie.close (tie.spec Inv-loop μ-loop (λ c. (omega arith, refl)) (λ c. omega arith) (λ c. omega arith) slice-write-out (λ c. omega arith) (λ c. omega arith) loop-again same-length returns)

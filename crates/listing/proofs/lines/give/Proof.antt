@@ -37,12 +37,4 @@ returns-2 c =
     rw (c .before .before .copy .ensures) (given (textOf (a .t)) (a .out .now) (a .t .len) (len (a .t) (search needs) (search needs)) (omega arith))
 
 pub give-spec : {M : Type 1} → statement M
-give-spec =
-    tie.close
-    (tie.spec
-    returns
-    array-share-prefix-bytes
-    slice-aggregate-copy
-    copy-requires
-    (λ c. search needs)
-    returns-2)
+give-spec = tie.close (tie.spec returns array-share-prefix-bytes slice-aggregate-copy copy-requires (λ c. search needs) returns-2)

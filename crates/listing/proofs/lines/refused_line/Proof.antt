@@ -1,7 +1,7 @@
 -- `listing::lines::refused_line` meets its contract: its parts in their order. Assumes nothing.
 use borrow.Author.Needs.{needs}
 use native.Mathlib.Omega.{arith}
-use Rattle.listing.specs.ListingLaws.{refusal-small}
+use Rattle.codes.specs.AnswersLaws.{numbered}
 use Rattle.listing.specs.TextLaws.{adds-then, adds-all, gives}
 use Rattle.listing.proofs.lines.refused_line.Statement.{statement}
 use Rattle.listing.proofs.lines.refused_line.Tie as tie
@@ -9,7 +9,7 @@ use Rattle.listing.proofs.lines.refused_line.Tie as tie
 cast-add-decimal : tie.Need-cast-add-decimal
 cast-add-decimal c =
     let n = c .before .before .before in
-    omega (arith, n .number .ensures, refusal-small (n .before .before .args .r))
+    omega (arith, n .number .ensures, numbered (n .before .before .args .r) .small)
 
 returns : tie.Need-returns
 returns c =
@@ -25,15 +25,5 @@ returns c =
 pub refused-line-spec : {M : Type 1} → statement M
 refused-line-spec =
     tie.close
-    (tie.spec
-    (λ c κs. search needs)
-    (λ c κs. search needs)
-    (λ c. search needs)
-    (λ c κs. search needs)
-    cast-add-decimal
-    (λ c κs. search needs)
-    (λ c. search needs)
-    (λ c κs. search needs)
-    (λ c κs. search needs)
-    (λ c. search needs)
-    returns)
+    (tie.spec (λ c κs. search needs) (λ c κs. search needs) (λ c. search needs) (λ c κs. search needs) cast-add-decimal (λ c κs. search needs) (λ c. search needs)
+    (λ c κs. search needs) (λ c κs. search needs) (λ c. search needs) returns)

@@ -19,40 +19,14 @@ maps-requires c κs = (search needs, few-maps (c .before .before .before .before
 pub answer-spec : {M : Type 1} → statement M
 answer-spec =
     tie.close
-    (tie.spec
-    (λ c. search needs)
-    jacks-requires
-    (λ c. search needs)
-    (λ c κs. search needs)
-    (λ c. search needs)
-    pcms-requires
-    (λ c. search needs)
-    setting-requires
-    (λ c. search needs)
-    (λ c κs. search needs)
-    (λ c. search needs)
-    (λ c κs. search needs)
-    (λ c. search needs)
-    (λ c κs. search needs)
-    (λ c. search needs)
-    (λ c κs. search needs)
-    (λ c. search needs)
-    maps-requires
-    (λ c. search needs)
-    (λ c. rw (c .before .before .before .before .enum-told .given .1) (c .before .before .jacks .ensures))
-    (λ c. search needs)
-    (λ c. rw (c .before .before .before .before .enum-told2 .given .1) (c .before .before .tell .ensures))
-    (λ c. search needs)
-    (λ c. rw (c .before .before .before .before .enum-told3 .given .1) (c .before .before .pcms .ensures))
-    (λ c. search needs)
-    (λ c. rw (c .before .before .before .before .enum-told4 .given .1) (c .before .before .setting .ensures))
-    (λ c. search needs)
-    (λ c. rw (c .before .before .before .before .enum-told5 .given .1) (c .before .before .command .ensures))
-    (λ c. search needs)
-    (λ c. rw (c .before .before .before .before .enum-told6 .given .1) (c .before .before .command2 .ensures))
-    (λ c. search needs)
-    (λ c. rw (c .before .before .before .before .enum-told7 .given .1) (c .before .before .command3 .ensures))
-    (λ c. search needs)
-    (λ c. rw (c .before .before .before .before .enum-told8 .given .1) (c .before .before .command4 .ensures))
-    (λ c. search needs)
+    (tie.spec (λ c. search needs) jacks-requires (λ c. search needs) (λ c κs. search needs) (λ c. search needs) pcms-requires (λ c. search needs) setting-requires
+    (λ c. search needs) (λ c κs. search needs) (λ c. search needs) (λ c κs. search needs) (λ c. search needs) (λ c κs. search needs) (λ c. search needs) (λ c κs. search needs)
+    (λ c. search needs) maps-requires (λ c. search needs) (λ c. rw (c .before .before .before .before .enum-told .given .1) (c .before .before .jacks .ensures)) (λ c. search needs)
+    (λ c. rw (c .before .before .before .before .enum-told2 .given .1) (c .before .before .tell .ensures)) (λ c. search needs)
+    (λ c. rw (c .before .before .before .before .enum-told3 .given .1) (c .before .before .pcms .ensures)) (λ c. search needs)
+    (λ c. rw (c .before .before .before .before .enum-told4 .given .1) (c .before .before .setting .ensures)) (λ c. search needs)
+    (λ c. rw (c .before .before .before .before .enum-told5 .given .1) (c .before .before .command .ensures)) (λ c. search needs)
+    (λ c. rw (c .before .before .before .before .enum-told6 .given .1) (c .before .before .command2 .ensures)) (λ c. search needs)
+    (λ c. rw (c .before .before .before .before .enum-told7 .given .1) (c .before .before .command3 .ensures)) (λ c. search needs)
+    (λ c. rw (c .before .before .before .before .enum-told8 .given .1) (c .before .before .command4 .ensures)) (λ c. search needs)
     (λ c. rw (c .before .before .before .before .enum-told9 .given .1) (c .before .before .maps .ensures)))

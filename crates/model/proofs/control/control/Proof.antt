@@ -2,30 +2,25 @@
 use mathlib.Core.Path.{refl, sym, _∙_}
 use borrow.Author.Needs.{needs}
 use borrow.Author.Tests.{eq-eqb, ne-eqb}
-use Rattle.codes.specs.SaysLaws.{picks, skips, passes, stops}
-use Rattle.model.specs.DeviceLaws.{passed, stopped}
-use Rattle.model.specs.Control.{controlOf, pageAfter}
+use Rattle.codes.specs.SaysLaws.{passes, stops}
+use Rattle.model.specs.Device.{pageSize}
+use Rattle.model.specs.Control.{controlOf}
 use Rattle.model.proofs.control.control.Statement.{statement}
 use Rattle.model.proofs.control.control.Tie as tie
 
 returns : tie.Need-returns
-unfolding controlOf pageAfter
-returns c = let n = ne-eqb _ 4096 (c .if1 .taken) in (stops _ _ _ n refl, sym (skips _ _ _ (stopped _ _ n)))
+unfolding controlOf
+returns c = stops _ _ _ (ne-eqb _ pageSize (c .if1 .taken)) refl
 
 returns-2 : tie.Need-returns-2
-unfolding controlOf pageAfter
+unfolding controlOf
 returns-2 c =
-    let g = c .before .before .outcome .ensures in
-    let n = eq-eqb _ 4096 (c .before .before .before .before .before .before .before .if1 .left) in
-    let w = sym (c .before .before .before .before .before .within .ensures) ∙ c .before .before .before .before .if2 .taken in
-    (passes _ _ _ n (passes _ _ _ w (g .answered)), g .written ∙ sym (picks _ _ _ (passed _ _ n ∙ w)))
+    passes _ _ _ (eq-eqb _ pageSize (c .before .before .before .before .before .before .before .if1 .left))
+    (passes _ _ _ (sym (c .before .before .before .before .before .within .ensures) ∙ c .before .before .before .before .if2 .taken) (c .before .before .outcome .ensures))
 
 returns-3 : tie.Need-returns-3
-unfolding controlOf pageAfter
-returns-3 c =
-    let n = eq-eqb _ 4096 (c .before .before .before .if1 .left) in
-    let w = sym (c .before .within .ensures) ∙ c .if2 .left in
-    (passes _ _ _ n (stops _ _ _ w refl), sym (skips _ _ _ (passed _ _ n ∙ w)))
+unfolding controlOf
+returns-3 c = passes _ _ _ (eq-eqb _ pageSize (c .before .before .before .if1 .left)) (stops _ _ _ (sym (c .before .within .ensures) ∙ c .if2 .left) refl)
 
 -- the page has its length, and the counts are within
 outcome-requires : tie.Need-outcome-requires

@@ -7,6 +7,8 @@ use borrow.Author.Needs.{needs}
 use lib.ListN.{length, drop, length-drop}
 use lib.Seq.{take-all}
 use Rattle.codes.specs.SaysLaws.{picks, skips}
+use Rattle.layout.specs.Layout.{size}
+use Rattle.records.specs.Records.{transfer}
 use Rattle.model.specs.TransferLaws.{plays-length}
 use Rattle.model.proofs.transfer.payload.Statement.{statement}
 use Rattle.model.proofs.transfer.payload.Tie as tie
@@ -14,19 +16,19 @@ use Rattle.model.proofs.transfer.payload.Tie as tie
 sub-result : tie.Need-sub-result
 sub-result c =
     let a = c .before .before .before .before .args in
-    let h = plays-length (a .d) (a .request .now) (sym (c .before .plays .ensures) ∙ c .if1 .taken) in
+    let h = plays-length (a .d .counts) (a .request .now) (sym (c .before .plays .ensures) ∙ c .if1 .taken) in
     omega arith
 
 part-result-start : tie.Need-part-result-start
 part-result-start c =
     let a = c .before .before .before .before .args in
-    let h = plays-length (a .d) (a .request .now) (sym (c .before .plays .ensures) ∙ c .if1 .taken) in
+    let h = plays-length (a .d .counts) (a .request .now) (sym (c .before .plays .ensures) ∙ c .if1 .taken) in
     omega arith
 
 returns : tie.Need-returns
 returns c =
     let s = c .before .before .before .before .before .args .request .now in
-    take-all (length s - 4) (drop 4 s) (simp length-drop (le-refl (length s - 4))) ∙ sym (picks _ _ _ (sym (c .before .before .plays .ensures) ∙ c .before .if1 .taken))
+    take-all (length s - size transfer) (drop (size transfer) s) (simp length-drop (le-refl (length s - size transfer))) ∙ sym (picks _ _ _ (sym (c .before .before .plays .ensures) ∙ c .before .if1 .taken))
 
 returns-2 : tie.Need-returns-2
 returns-2 c = sym (skips _ _ _ (sym (c .before .before .plays .ensures) ∙ c .before .if1 .left))

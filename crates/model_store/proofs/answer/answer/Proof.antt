@@ -4,7 +4,7 @@ use native.Mathlib.Omega.{arith}
 use Rattle.layout.specs.Bytes.{le, Bytes}
 use Rattle.model.specs.DeviceLaws.{few-jacks, few-streams, few-maps}
 use Rattle.model.specs.Control.{bad}
-use Rattle.model.specs.declared.device.Counts.{Counts}
+use Rattle.model_store.specs.Types.{Counts}
 use Rattle.model_store.specs.Store.{deviceOf}
 use Rattle.model_store.specs.AnswerLaws.{unchanged, jacks-place, pcms-place, maps-place, command-place}
 use borrow.Author.Needs.{needs}
@@ -78,44 +78,8 @@ returns-9 c =
 pub answer-spec : {M : Type 1} → statement M
 answer-spec =
     tie.close
-    (tie.spec
-    (λ c. search needs)
-    rows-requires
-    (λ c. search needs)
-    (λ c κs. search needs)
-    (λ c. search needs)
-    rows-requires-2
-    (λ c. search needs)
-    setting-requires
-    (λ c. search needs)
-    (λ c κs. search needs)
-    (λ c. search needs)
-    (λ c κs. search needs)
-    (λ c. search needs)
-    (λ c κs. search needs)
-    (λ c. search needs)
-    (λ c κs. search needs)
-    (λ c. search needs)
-    rows-requires-3
-    (λ c. search needs)
-    (λ c. search needs)
-    returns
-    (λ c. search needs)
-    returns-2
-    (λ c. search needs)
-    (λ c. search needs)
-    returns-3
-    (λ c. search needs)
-    (λ c. search needs)
-    returns-4
-    (λ c. search needs)
-    returns-5
-    (λ c. search needs)
-    returns-6
-    (λ c. search needs)
-    returns-7
-    (λ c. search needs)
-    returns-8
-    (λ c. search needs)
-    (λ c. search needs)
-    returns-9)
+    (tie.spec (λ c. search needs) rows-requires (λ c. search needs) (λ c κs. search needs) (λ c. search needs) rows-requires-2 (λ c. search needs) setting-requires
+    (λ c. search needs) (λ c κs. search needs) (λ c. search needs) (λ c κs. search needs) (λ c. search needs) (λ c κs. search needs) (λ c. search needs) (λ c κs. search needs)
+    (λ c. search needs) rows-requires-3 (λ c. search needs) (λ c. search needs) returns (λ c. search needs) returns-2 (λ c. search needs) (λ c. search needs) returns-3
+    (λ c. search needs) (λ c. search needs) returns-4 (λ c. search needs) returns-5 (λ c. search needs) returns-6 (λ c. search needs) returns-7 (λ c. search needs) returns-8
+    (λ c. search needs) (λ c. search needs) returns-9)

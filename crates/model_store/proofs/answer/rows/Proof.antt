@@ -1,8 +1,8 @@
 -- `model_store::answer::rows` meets its contract: the range is within the table, so its bytes are within the store. Assumes nothing.
-use mathlib.Core.Path.{sym, _∙_}
+use mathlib.Core.Path.{sym, ap, _∙_}
 use native.Mathlib.Omega.{arith}
-use Rattle.model.specs.declared.control.Range.the-variants.{Of, Bad}
-use Rattle.model_store.specs.AnswerLaws.{range-room, range-by, range-laid}
+use Rattle.model.specs.Control.{saysRange}
+use Rattle.model_store.specs.AnswerLaws.{range-room, range-bad, range-laid}
 use borrow.Author.Needs.{needs}
 use Rattle.model_store.proofs.answer.rows.Statement.{statement}
 use Rattle.model_store.proofs.answer.rows.Tie as tie
@@ -10,7 +10,7 @@ use Rattle.model_store.proofs.answer.rows.Tie as tie
 returns : tie.Need-returns
 returns c =
     let a = c .before .before .before .before .before .before .before .before .before .before .args in
-    range-by (a .device .now) (a .request .now) (a .page .now) _ _ (a .size) (a .n) (a .place) Bad (sym (c .before .before .before .before .enum-told .given .1) ∙ c .before .before .before .before .before .before .asked .ensures) (c .before .before .tell .ensures)
+    range-bad (a .request .now) (a .size) (a .n) (a .place) (a .device .now) (a .page .now) _ _ (sym (ap saysRange (c .before .before .before .before .enum-told .given .1)) ∙ c .before .before .before .before .before .before .asked .ensures) (c .before .before .tell .ensures)
 
 mul-bytes : tie.Need-mul-bytes
 mul-bytes c =
@@ -18,7 +18,7 @@ mul-bytes c =
     let z = q .before .before .before .before .before .before in
     let a = z .args in
     let r = q .start .given in
-    let h = range-room (a .request .now) (a .size) (a .n) (r .0 .0) (r .0 .1 .0) (sym (r .1) ∙ q .before .before .asked .ensures) in
+    let h = range-room (a .request .now) (a .size) (a .n) (r .0 .0) (r .0 .1 .0) (sym (ap saysRange (r .1)) ∙ q .before .before .asked .ensures) in
     omega (arith, z .pre .1)
 
 mul-copy : tie.Need-mul-copy
@@ -27,7 +27,7 @@ mul-copy c =
     let z = q .before .before .before .before .before .before in
     let a = z .args in
     let r = q .start .given in
-    let h = range-room (a .request .now) (a .size) (a .n) (r .0 .0) (r .0 .1 .0) (sym (r .1) ∙ q .before .before .asked .ensures) in
+    let h = range-room (a .request .now) (a .size) (a .n) (r .0 .0) (r .0 .1 .0) (sym (ap saysRange (r .1)) ∙ q .before .before .asked .ensures) in
     omega (arith, z .pre .1)
 
 add-copy : tie.Need-add-copy
@@ -36,7 +36,7 @@ add-copy c =
     let z = q .before .before .before .before .before .before in
     let a = z .args in
     let r = q .start .given in
-    let h = range-room (a .request .now) (a .size) (a .n) (r .0 .0) (r .0 .1 .0) (sym (r .1) ∙ q .before .before .asked .ensures) in
+    let h = range-room (a .request .now) (a .size) (a .n) (r .0 .0) (r .0 .1 .0) (sym (ap saysRange (r .1)) ∙ q .before .before .asked .ensures) in
     omega (arith, z .pre .2)
 
 copy-requires : tie.Need-copy-requires
@@ -45,7 +45,7 @@ copy-requires c κs =
     let z = q .before .before .before .before .before .before in
     let a = z .args in
     let r = q .start .given in
-    let h = range-room (a .request .now) (a .size) (a .n) (r .0 .0) (r .0 .1 .0) (sym (r .1) ∙ q .before .before .asked .ensures) in
+    let h = range-room (a .request .now) (a .size) (a .n) (r .0 .0) (r .0 .1 .0) (sym (ap saysRange (r .1)) ∙ q .before .before .asked .ensures) in
     (omega (arith, z .pre .1), omega (arith, z .pre .2))
 
 add-result : tie.Need-add-result
@@ -54,7 +54,7 @@ add-result c =
     let z = q .before .before .before .before .before .before in
     let a = z .args in
     let r = q .start .given in
-    let h = range-room (a .request .now) (a .size) (a .n) (r .0 .0) (r .0 .1 .0) (sym (r .1) ∙ q .before .before .asked .ensures) in
+    let h = range-room (a .request .now) (a .size) (a .n) (r .0 .0) (r .0 .1 .0) (sym (ap saysRange (r .1)) ∙ q .before .before .asked .ensures) in
     omega (arith, z .pre .1)
 
 returns-2 : tie.Need-returns-2
@@ -63,26 +63,12 @@ returns-2 c =
     let z = q .before .before .before .before .before .before in
     let a = z .args in
     let r = q .start .given in
-    let e = sym (r .1) ∙ q .before .before .asked .ensures in
+    let e = sym (ap saysRange (r .1)) ∙ q .before .before .asked .ensures in
     let h = range-room (a .request .now) (a .size) (a .n) (r .0 .0) (r .0 .1 .0) e in
-    range-by (a .device .now) (a .request .now) (a .page .now) _ _ (a .size) (a .n) (a .place) (Of (r .0 .0) (r .0 .1 .0)) e
-    (range-laid (a .device .now) (a .page .now) _ _ (a .place) (r .0 .0) (r .0 .1 .0) (a .size) (omega (arith, z .pre .1)) (c .before .before .before .before .before .before .put-u32 .ensures) (c .before .before .copy .ensures))
+    range-laid (a .request .now) (a .size) (a .n) (a .place) (a .device .now) (a .page .now) _ (r .0 .0) (r .0 .1 .0) e (omega (arith, z .pre .1)) _ (c .before .before .before .before .before .before .put-u32 .ensures) (c .before .before .copy .ensures)
 
 pub rows-spec : {M : Type 1} → statement M
 rows-spec =
     tie.close
-    (tie.spec
-    (λ c κs. search needs)
-    (λ c. search needs)
-    (λ c. search needs)
-    (λ c κs. search needs)
-    (λ c. search needs)
-    returns
-    (λ c κs. search needs)
-    mul-bytes
-    mul-copy
-    add-copy
-    copy-requires
-    add-result
-    (λ c. search needs)
-    returns-2)
+    (tie.spec (λ c κs. search needs) (λ c. search needs) (λ c. search needs) (λ c κs. search needs) (λ c. search needs) returns (λ c κs. search needs) mul-bytes mul-copy add-copy
+    copy-requires add-result (λ c. search needs) returns-2)

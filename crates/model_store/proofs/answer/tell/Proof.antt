@@ -1,5 +1,5 @@
 -- `model_store::answer::tell` meets its contract. Assumes nothing.
-use Rattle.model_store.specs.AnswerLaws.{status-laid}
+use Rattle.model.specs.PageLaws.{status-laid}
 use borrow.Author.Needs.{needs}
 use Rattle.model_store.proofs.answer.tell.Statement.{statement}
 use Rattle.model_store.proofs.answer.tell.Tie as tie

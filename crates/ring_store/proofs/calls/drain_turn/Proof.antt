@@ -21,7 +21,7 @@ returns-2 c =
     let w = x .before in
     let t = w .before in
     let i = t .before .before in
-    stepped (i .before .before .args .ring .now) _ _ _ _ (λ k. (i .before .slice-known .given k) .fits) (i .if1 .left)
+    stepped (i .before .before .args .ring .now) _ _ (λ k. (i .before .slice-known .given k) .fits) (i .if1 .left)
     (x .drain-track .ensures ∙ (λ j. drainCall (t .get-track .ensures j) (w .from-words .ensures j))) (l .leave .ensures)
 
 pub drain-turn-spec : {M : Type 1} → statement M

@@ -2,7 +2,7 @@
 use borrow.Author.Needs.{needs}
 use mathlib.Core.Path.{ap, _∙_}
 use Rattle.turns.specs.Calls.{startCall}
-use Rattle.turns.specs.declared.ring.Track.{Track}
+use Rattle.ring_store.specs.Types.{Track}
 use Rattle.ring_store.specs.Calls.{startIn}
 use Rattle.ring_store.specs.CallsLaws.{short, stepped}
 use Rattle.ring_store.proofs.calls.start.Statement.{statement}
@@ -20,7 +20,7 @@ returns-2 c =
     let t = x .before in
     let i = t .before .before in
     let a = i .before .before .args in
-    stepped (a .ring .now) _ _ _ _ (λ k. (i .before .slice-known .given k) .fits) (i .if1 .left)
+    stepped (a .ring .now) _ _ (λ k. (i .before .slice-known .given k) .fits) (i .if1 .left)
     (_∙_ {b = startCall (t .get-track .result) (a .stream) (a .len) (a .period) (a .budget)} (x .start-track .ensures) (ap (λ (u : Track). startCall u (a .stream) (a .len) (a .period) (a .budget)) (t .get-track .ensures))) (l .leave .ensures)
 
 pub start-spec : {M : Type 1} → statement M

@@ -14,7 +14,7 @@ returns c =
     let h = c .before .before .before .before in
     let i = h .before in
     let a = i .before .before .before .args in
-    told (a .ring .now) (a .result .now) _ _ _ _ ((λ j. guard (i .is-slot .ensures j) (says 0 (h .get-slot .ensures j .offset ∷ h .get-slot .ensures j .len ∷ [])) (says 1 [])) ∙ guards _ _ _ _) (c .before .before .tell-two .ensures)
+    told (a .ring .now) (a .result .now) _ _ ((λ j. guard (i .is-slot .ensures j) (says 1 []) (says 0 (h .get-slot .ensures j .offset ∷ h .get-slot .ensures j .len ∷ []))) ∙ guards _ _ _ _) (c .before .before .tell-two .ensures)
 
 pub carried-spec : {M : Type 1} → statement M
 carried-spec = tie.close (tie.spec (λ c κs. tt) (λ c κs. tt) (λ c κs. tt) (λ c. search needs) returns)

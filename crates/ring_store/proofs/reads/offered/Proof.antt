@@ -5,8 +5,9 @@ use mathlib.Core.Path.{sym, ap, _∙_}
 use Rattle.turns.specs.Calls.{offerCall, saysOffer}
 use Rattle.turns.specs.CallLaws.{passed, failed}
 use Rattle.turns.specs.ConsistentLaws.{both}
-use Rattle.turns.specs.declared.ring.Track.{Track}
+use Rattle.ring_store.specs.Types.{Track}
 use Rattle.ring_store.specs.ReadsLaws.{unroomy, told}
+use Rattle.ring_store.specs.Store.{ringSize}
 use Rattle.ring_store.proofs.reads.offered.Statement.{statement}
 use Rattle.ring_store.proofs.reads.offered.Tie as tie
 
@@ -14,7 +15,7 @@ returns : tie.Need-returns
 returns c = let a = c .before .before .before .before .before .args in unroomy (a .ring .now) (a .result .now) _ (failed (c .before .roomy .ensures) (c .if1 .taken))
 
 get-track-requires : tie.Need-get-track-requires
-get-track-requires c κs = leb-true 592 _ (both _ _ (passed (c .before .roomy .ensures) (c .if1 .left)) .0)
+get-track-requires c κs = leb-true ringSize _ (both _ _ (passed (c .before .roomy .ensures) (c .if1 .left)) .0)
 
 returns-2 : tie.Need-returns-2
 returns-2 c =
@@ -22,7 +23,7 @@ returns-2 c =
     let o = m .before .before in
     let t = o .before in
     let a = t .before .before .before .before .before .before .args in
-    told (a .ring .now) (a .result .now) _ _ _ _ (ap saysOffer (sym (m .offer .given .1) ∙ o .offer-track .ensures ∙ ap (λ (u : Track). offerCall 3 u (a .len)) (t .get-track .ensures))) (c .before .before .tell-sent .ensures)
+    told (a .ring .now) (a .result .now) _ _ (ap saysOffer (sym (m .offer .given .1) ∙ o .offer-track .ensures ∙ ap (λ (u : Track). offerCall u (a .len)) (t .get-track .ensures))) (c .before .before .tell-sent .ensures)
 
 returns-3 : tie.Need-returns-3
 returns-3 c =
@@ -30,7 +31,7 @@ returns-3 c =
     let o = m .before .before in
     let t = o .before in
     let a = t .before .before .before .before .before .before .args in
-    told (a .ring .now) (a .result .now) _ _ _ _ (ap saysOffer (sym (m .offer2 .given .1) ∙ o .offer-track .ensures ∙ ap (λ (u : Track). offerCall 3 u (a .len)) (t .get-track .ensures))) (c .before .before .tell-refusal .ensures)
+    told (a .ring .now) (a .result .now) _ _ (ap saysOffer (sym (m .offer2 .given .1) ∙ o .offer-track .ensures ∙ ap (λ (u : Track). offerCall u (a .len)) (t .get-track .ensures))) (c .before .before .tell-refusal .ensures)
 
 pub offered-spec : {M : Type 1} → statement M
 offered-spec = tie.close (tie.spec (λ c κs. tt) (λ c. search needs) returns get-track-requires (λ c κs. tt) (λ c. search needs) (λ c κs. tt) (λ c. search needs) (λ c κs. tt) (λ c. search needs) returns-2 (λ c. search needs) returns-3)

@@ -2,7 +2,7 @@
 use borrow.Author.Needs.{needs}
 use mathlib.Core.Path.{refl}
 use mathlib.Core.List.{[], _∷_}
-use Rattle.turns.specs.declared.ring.Track.{Track}
+use Rattle.ring_store.specs.Types.{Track}
 use Rattle.ring_store.specs.ReadsLaws.{told, read-by}
 use Rattle.ring_store.proofs.reads.stream.Statement.{statement}
 use Rattle.ring_store.proofs.reads.stream.Tie as tie
@@ -12,7 +12,7 @@ returns c =
     let i = c .before .before .before .before .before in
     let t = i .before in
     let a = t .before .before .before .args in
-    told (a .ring .now) (a .result .now) _ _ _ _ (read-by _ _ _ (λ (t : Track). t .stream ∷ []) _ (t .track .ensures) (i .is-consistent .ensures) refl) (c .before .before .tell-one .ensures)
+    told (a .ring .now) (a .result .now) _ _ (read-by _ _ _ (λ (t : Track). t .stream ∷ []) _ (t .track .ensures) (i .is-consistent .ensures) refl) (c .before .before .tell-one .ensures)
 
 pub stream-spec : {M : Type 1} → statement M
 stream-spec = tie.close (tie.spec (λ c κs. tt) (λ c κs. tt) (λ c. search needs) (λ c κs. tt) (λ c. search needs) returns)

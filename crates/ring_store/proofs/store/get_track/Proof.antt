@@ -1,5 +1,4 @@
 -- The list of its reads, in the layout's order. Assumes nothing.
-use mathlib.Core.Path.{_∙_}
 use borrow.Author.Needs.{needs}
 use Rattle.layout.specs.ChainLaws.Got.{get, end}
 use Rattle.ring_store.specs.StoreLaws.{track-got}
@@ -8,7 +7,9 @@ use Rattle.ring_store.proofs.store.get_track.Tie as tie
 
 returns : tie.Need-returns
 returns c =
-    let c11 = c .before in
+    let c13 = c .before in
+    let c12 = c13 .before in
+    let c11 = c12 .before in
     let c10 = c11 .before in
     let c9 = c10 .before in
     let c8 = c9 .before in
@@ -19,8 +20,7 @@ returns c =
     let c3 = c4 .before in
     let c2 = c3 .before in
     let c1 = c2 .before in
-    c .track-of .ensures ∙ track-got (c1 .before .before .args .ring .now) _
-    (get (c1 .word .ensures) (get (c2 .word2 .ensures) (get (c3 .word3 .ensures) (get (c4 .word4 .ensures) (get (c5 .word5 .ensures) (get (c6 .word6 .ensures) (get (c7 .word7 .ensures) (get (c8 .word8 .ensures) (get (c9 .word9 .ensures) (get (c10 .half .ensures) (get (c11 .half2 .ensures) end)))))))))))
+    track-got (c1 .before .before .args .ring .now) _ _ (c .track-of .ensures) (get (c1 .word .ensures) (get (c2 .word2 .ensures) (get (c3 .word3 .ensures) (get (c4 .word4 .ensures) (get (c5 .word5 .ensures) (get (c6 .word6 .ensures) (get (c7 .word7 .ensures) (get (c8 .word8 .ensures) (get (c9 .word9 .ensures) (get (c10 .half .ensures) (get (c11 .half2 .ensures) (get (c12 .word10 .ensures) (get (c13 .word11 .ensures) end)))))))))))))
 
 pub get-track-spec : {M : Type 1} → statement M
-get-track-spec = tie.close (tie.spec (λ c κs. search needs) (λ c κs. search needs) (λ c κs. search needs) (λ c κs. search needs) (λ c κs. search needs) (λ c κs. search needs) (λ c κs. search needs) (λ c κs. search needs) (λ c κs. search needs) (λ c κs. search needs) (λ c κs. search needs) (λ c κs. tt) returns)
+get-track-spec = tie.close (tie.spec (λ c κs. search needs) (λ c κs. search needs) (λ c κs. search needs) (λ c κs. search needs) (λ c κs. search needs) (λ c κs. search needs) (λ c κs. search needs) (λ c κs. search needs) (λ c κs. search needs) (λ c κs. search needs) (λ c κs. search needs) (λ c κs. search needs) (λ c κs. search needs) (λ c κs. tt) returns)

@@ -5,13 +5,13 @@ use mathlib.Core.Path.{_≡_, refl}
 use lib.ListN.{length, take}
 use lib.Seq.{sets}
 use Rattle.layout.specs.Rows.{rowsBytes}
-use Rattle.ring_store.specs.Store.{slotBytes}
+use Rattle.ring_store.specs.Store.{trackSize, slotBytes}
 use Rattle.ring_store.specs.StoreLaws.{blanks, blank-none, blank-more, blank-all}
 use Rattle.ring_store.proofs.store.put_blanks.Statement.{statement}
 use Rattle.ring_store.proofs.store.put_blanks.Tie as tie
 
 abbrev Inv-loop : tie.InvT-loop
-Inv-loop ring₀ i₀ ring i = (i ≤ 32) × ((length ring ≡ length ring₀) × (ring ≡ sets ring₀ 80 (rowsBytes slotBytes (take i blanks))))
+Inv-loop ring₀ i₀ ring i = (i ≤ 32) × ((length ring ≡ length ring₀) × (ring ≡ sets ring₀ trackSize (rowsBytes slotBytes (take i blanks))))
 
 abbrev μ-loop : tie.MeasureT-loop
 μ-loop ring₀ i₀ ring i = 32 - i

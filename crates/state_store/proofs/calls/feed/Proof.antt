@@ -1,9 +1,8 @@
 -- `state_store::calls::feed` meets its contract: the lengths, then the answer. Assumes nothing.
 use mathlib.Core.Path.{sym, ap, _∙_}
 use borrow.Author.Tests.{not-true, not-false}
-use Rattle.state_store.specs.Flat.{wholeFlat}
+use Rattle.state_store.specs.Store.{wholeHead}
 use Rattle.state_store.specs.Store.{coreOf}
-use Rattle.state_store.specs.declared.flat.Head.{Head}
 use Rattle.state_store.specs.FinishLaws.{long-state, long-message, feed-unread, feed-short, fed}
 use native.Mathlib.Omega.{arith}
 use borrow.Author.Needs.{needs}
@@ -51,7 +50,7 @@ returns-3 c =
     let a = d .before .before .before .before .before .before .args in
     f .finish .ensures
     ∙ fed (a .state .now) (a .message .now) (a .result .now) (sym (d .before .both .ensures) ∙ not-false _ (d .if1 .left))
-    (w .is-whole .ensures ∙ ap (λ (h : Head). wholeFlat (h .flat)) (h .get-head .ensures)) (k .core-by .ensures ∙ ap coreOf (h .get-head .ensures)) (a .page .now)
+    (w .is-whole .ensures ∙ ap wholeHead (h .get-head .ensures)) (k .core-by .ensures ∙ ap coreOf (h .get-head .ensures)) (a .page .now)
     (sym (e .before .both2 .ensures) ∙ not-false _ (e .if2 .left)) (v .verdict-by .ensures) (o .pending-look .ensures) (g .answer .ensures)
 
 pub feed-spec : {M : Type 1} → statement M

@@ -1,9 +1,8 @@
 -- `state_store::calls::feed_failure` meets its contract: the lengths, then the answer. Assumes nothing.
 use mathlib.Core.Path.{sym, ap, _∙_}
 use borrow.Author.Tests.{le-leb, lt-leb, not-true, not-false}
-use Rattle.state_store.specs.Flat.{wholeFlat}
+use Rattle.state_store.specs.Store.{wholeHead}
 use Rattle.state_store.specs.Store.{coreOf}
-use Rattle.state_store.specs.declared.flat.Head.{Head}
 use Rattle.state_store.specs.FinishLaws.{long-state, fail-unread, fail-short, failed}
 use native.Mathlib.Omega.{arith}
 use borrow.Author.Needs.{needs}
@@ -47,7 +46,7 @@ returns-3 c =
     let a = d .before .before .before .before .before .args in
     f .finish .ensures
     ∙ failed (a .state .now) (a .message .now) (a .result .now) (sym (d .before .both .ensures) ∙ not-false _ (d .if1 .left))
-    (w .is-whole .ensures ∙ ap (λ (h : Head). wholeFlat (h .flat)) (h .get-head .ensures)) (k .core-by .ensures ∙ ap coreOf (h .get-head .ensures))
+    (w .is-whole .ensures ∙ ap wholeHead (h .get-head .ensures)) (k .core-by .ensures ∙ ap coreOf (h .get-head .ensures))
     (le-leb 24 _ (e .if2 .left)) (o .pending-look .ensures) (g .answer .ensures)
 
 pub feed-failure-spec : {M : Type 1} → statement M

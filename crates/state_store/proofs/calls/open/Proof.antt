@@ -1,13 +1,12 @@
 -- `state_store::calls::open` meets its contract: by what the checks come to. Assumes nothing.
 use mathlib.Core.Path.{sym, ap, _∙_}
-use Rattle.state_store.specs.Flat.{wholeFlat}
+use Rattle.state_store.specs.Store.{wholeHead}
 use Rattle.state_store.specs.Store.{coreOf}
-use Rattle.state_store.specs.declared.flat.Head.{Head}
 use Rattle.state_store.specs.Calls.{opened}
 use Rattle.state_store.specs.Steps.{settingUpBy}
 use Rattle.state_store.specs.OpenLaws.{gated, shut-short, long-head, set-up-long, opens}
-use Rattle.state_store.specs.declared.calls.Opening.the-variants.{Says, Open}
-use Rattle.exchange.specs.declared.xfer.Gate.the-variants as gate
+use Rattle.state_store.specs.declared.calls.Opening.the-variants.{Says}
+use Rattle.core.specs.declared.gate.Gate.the-variants as gate
 use Rattle.state_store.specs.StoreLaws.{core-at}
 use Prim.Native.Nat.{ℕ}
 use borrow.Author.Tests.{not-true, not-false}
@@ -60,7 +59,7 @@ returns-3 c =
     let stream = a .stream in
     let g = gated s m t stream (x .before .before .before .before .before .before .before .before .both .ensures) (x .before .before .before .core-by .ensures ∙ ap coreOf (x .before .before .before .before .before .get-head .ensures)) (x .before .params-at .ensures) (x .xfer-gate .ensures) in
     c .before .before .before .before .set-up .ensures
-    ∙ (λ i. settingUpBy ((x .before .before .before .before .is-whole .ensures ∙ ap (λ (h : Head). wholeFlat (h .flat)) (x .before .before .before .before .before .get-head .ensures)) i) ((x .before .before .before .core-by .ensures ∙ ap coreOf (x .before .before .before .before .before .get-head .ensures) ∙ sym (core-at s)) i) s stream m)
+    ∙ (λ i. settingUpBy ((x .before .before .before .before .is-whole .ensures ∙ ap wholeHead (x .before .before .before .before .before .get-head .ensures)) i) ((x .before .before .before .core-by .ensures ∙ ap coreOf (x .before .before .before .before .before .get-head .ensures) ∙ sym (core-at s)) i) s stream m)
     ∙ opens s m t stream gate.SetUp (sym (c .before .before .before .before .before .before .before .enum-told .given .1) ∙ g)
 
 returns-4 : tie.Need-returns-4

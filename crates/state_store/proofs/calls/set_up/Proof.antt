@@ -4,9 +4,9 @@ use mathlib.Core.List.{[]}
 use Rattle.state_store.specs.Calls.{opened}
 use Rattle.state_store.specs.FinishLaws.{says-in}
 use Rattle.state_store.specs.Steps.{changed}
-use Rattle.exchange.specs.Exchange.{messageAfter}
-use Rattle.exchange.specs.declared.plan.Effect.the-variants.{Nothing}
-use Rattle.exchange.specs.declared.plan.Plan.{Plan}
+use Rattle.core.specs.Reply.{messageAfter}
+use Rattle.core.specs.declared.plan.Effect.the-variants.{Nothing}
+use Rattle.core.specs.declared.plan.Plan.{Plan}
 use Rattle.state_store.specs.declared.calls.Opening.the-variants.{Says}
 use borrow.Author.Needs.{needs}
 use Rattle.state_store.proofs.calls.set_up.Statement.{statement}

@@ -2,7 +2,7 @@
 use mathlib.Core.Path.{sym, ap, _∙_, refl}
 use borrow.Author.Tests.{not-true, not-false}
 use Rattle.codes.specs.SaysLaws.{passes, stops}
-use Rattle.state_store.specs.Calls.{shown}
+use Rattle.layout.specs.Lent.{shown}
 use borrow.Author.Needs.{needs}
 use Rattle.state_store.proofs.config.show.Statement.{statement}
 use Rattle.state_store.proofs.config.show.Tie as tie

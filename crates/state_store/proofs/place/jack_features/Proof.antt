@@ -21,5 +21,4 @@ jack-features-spec =
     (λ c. search needs)
     (λ c. search needs)
     (λ c κs. search needs)
-    (λ c. search needs)
     returns-2)

@@ -1,13 +1,15 @@
 -- `state_store::place::look` meets its contract, case by case. Assumes nothing.
+use mathlib.Core.Path.{ap}
 use borrow.Author.Needs.{needs}
+use Rattle.core.specs.declared.plan.Look.the-variants as look
 use Rattle.state_store.proofs.place.look.Statement.{statement}
 use Rattle.state_store.proofs.place.look.Tie as tie
 
 returns-3 : tie.Need-returns-3
-returns-3 c = rw (c .before .before .call .given .1) (c .jack-features .ensures)
+returns-3 c = rw (c .before .before .call .given .1) (ap look.Jack (c .jack-features .ensures))
 
 returns-5 : tie.Need-returns-5
-returns-5 c = rw (c .before .before .call2 .given .1) (c .stream-field .ensures)
+returns-5 c = rw (c .before .before .call2 .given .1) (ap look.Stream (c .stream-field .ensures))
 
 pub look-spec : {M : Type 1} → statement M
 look-spec =

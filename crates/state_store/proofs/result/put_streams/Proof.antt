@@ -4,7 +4,7 @@ use mathlib.Core.Path.{ap, _∙_}
 use Prim.Native.Nat.{ℕ}
 use lib.Seq.{sets}
 use Rattle.exchange.specs.Exchange.{listed}
-use Rattle.exchange.specs.declared.plan.Value.the-variants.{Streams}
+use Rattle.core.specs.declared.plan.Value.the-variants.{Streams}
 use Rattle.state_store.specs.Calls.{valueBytes}
 use Rattle.state_store.specs.ListedLaws.{ids-short, ids-all, count-listed}
 use borrow.Author.Needs.{needs}

@@ -1,48 +1,61 @@
 -- `tables::verdict::judge` meets its contract, test by test. Assumes nothing.
-use Prim.Native.Nat.{ℕ, _*_, _<_, _≤_}
-use native.Mathlib.Nat.{mul-le-mul}
-use native.Mathlib.Omega.{arith}
+use mathlib.Core.Path.{_≡_, sym, ap, _∙_}
+use mathlib.Core.Bool.{Bool}
+use Prim.Native.Nat.{ℕ}
+use lib.Dec.{eqb, leb}
 use borrow.Author.Needs.{needs}
 use borrow.Author.Tests.{eq-eqb, ne-eqb, le-leb, lt-leb}
+use Rattle.codes.specs.SaysLaws.{passed, failed, passes, stops}
+use Rattle.codes.specs.Codes.{codeSays}
+use Rattle.codes.specs.Statuses.{statusCodes, saysStatus, isOk}
+use Rattle.codes.specs.StatusesLaws.{ok-is}
+use Rattle.codes.specs.declared.statuses.FoundStatus.{FoundStatus}
 use Rattle.tables.specs.Tables.{judged}
+use Rattle.tables.specs.declared.verdict.Verdict.the-variants.{Status}
 use Rattle.tables.proofs.verdict.judge.Statement.{statement}
 use Rattle.tables.proofs.verdict.judge.Tie as tie
 
--- a count times a size, each of 32 bits
-product : (a b : ℕ) → a < 4294967296 → b < 4294967296 → a * b ≤ 4294967295 * 4294967295
-product a b p q =
-    let k : a ≤ 4294967295 = omega arith in
-    let l : b ≤ 4294967295 = omega arith in
-    mul-le-mul k l
-
-mul-bytes : tie.Need-mul-bytes
-mul-bytes c = omega (arith, product (c .before .args .count) (c .before .args .size) (omega arith) (omega arith))
-
-add-bytes : tie.Need-add-bytes
-add-bytes c = omega (arith, product (c .before .args .count) (c .before .args .size) (omega arith) (omega arith))
+-- the status that was found is ok where the header's word is
+header : (f : FoundStatus) (found word : ℕ) (b : Bool) → saysStatus f ≡ codeSays statusCodes 2 found → found ≡ word → b ≡ isOk f → b ≡ eqb word 0x8000
+header f found word b e w i = i ∙ ok-is f found e ∙ ap (λ (n : ℕ). eqb n 0x8000) w
 
 returns : tie.Need-returns
 unfolding judged
-returns c = simp (ne-eqb _ _ (c .if1 .taken))
+returns c = stops _ _ _ (ne-eqb _ _ (c .if1 .taken)) (search needs)
 
 returns-2 : tie.Need-returns-2
 unfolding judged
-returns-2 c = simp (eq-eqb _ _ (c .before .if1 .left), ← c .before .before .get-u32 .ensures, ne-eqb _ _ (c .if2 .taken))
+returns-2 c =
+    let u = c .before .before in
+    let g = u .before .before in
+    let h = failed (header (u .before .from-code .result) _ _ _ (u .before .from-code .ensures) (g .get-u32 .ensures) (u .is-ok .ensures)) (c .if2 .taken) in
+    passes _ _ _ (eq-eqb _ _ (c .before .if1 .left)) (stops _ _ _ h (ap Status (g .get-u32 .ensures)))
 
 returns-3 : tie.Need-returns-3
 unfolding judged
-returns-3 c = simp (eq-eqb _ _ (c .before .before .if1 .left), ← c .before .before .before .get-u32 .ensures, eq-eqb _ _ (c .before .if2 .left), lt-leb _ _ (c .if3 .taken))
+returns-3 c =
+    let u = c .before .before .before in
+    let g = u .before .before in
+    let h = passed (header (u .before .from-code .result) _ _ _ (u .before .from-code .ensures) (g .get-u32 .ensures) (u .is-ok .ensures)) (c .before .if2 .left) in
+    let e = ap (λ (n : ℕ). leb n 4096) (g .before .extent .ensures) in
+    passes _ _ _ (eq-eqb _ _ (c .before .before .if1 .left)) (passes _ _ _ h (stops _ _ _ (sym e ∙ lt-leb _ _ (c .if3 .taken)) (search needs)))
 
 returns-4 : tie.Need-returns-4
 unfolding judged
-returns-4 c = simp (eq-eqb _ _ (c .before .before .if1 .left), ← c .before .before .before .get-u32 .ensures, eq-eqb _ _ (c .before .if2 .left), le-leb _ _ (c .if3 .left))
+returns-4 c =
+    let u = c .before .before .before in
+    let g = u .before .before in
+    let h = passed (header (u .before .from-code .result) _ _ _ (u .before .from-code .ensures) (g .get-u32 .ensures) (u .is-ok .ensures)) (c .before .if2 .left) in
+    let e = ap (λ (n : ℕ). leb n 4096) (g .before .extent .ensures) in
+    passes _ _ _ (eq-eqb _ _ (c .before .before .if1 .left)) (passes _ _ _ h (passes _ _ _ (sym e ∙ le-leb _ _ (c .if3 .left)) (search needs)))
 
 pub judge-spec : {M : Type 1} → statement M
 judge-spec =
     tie.close
     (tie.spec
-    mul-bytes
-    add-bytes
+    (λ c κs. search needs)
+    (λ c κs. search needs)
+    (λ c κs. search needs)
     (λ c κs. search needs)
     returns
     returns-2

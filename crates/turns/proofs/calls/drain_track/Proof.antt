@@ -15,12 +15,12 @@ returns-2 : tie.Need-returns-2
 unfolding drainCall
 returns-2 c = passes _ _ _ (search (needs, passed)) (passes _ _ _ (search needs) (c .refused2 .ensures))
 
-drain-requires : tie.Need-drain-requires
-drain-requires c κs = consistent-facts _ (passed (c .before .before .consistent .ensures) (c .before .if1 .left)) .placed .tail-in
+drained-requires : tie.Need-drained-requires
+drained-requires c κs = consistent-facts _ (passed (c .before .before .is-consistent .ensures) (c .before .if1 .left)) .placed .tail-in
 
 returns-3 : tie.Need-returns-3
 unfolding drainCall
-returns-3 c = passes _ _ _ (search (needs, passed)) (stops _ _ _ (search needs) (c .drain .ensures))
+returns-3 c = passes _ _ _ (search (needs, passed)) (stops _ _ _ (search needs) (c .drained .ensures))
 
 pub drain-track-spec : {M : Type 1} → statement M
-drain-track-spec = tie.close (tie.spec (λ c κs. tt) (λ c κs. tt) returns (λ c κs. tt) returns-2 drain-requires returns-3)
+drain-track-spec = tie.close (tie.spec (λ c κs. tt) (λ c κs. tt) returns (λ c κs. tt) returns-2 drained-requires returns-3)

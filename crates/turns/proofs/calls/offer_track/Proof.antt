@@ -22,16 +22,16 @@ unfolding offerCall
 returns-3 c = passes _ _ _ (search (needs, passed)) (passes _ _ _ (search (needs, passed)) (stops _ _ _ (not-true _ (c .if3 .taken)) refl))
 
 choose-requires : tie.Need-choose-requires
-choose-requires c κs = consistent-facts _ (passed (c .before .before .before .consistent .ensures) (c .before .before .if2 .left)) .placed .room
+choose-requires c κs = consistent-facts _ (passed (c .before .before .before .is-consistent .ensures) (c .before .before .if2 .left)) .placed .room
 
-next-sent-requires : tie.Need-next-sent-requires
-next-sent-requires c κs = consistent-facts _ (passed (c .before .before .before .before .consistent .ensures) (c .before .before .before .if2 .left)) .paced .within
+offer-by-requires : tie.Need-offer-by-requires
+offer-by-requires c κs = consistent-facts _ (passed (c .before .before .before .before .is-consistent .ensures) (c .before .before .before .if2 .left)) .paced .within
 
 returns-4 : tie.Need-returns-4
 unfolding offerCall
 returns-4 c =
     passes _ _ _ (search (needs, passed))
-    (passes _ _ _ (search (needs, passed)) (passes _ _ _ (not-false _ (c .before .before .if3 .left)) (rw (c .next-sent .ensures, c .before .choose .ensures))))
+    (passes _ _ _ (search (needs, passed)) (passes _ _ _ (not-false _ (c .before .before .if3 .left)) (rw (c .offer-by .ensures, c .before .choose .ensures))))
 
 pub offer-track-spec : {M : Type 1} → statement M
-offer-track-spec = tie.close (tie.spec (λ c κs. tt) returns (λ c κs. tt) returns-2 returns-3 choose-requires next-sent-requires returns-4)
+offer-track-spec = tie.close (tie.spec (λ c κs. tt) returns (λ c κs. tt) returns-2 returns-3 choose-requires offer-by-requires returns-4)

@@ -4,7 +4,7 @@ use Rattle.turns.proofs.calls.offered.Statement.{statement}
 use Rattle.turns.proofs.calls.offered.Tie as tie
 
 returns : tie.Need-returns
-returns c = rw (← (c .before .before .before .before .next-offer .ensures), c .before .before .o .given .1) (c .part-of .ensures)
+returns c = rw (← (c .before .before .before .before .next-offer .ensures), c .before .before .o .given .1) (c .payload .ensures)
 
 returns-2 : tie.Need-returns-2
 returns-2 c = rw (← (c .before .before .before .next-offer .ensures), c .before .enum-told .given .1)

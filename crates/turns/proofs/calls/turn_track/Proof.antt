@@ -23,20 +23,20 @@ returns-3 : tie.Need-returns-3
 unfolding turnCall
 returns-3 c = passes _ _ _ (search (needs, passed)) (passes _ _ _ (search (needs, passed)) (stops _ _ _ (not-true _ (c .before .if3 .taken)) (c .refused3 .ensures)))
 
-step-requires : tie.Need-step-requires
-step-requires c κs = let f = consistent-facts _ (passed (c .before .before .before .consistent .ensures) (c .before .before .if2 .left)) in (f .placed, f .paced .within)
+turn-requires : tie.Need-turn-requires
+turn-requires c κs = let f = consistent-facts _ (passed (c .before .before .before .is-consistent .ensures) (c .before .before .if2 .left)) in (f .placed, f .paced .within)
 
 counted-requires : tie.Need-counted-requires
 counted-requires c κs =
-    turns-left _ _ _ _ (c .step .ensures)
-    (consistent-facts _ (passed (c .before .before .before .before .consistent .ensures) (c .before .before .before .if2 .left)))
+    turns-left _ _ _ _ (c .turn .ensures)
+    (consistent-facts _ (passed (c .before .before .before .before .is-consistent .ensures) (c .before .before .before .if2 .left)))
     (not-false _ (c .before .if3 .left))
 
 returns-4 : tie.Need-returns-4
 unfolding turnCall
 returns-4 c =
     passes _ _ _ (search (needs, passed))
-    (passes _ _ _ (search (needs, passed)) (passes _ _ _ (not-false _ (c .before .before .if3 .left)) (c .counted .ensures ∙ ap countedOf (c .before .step .ensures))))
+    (passes _ _ _ (search (needs, passed)) (passes _ _ _ (not-false _ (c .before .before .if3 .left)) (c .counted .ensures ∙ ap countedOf (c .before .turn .ensures))))
 
 pub turn-track-spec : {M : Type 1} → statement M
-turn-track-spec = tie.close (tie.spec (λ c κs. tt) (λ c κs. tt) returns (λ c κs. tt) (λ c κs. tt) returns-2 (λ c κs. tt) returns-3 step-requires counted-requires returns-4)
+turn-track-spec = tie.close (tie.spec (λ c κs. tt) (λ c κs. tt) returns (λ c κs. tt) (λ c κs. tt) returns-2 (λ c κs. tt) returns-3 turn-requires counted-requires returns-4)

@@ -40,13 +40,11 @@ use denote.Triple.Table.{entered, cited}
 use denote.Triple.Walked.{says, Stays, stay-ref, stay-none, walkOf, AllGo, goes-none, goes-ref, Walks, ends-at, walked, walk-meets}
 use denote.Exit.{yes}
 use Rattle.turns.specs.InPlace.{drainWords, reportOf}
-use Rattle.turns.specs.declared.ring.Ring.{Ring}
-use Rattle.turns.specs.declared.ring.Turned.{Turned}
+use Rattle.turns.specs.Types.{Ring, Turned, Report}
 use Rattle.turns.proofs.ring.Ring as R
 use Rattle.turns.proofs.ring.Ring.Laws as R′
 use Rattle.turns.proofs.ring.Turned as T
 use Rattle.turns.proofs.ring.Turned.Laws as T′
-use Rattle.turns.specs.declared.in_place.Report.{Report}
 use Rattle.turns.proofs.in_place.Report as S
 use Rattle.turns.proofs.in_place.Report.Laws as S′
 use Rattle.turns.proofs.in_place.drain_words as callee

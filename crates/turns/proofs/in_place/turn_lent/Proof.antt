@@ -45,9 +45,7 @@ use denote.Triple.Table.{entered, cited}
 use denote.Triple.Walked.{says, Stays, stay-none, stay-none-slice, walkOf, AllGo, goes-none, goes-none-slice, Walks, ends-at, walked, walk-meets}
 use denote.Exit.{yes}
 use Rattle.turns.specs.InPlace.{turnWords, Leaves}
-use Rattle.turns.specs.declared.ring.Ring.{Ring}
-use Rattle.turns.specs.declared.ring.Turned.{Turned}
-use Rattle.turns.specs.declared.in_place.Report.{Report}
+use Rattle.turns.specs.Types.{Ring, Turned, Report}
 use Rattle.turns.proofs.ring.Ring as R
 use Rattle.turns.proofs.ring.Ring.Laws as R′
 use Rattle.turns.proofs.ring.Turned as T

@@ -6,7 +6,7 @@ use Rattle.turns.proofs.script.reading_of.Statement.{statement}
 use Rattle.turns.proofs.script.reading_of.Tie as tie
 
 returns : tie.Need-returns
-returns c = c .decoded .ensures ∙ first-more _ _ (search needs)
+returns c = c .reading-at .ensures ∙ first-more _ _ (search needs)
 
 returns-2 : tie.Need-returns-2
 returns-2 c = first-none _ _ (search needs)

@@ -4,7 +4,7 @@ use Rattle.exchange.proofs.state.Sound.new.Statement.{statement}
 use Rattle.exchange.proofs.state.Sound.new.Tie as tie
 
 returns : tie.Need-returns
-returns c = simp (c .no-params .ensures, c .before .no-maps .ensures, c .before .before .no-streams .ensures, c .before .before .before .no-jacks .ensures, c .before .before .before .before .new-core .ensures)
+returns c = simp (c .no-params .ensures, c .before .no-maps .ensures, c .before .before .no-streams .ensures, c .before .before .before .no-jacks .ensures, c .before .before .before .before .new .ensures)
 
 pub new-spec : {M : Type 1} → statement M
 new-spec =

@@ -12,10 +12,10 @@ returns : tie.Need-returns
 returns c = stops _ _ _ (search (needs, failed)) refl
 
 mul-t5 : tie.Need-mul-t5
-mul-t5 c = let p = consistent-facts _ (passed (c .before .before .consistent .ensures) (c .before .if1 .left)) .placed in omega arith
+mul-t5 c = let p = consistent-facts _ (passed (c .before .before .is-consistent .ensures) (c .before .if1 .left)) .placed in omega arith
 
 sub-t6 : tie.Need-sub-t6
-sub-t6 c = consistent-facts _ (passed (c .before .before .consistent .ensures) (c .before .if1 .left)) .placed .room
+sub-t6 c = consistent-facts _ (passed (c .before .before .is-consistent .ensures) (c .before .if1 .left)) .placed .room
 
 returns-2 : tie.Need-returns-2
 returns-2 c = passes _ _ _ (search (needs, passed)) refl

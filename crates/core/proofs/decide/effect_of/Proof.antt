@@ -1,0 +1,25 @@
+-- `core::decide::effect_of` meets its contract, case by case. Assumes nothing.
+use borrow.Author.Needs.{needs}
+use Rattle.core.proofs.decide.effect_of.Statement.{statement}
+use Rattle.core.proofs.decide.effect_of.Tie as tie
+
+returns : tie.Need-returns
+returns c = rw (c .before .before .call .given .1) (simp (c .stored .ensures))
+
+pub effect-of-spec : {M : Type 1} → statement M
+effect-of-spec =
+    tie.close
+    (tie.spec
+    (λ c. search needs)
+    (λ c κs. search needs)
+    (λ c. search needs)
+    (λ c. search needs)
+    (λ c. search needs)
+    (λ c. search needs)
+    (λ c. search needs)
+    returns
+    (λ c. search needs)
+    (λ c. search needs)
+    (λ c. search needs)
+    (λ c. search needs)
+    (λ c. search needs))

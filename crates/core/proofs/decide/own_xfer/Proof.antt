@@ -1,0 +1,18 @@
+-- `core::decide::own_xfer` meets its contract, test by test. Assumes nothing.
+use borrow.Author.Tests.{lt-ltb, le-ltb}
+use Rattle.codes.specs.SaysLaws.{passes, stops}
+use borrow.Author.Needs.{needs}
+use Rattle.core.specs.Plan.{ownXfer}
+use Rattle.core.proofs.decide.own_xfer.Statement.{statement}
+use Rattle.core.proofs.decide.own_xfer.Tie as tie
+
+returns : tie.Need-returns
+unfolding ownXfer
+returns c = stops _ _ _ (le-ltb _ _ (c .before .if1 .taken)) (c .end .ensures)
+
+returns-2 : tie.Need-returns-2
+unfolding ownXfer
+returns-2 c = passes _ _ _ (lt-ltb _ _ (c .before .if1 .left)) (c .end2 .ensures)
+
+pub own-xfer-spec : {M : Type 1} → statement M
+own-xfer-spec = tie.close (tie.spec (λ c κs. search needs) returns (λ c κs. search needs) returns-2)

@@ -1,0 +1,24 @@
+-- `core::gate::checked_by` meets its contract: a chain of tests. Assumes nothing.
+use mathlib.Core.Bool.{not}
+use mathlib.Core.Path.{refl, ap}
+use borrow.Author.Tests.{eq-eqb, ne-eqb, lt-ltb, le-ltb, not-true, not-false}
+use Rattle.codes.specs.declared.answers.Refusal.the-variants.{InvalidParam, IoError}
+use Rattle.core.specs.declared.gate.Gate.the-variants.{Shut, SetUp}
+use Rattle.codes.specs.SaysLaws.{passes, stops}
+use Rattle.core.proofs.gate.checked_by.Statement.{statement}
+use Rattle.core.proofs.gate.checked_by.Tie as tie
+
+returns : tie.Need-returns
+returns c = stops _ SetUp _ (not-true _ (c .if1 .taken)) refl
+
+returns-2 : tie.Need-returns-2
+returns-2 c = passes _ SetUp _ (not-false _ (c .before .before .if1 .left)) (stops _ (Shut InvalidParam) _ (le-ltb _ _ (c .if2 .taken)) refl)
+
+returns-3 : tie.Need-returns-3
+returns-3 c = passes _ SetUp _ (not-false _ (c .before .before .before .before .if1 .left)) (passes _ (Shut InvalidParam) _ (lt-ltb _ _ (c .before .before .if2 .left)) (stops _ (Shut IoError) _ (ap not (eq-eqb _ _ (c .if3 .taken))) refl))
+
+returns-4 : tie.Need-returns-4
+returns-4 c = passes _ SetUp _ (not-false _ (c .before .before .before .before .if1 .left)) (passes _ (Shut InvalidParam) _ (lt-ltb _ _ (c .before .before .if2 .left)) (passes _ (Shut IoError) _ (ap not (ne-eqb _ _ (c .if3 .left))) refl))
+
+pub checked-by-spec : {M : Type 1} → statement M
+checked-by-spec = tie.close (tie.spec returns returns-2 returns-3 returns-4)

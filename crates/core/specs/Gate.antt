@@ -1,0 +1,42 @@
+-- The checks of a transfer: "Busy (8), set-up, stream range (1), parameters set (2)".
+-- Assumes nothing.
+use mathlib.Core.Bool.{Bool, not, _&&_}
+use mathlib.Core.List.{[], _∷_}
+use Prim.Native.Nat.{ℕ}
+use lib.Dec.{ltb, eqb}
+use Rattle.codes.specs.Says.{Says, says, guard}
+use Rattle.codes.specs.Answers.{saysRefusal}
+use Rattle.codes.specs.declared.answers.Refusal.{Refusal}
+use Rattle.codes.specs.declared.answers.Refusal.the-variants.{InvalidParam, IoError, Busy, BadLength}
+use Rattle.turns.specs.Calls.{idleOf}
+use Rattle.turns.specs.Consistent as ring
+use Rattle.turns.specs.declared.ring.Track.{Track}
+use Rattle.core.specs.Consistent.{consistentOf, streamOk}
+use Rattle.core.specs.Plan.{isIdle}
+use Rattle.core.specs.declared.state.Core.{Core}
+use Rattle.core.specs.declared.state.Params.{Params}
+use Rattle.core.specs.declared.gate.Gate.{Gate}
+use Rattle.core.specs.declared.gate.Gate.the-variants.{Shut, SetUp, Open}
+
+-- what is left of the checks once state and ring are at rest: set-up, range, parameters
+abbrev pub restBy : {A : Type 0} → Core → Params → ℕ → (Refusal → A) → A → (ℕ → A) → A
+restBy c p stream refuse setUp go =
+    guard (c .ready) setUp
+    (guard (ltb stream (c .counts .streams)) (refuse InvalidParam)
+    (guard (not (eqb (p .known) 0)) (refuse IoError)
+    (go (p .period))))
+
+-- THE CHECKS, in their order, over what is done at each end: the lengths, the consistency of state, ring and stream, Busy, and the rest.
+-- They look at the core and at the stream's own parameters alone
+abbrev pub gateBy : {A : Type 0} → Bool → Core → Params → Track → ℕ → (Refusal → A) → A → (ℕ → A) → A
+gateBy lengths c p t stream refuse setUp go =
+    guard lengths (refuse BadLength)
+    (guard (consistentOf c && (ring.consistentOf t && streamOk c p stream)) (refuse InvalidParam)
+    (guard (isIdle (c .stage) && idleOf t) (refuse Busy)
+    (restBy c p stream refuse setUp go)))
+
+-- its number and values: a refusal's own; where set-up goes first, a request is sent, as for a call; else 0 and the period
+abbrev pub saysGate : Gate → Says
+saysGate (Shut r) = saysRefusal r
+saysGate SetUp = says 256 []
+saysGate (Open period) = says 0 (period ∷ [])

@@ -1,0 +1,24 @@
+-- The checks of a transfer, in numbers and values: the same tests in the same order, over what each end says.
+-- Assumes nothing.
+use mathlib.Core.Path.{_≡_, ap, _∙_}
+use mathlib.Core.Bool.{Bool}
+use mathlib.Core.List.{[], _∷_}
+use Prim.Native.Nat.{ℕ}
+use Rattle.codes.specs.Says.{says, guard}
+use Rattle.codes.specs.SaysLaws.{guard-ap}
+use Rattle.codes.specs.Answers.{saysRefusal}
+use Rattle.turns.specs.declared.ring.Track.{Track}
+use Rattle.core.specs.Gate.{gateBy, saysGate}
+use Rattle.core.specs.declared.state.Core.{Core}
+use Rattle.core.specs.declared.state.Params.{Params}
+use Rattle.core.specs.declared.gate.Gate.the-variants.{Shut, SetUp, Open}
+
+pub gate-says : (lengths : Bool) (c : Core) (p : Params) (t : Track) (stream : ℕ)
+    → saysGate (gateBy lengths c p t stream Shut SetUp Open) ≡ gateBy lengths c p t stream saysRefusal (saysGate SetUp) (λ (n : ℕ). says 0 (n ∷ []))
+gate-says lengths c p t stream =
+    guard-ap saysGate _ _ _
+    ∙ ap (guard _ _) (guard-ap saysGate _ _ _
+    ∙ ap (guard _ _) (guard-ap saysGate _ _ _
+    ∙ ap (guard _ _) (guard-ap saysGate _ _ _
+    ∙ ap (guard _ _) (guard-ap saysGate _ _ _
+    ∙ ap (guard _ _) (guard-ap saysGate _ _ _)))))

@@ -1,0 +1,239 @@
+-- Decide, then do: what a call or an answer leads to is decided on the core and on what one look into a table found, and has one effect on the tables or the parameters.
+-- Assumes nothing.
+use mathlib.Core.Bool.{Bool, true, false, not, _&&_}
+use mathlib.Core.List.{List}
+use Prim.Native.Nat.{ℕ}
+use lib.Dec.{ltb, eqb}
+use Rattle.codes.specs.Says.{pick, guard}
+use Rattle.codes.specs.Flags.{hasBit, remapFeature}
+use Rattle.codes.specs.declared.answers.Refusal.{Refusal}
+use Rattle.codes.specs.declared.answers.Refusal.the-variants.{InvalidParam, IoError, Unsupported, NoInfo, TooMany, Busy, BadLength}
+use Rattle.records.specs.declared.control.SetParameters.{SetParameters}
+use Rattle.tables.specs.Tables.{judged, isGood, refusedBy}
+use Rattle.tables.specs.declared.verdict.Verdict.{Verdict}
+use Rattle.tables.specs.declared.verdict.Verdict.the-variants as verdict
+use Rattle.turns.specs.Calls.{idleOf}
+use Rattle.turns.specs.Consistent as ring
+use Rattle.turns.specs.declared.ring.Track.{Track}
+use Rattle.core.specs.State.{none, withStage}
+use Rattle.core.specs.Consistent.{periodOk, callOk, consistentOf}
+use Rattle.core.specs.declared.state.Counts.{Counts}
+use Rattle.core.specs.declared.state.Params.{Params}
+use Rattle.core.specs.declared.state.Kind.{Kind}
+use Rattle.core.specs.declared.state.Kind.the-variants.{Prepare, Release, Start, Stop}
+use Rattle.core.specs.declared.state.Call.{Call}
+use Rattle.core.specs.declared.state.Call.the-variants.{SetParams, Command, Remap, Streams, Supported, Xfer}
+use Rattle.core.specs.declared.state.Stage.{Stage}
+use Rattle.core.specs.declared.state.Stage.the-variants.{Idle, JacksAsked, StreamsAsked, MapsAsked, Sent}
+use Rattle.core.specs.declared.state.Core.{Core}
+use Rattle.core.specs.declared.plan.Request.{Request}
+use Rattle.core.specs.declared.plan.Request.the-variants as request
+use Rattle.core.specs.declared.plan.Value.{Value}
+use Rattle.core.specs.declared.plan.Value.the-variants as value
+use Rattle.core.specs.declared.plan.Look.{Look}
+use Rattle.core.specs.declared.plan.Look.the-variants as look
+use Rattle.core.specs.declared.plan.Say.{Say}
+use Rattle.core.specs.declared.plan.Say.the-variants.{Send, Done, Refused}
+use Rattle.core.specs.declared.plan.Effect.{Effect}
+use Rattle.core.specs.declared.plan.Effect.the-variants.{Nothing, FillJacks, FillStreams, FillMaps, Store}
+use Rattle.core.specs.declared.plan.Plan.{Plan}
+
+-- ---- four ways to go on
+
+-- the request goes out, and the core waits for its answer
+abbrev pub sendOf : Core → Stage → Request → Effect → Plan
+sendOf c g q e = record { core = withStage c g; say = Send q; effect = e }
+
+-- the call has its result
+abbrev pub endOf : Core → Say → Effect → Plan
+endOf c a e = record { core = withStage c Idle; say = a; effect = e }
+
+-- refused with nothing changed
+abbrev pub refuseOf : Core → Refusal → Plan
+refuseOf c r = record { core = c; say = Refused r; effect = Nothing }
+
+-- "A set-up cut short leaves all three tables empty, and the next call begins it again."
+abbrev pub cutShortOf : Core → Refusal → Plan
+cutShortOf c r = record { core = record { counts = c .counts; read = none; ready = false; stage = Idle }; say = Refused r; effect = Nothing }
+
+-- ---- requests
+
+-- "query jacks, streams, channel maps, each from 0 with the configured count"
+abbrev pub queryOf : ℕ → ℕ → ℕ → Request
+queryOf code n size = request.Query (record { code = code; start = 0; count = n; size = size })
+
+abbrev pub kindCode : Kind → ℕ
+kindCode Prepare = 0x0102
+kindCode Release = 0x0103
+kindCode Start = 0x0104
+kindCode Stop = 0x0105
+
+abbrev pub setOf : ℕ → Params → SetParameters
+setOf stream p =
+    record {
+      code = 0x0101;
+      stream = stream;
+      buffer = p .buffer;
+      period = p .period;
+      features = p .features;
+      channels = p .channels;
+      format = p .format;
+      rate = p .rate;
+      zero = 0;
+    }
+
+-- ---- WHAT ONE LOOK FOUND: a jack's features, or the field of a stream's record that is asked for
+
+abbrev pub canRemap : Look → Bool
+canRemap look.Nothing = false
+canRemap (look.Jack features) = hasBit remapFeature features
+canRemap (look.Stream v) = false
+
+abbrev pub foundOf : Look → Value
+foundOf look.Nothing = value.Nothing
+foundOf (look.Jack features) = value.Nothing
+foundOf (look.Stream v) = v
+
+-- ---- THE CALL'S OWN PART, once set-up is done: "the call's own checks in the order written here"
+
+abbrev pub refusing : Core → Refusal → Plan
+refusing c r = endOf c (Refused r) Nothing
+
+unfoldable pub ownSet : Core → ℕ → Params → Plan
+ownSet c stream to =
+    guard (periodOk (to .buffer) (to .period)) (refusing c InvalidParam)
+    (guard (ltb stream (c .counts .streams)) (refusing c InvalidParam)
+    (sendOf c (Sent (SetParams stream to)) (request.Set (setOf stream to)) Nothing))
+
+-- "Remap: no jacks or id too high 1; table empty 4; no REMAP bit 3; then sent."
+unfoldable pub ownRemap : Core → ℕ → ℕ → ℕ → Look → Plan
+ownRemap c jack association sequence look =
+    guard (ltb jack (c .counts .jacks)) (refusing c InvalidParam)
+    (guard (not (eqb (c .read .jacks) 0)) (refusing c NoInfo)
+    (guard (canRemap look) (refusing c Unsupported)
+    (sendOf c (Sent (Remap jack association sequence)) (request.Remap (record { code = 0x0002; jack = jack; association = association; sequence = sequence })) Nothing)))
+
+-- "stream too high 1, else the stored bits"
+unfoldable pub ownSupported : Core → ℕ → Look → Plan
+ownSupported c stream look = guard (ltb stream (c .counts .streams)) (refusing c InvalidParam) (endOf c (Done (foundOf look)) Nothing)
+
+-- a transfer that had to begin set-up: in a state that calls left no stream has parameters yet (`Kept`), so it never runs
+unfoldable pub ownXfer : Core → ℕ → Plan
+ownXfer c stream = guard (ltb stream (c .counts .streams)) (refusing c InvalidParam) (refusing c IoError)
+
+abbrev pub ownOf : Core → Call → Look → Plan
+ownOf c (SetParams stream to) look = ownSet c stream to
+ownOf c (Command kind stream) look = sendOf c (Sent (Command kind stream)) (request.Command (record { code = kindCode kind; stream = stream })) Nothing
+ownOf c (Remap jack association sequence) look = ownRemap c jack association sequence look
+ownOf c (Streams direction) look = endOf c (Done (value.Streams direction)) Nothing
+ownOf c (Supported field stream) look = ownSupported c stream look
+ownOf c (Xfer stream) look = ownXfer c stream
+
+-- ---- A NEW CALL. "Order: BadLength, 1 for a state or ring that fails the consistency test, Busy, format or rate number out of range, set-up,
+-- then the call's own checks."
+
+abbrev pub isIdle : Stage → Bool
+isIdle Idle = true
+isIdle (JacksAsked call) = false
+isIdle (StreamsAsked call) = false
+isIdle (MapsAsked call) = false
+isIdle (Sent call) = false
+
+-- set-up first, where it is not done
+abbrev pub setUpOf : Core → Call → Look → Plan
+setUpOf c call look = pick (c .ready) (ownOf c call look) (sendOf c (JacksAsked call) (queryOf 0x0001 (c .counts .jacks) 24) Nothing)
+
+unfoldable pub beginOf : Core → Track → Call → Look → Plan
+beginOf c t call look =
+    guard (consistentOf c && ring.consistentOf t) (refuseOf c InvalidParam)
+    (guard (isIdle (c .stage) && idleOf t) (refuseOf c Busy)
+    (guard (callOk call) (refuseOf c InvalidParam)
+    (setUpOf c call look)))
+
+-- ---- AN ANSWER, by what was asked. A page and a failure of the queue both come as a verdict
+
+-- `status` is what a status that is not ok says to the call
+abbrev pub refusalOf : Refusal → Verdict → Refusal
+refusalOf status verdict.Good = status
+refusalOf status (verdict.Status word) = status
+refusalOf status (verdict.Refused r) = r
+
+-- the core once the jacks, the streams, the maps are read
+abbrev pub readTo : Core → ℕ → ℕ → ℕ → Bool → Core
+readTo c jacks streams maps ready = record { counts = c .counts; read = record { jacks = jacks; streams = streams; maps = maps }; ready = ready; stage = c .stage }
+
+-- "A status not ok or queue failure on jacks or channel maps gives an empty table and set-up goes on." An ok header with too many records ends it with 5
+unfoldable pub afterJacks : Core → Call → Verdict → Plan
+afterJacks c call v =
+    let n = pick (isGood v) (c .counts .jacks) 0 in
+    guard (not (refusedBy 5 v)) (cutShortOf c TooMany)
+    (sendOf (readTo c n 0 0 false) (StreamsAsked call) (queryOf 0x0100 (c .counts .streams) 32) (pick (isGood v) (FillJacks (c .counts .jacks)) Nothing))
+
+-- "On streams it ends the call with 2 or 7."
+unfoldable pub afterStreams : Core → Call → Verdict → Plan
+afterStreams c call v =
+    guard (isGood v) (cutShortOf c (refusalOf IoError v))
+    (sendOf (readTo c (c .read .jacks) (c .counts .streams) 0 false) (MapsAsked call) (queryOf 0x0200 (c .counts .maps) 24) (FillStreams (c .counts .streams)))
+
+-- "A set-up finished in a call stays done however that call ends."
+unfoldable pub afterMaps : Core → Call → Verdict → Look → Plan
+afterMaps c call v look =
+    let n = pick (isGood v) (c .counts .maps) 0 in
+    let own = ownOf (readTo c (c .read .jacks) (c .read .streams) n true) call look in
+    guard (not (refusedBy 5 v)) (cutShortOf c TooMany)
+    (record { core = own .core; say = own .say; effect = pick (isGood v) (FillMaps (c .counts .maps)) Nothing })
+
+abbrev pub storedOf : Params → Params
+storedOf p =
+    record {
+      known = 1;
+      buffer = p .buffer;
+      period = p .period;
+      features = p .features;
+      channels = p .channels;
+      format = p .format;
+      rate = p .rate;
+    }
+
+-- "Status ok stores all seven values; else 2."
+abbrev pub effectOf : Call → Effect
+effectOf (SetParams stream to) = Store stream (storedOf to)
+effectOf (Command kind stream) = Nothing
+effectOf (Remap jack association sequence) = Nothing
+effectOf (Streams direction) = Nothing
+effectOf (Supported field stream) = Nothing
+effectOf (Xfer stream) = Nothing
+
+-- what a status that is not ok says: 3 "remap status not ok", else 2
+abbrev pub statusRefusal : Call → Refusal
+statusRefusal (SetParams stream to) = IoError
+statusRefusal (Command kind stream) = IoError
+statusRefusal (Remap jack association sequence) = Unsupported
+statusRefusal (Streams direction) = IoError
+statusRefusal (Supported field stream) = IoError
+statusRefusal (Xfer stream) = IoError
+
+unfoldable pub afterSent : Core → Call → Verdict → Plan
+afterSent c call v = guard (isGood v) (refusing c (refusalOf (statusRefusal call) v)) (endOf c (Done value.Nothing) (effectOf call))
+
+abbrev pub answerBy : Stage → Core → Verdict → Look → Plan
+answerBy Idle c v look = refuseOf c InvalidParam
+answerBy (JacksAsked call) c v look = afterJacks c call v
+answerBy (StreamsAsked call) c v look = afterStreams c call v
+answerBy (MapsAsked call) c v look = afterMaps c call v look
+answerBy (Sent call) c v look = afterSent c call v
+
+-- 10 "unchanged; an open exchange stays open", then the consistency test, then by what was asked
+unfoldable pub answerOf : Core → Verdict → Look → Plan
+answerOf c v look =
+    guard (not (refusedBy 10 v)) (refuseOf c BadLength)
+    (guard (consistentOf c) (refuseOf c InvalidParam)
+    (answerBy (c .stage) c v look))
+
+-- what a page says to what was asked
+abbrev pub verdictBy : Stage → Counts → List ℕ → Verdict
+verdictBy Idle n page = judged page 0 0
+verdictBy (JacksAsked call) n page = judged page (n .jacks) 24
+verdictBy (StreamsAsked call) n page = judged page (n .streams) 32
+verdictBy (MapsAsked call) n page = judged page (n .maps) 24
+verdictBy (Sent call) n page = judged page 0 0

@@ -1,0 +1,28 @@
+-- The core: configured counts, table counts, set-up done or not, and the open exchange.
+-- Assumes nothing.
+use mathlib.Core.Bool.{false}
+use Prim.Native.Nat.{ℕ}
+use Rattle.core.specs.declared.state.Counts.{Counts}
+use Rattle.core.specs.declared.state.Params.{Params}
+use Rattle.core.specs.declared.state.Core.{Core}
+use Rattle.core.specs.declared.state.Stage.{Stage}
+use Rattle.core.specs.declared.state.Stage.the-variants.{Idle}
+
+abbrev pub none : Counts
+none = record { jacks = 0; streams = 0; maps = 0 }
+
+-- a stream that was never set
+abbrev pub unset : Params
+unset = record { known = 0; buffer = 0; period = 0; features = 0; channels = 0; format = 0; rate = 0 }
+
+-- the core from the three configured counts, before any call
+abbrev pub newCore : ℕ → ℕ → ℕ → Core
+newCore jacks streams maps = record { counts = record { jacks = jacks; streams = streams; maps = maps }; read = none; ready = false; stage = Idle }
+
+abbrev pub withStage : Core → Stage → Core
+withStage c g = record { counts = c .counts; read = c .read; ready = c .ready; stage = g }
+
+-- the parameters that a call asks for: not known before the answer
+abbrev pub askedParams : ℕ → ℕ → ℕ → ℕ → ℕ → ℕ → Params
+askedParams buffer period features channels format rate =
+    record { known = 0; buffer = buffer; period = period; features = features; channels = channels; format = format; rate = rate }

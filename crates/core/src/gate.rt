@@ -1,0 +1,58 @@
+// The checks of a transfer, on the core and on its stream's own parameters.
+ghost use mathlib.Core.Path.{_≡_};
+ghost use Rattle.core.specs.Gate.{gateBy, restBy};
+ghost use Rattle.core.specs.declared.gate.Gate.the-variants.{Shut, SetUp, Open};
+use crate::consistency::consistent;
+use crate::consistency::stream_ok;
+use crate::decide::is_idle_stage;
+use crate::state::Core;
+use crate::state::Params;
+use codes::Refusal;
+use codes::both;
+use turns::Track;
+use turns::is_consistent;
+use turns::is_idle;
+
+// What the checks of a transfer come to: a refusal, set-up first, or a transfer by periods.
+pub enum Gate {
+    Shut(Refusal),
+    SetUp,
+    Open(u32),
+}
+
+// Set-up, then the stream's range, then its parameters.
+fn checked_by(c: Core, stream: u32, p: Params) -> Gate
+    ensures { λ r. ⌜ r ≡ restBy c p stream Shut SetUp Open ⌝ }
+{
+    if !c.ready {
+        return Gate::SetUp;
+    }
+    if c.counts.streams <= stream {
+        return Gate::Shut(Refusal::InvalidParam);
+    }
+    if p.known == 0 {
+        return Gate::Shut(Refusal::IoError);
+    }
+    Gate::Open(p.period)
+}
+
+// The checks of a transfer, with the stream's own parameters: lengths, then consistency, then Busy,
+// then the rest.
+pub fn xfer_gate(lengths: bool, c: Core, p: Params, t: Track, stream: u32) -> Gate
+    ensures { λ r. ⌜ r ≡ gateBy lengths c p t stream Shut SetUp Open ⌝ }
+{
+    let stage = c.stage;
+    let own = stream_ok(c, stream, p);
+    let sound = both(consistent(c), both(is_consistent(t), own));
+    let free = both(is_idle_stage(stage), is_idle(t));
+    if !lengths {
+        return Gate::Shut(Refusal::BadLength);
+    }
+    if !sound {
+        return Gate::Shut(Refusal::InvalidParam);
+    }
+    if !free {
+        return Gate::Shut(Refusal::Busy);
+    }
+    checked_by(c, stream, p)
+}

@@ -1,0 +1,34 @@
+// The core of a state: what a call or an answer leads to, decided with no table in sight.
+mod consistency;
+mod decide;
+mod gate;
+mod plan;
+mod reply;
+mod state;
+mod verdict;
+
+pub use consistency::consistent;
+pub use consistency::params_ok;
+pub use consistency::stream_ok;
+pub use decide::answer;
+pub use decide::ask_jacks;
+pub use decide::begin;
+pub use gate::Gate;
+pub use gate::xfer_gate;
+pub use plan::Effect;
+pub use plan::Look;
+pub use plan::Plan;
+pub use plan::Request;
+pub use plan::Say;
+pub use plan::Value;
+pub use reply::MESSAGE;
+pub use reply::Reply;
+pub use reply::tell;
+pub use state::Call;
+pub use state::Core;
+pub use state::Counts;
+pub use state::Field;
+pub use state::Kind;
+pub use state::Params;
+pub use state::Stage;
+pub use verdict::verdict_by;

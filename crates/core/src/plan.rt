@@ -1,0 +1,54 @@
+// What a call or an answer leads to.
+use crate::state::Core;
+use crate::state::Params;
+use codes::Refusal;
+use records::PcmCommand;
+use records::Query;
+use records::Remap;
+use records::SetParameters;
+
+// What is to be sent.
+pub enum Request {
+    Query(Query),
+    Remap(Remap),
+    Command(PcmCommand),
+    Set(SetParameters),
+}
+
+// What a call results in. A list of streams stands beside it, since an enum holds no array.
+pub enum Value {
+    Nothing,
+    Number(u64),
+    Range { min: u8, max: u8 },
+    Streams { direction: u8 },
+}
+
+// What a call looks up in a table before it is decided: a jack's features, or the field of a stream's
+// record that is asked for.
+pub enum Look {
+    Nothing,
+    Jack { features: u32 },
+    Stream(Value),
+}
+
+pub enum Say {
+    Send(Request),
+    Done(Value),
+    Refused(Refusal),
+}
+
+// The one change to tables and parameters.
+pub enum Effect {
+    Nothing,
+    // So many records of the page that was judged.
+    FillJacks(u32),
+    FillStreams(u32),
+    FillMaps(u32),
+    Store { stream: u32, to: Params },
+}
+
+pub struct Plan {
+    pub core: Core,
+    pub say: Say,
+    pub effect: Effect,
+}

@@ -1,0 +1,55 @@
+-- The tables of a state: what a call looks up in them, and the one effect that a plan has on them or on the parameters.
+-- Assumes nothing.
+use mathlib.Core.List.{List}
+use Prim.Native.Nat.{ℕ}
+use lib.ListN.{set}
+use Rattle.records.specs.declared.info.PcmInfo.{PcmInfo}
+use Rattle.tables.specs.Tables.{jacksRead, streamsRead, mapsRead}
+use Rattle.core.specs.declared.state.Field.{Field}
+use Rattle.core.specs.declared.state.Field.the-variants.{Rates, Formats, Channels, Features}
+use Rattle.core.specs.declared.state.Call.{Call}
+use Rattle.core.specs.declared.state.Call.the-variants.{SetParams, Command, Remap, Streams, Supported, Xfer}
+use Rattle.core.specs.declared.state.Stage.{Stage}
+use Rattle.core.specs.declared.state.Stage.the-variants.{Idle, JacksAsked, StreamsAsked, MapsAsked, Sent}
+use Rattle.core.specs.declared.state.Core.{Core}
+use Rattle.core.specs.declared.plan.Value.{Value}
+use Rattle.core.specs.declared.plan.Value.the-variants as value
+use Rattle.core.specs.declared.plan.Look.{Look}
+use Rattle.core.specs.declared.plan.Look.the-variants as look
+use Rattle.core.specs.declared.plan.Effect.{Effect}
+use Rattle.core.specs.declared.plan.Effect.the-variants.{Nothing, FillJacks, FillStreams, FillMaps, Store}
+use Rattle.exchange.specs.State.{jackOf, pcmOf, withCore}
+use Rattle.exchange.specs.declared.state.Sound.{Sound}
+
+-- ---- what a call looks up in a table: a jack's features, or the field of a stream's record that is asked for
+
+abbrev pub fieldOf : Field → PcmInfo → Value
+fieldOf Rates p = value.Number (p .rates)
+fieldOf Formats p = value.Number (p .formats)
+fieldOf Channels p = value.Range (p .min) (p .max)
+fieldOf Features p = value.Number (p .features)
+
+abbrev pub lookOf : Sound → Call → Look
+lookOf s (SetParams stream to) = look.Nothing
+lookOf s (Command kind stream) = look.Nothing
+lookOf s (Remap jack association sequence) = look.Jack (jackOf s jack .features)
+lookOf s (Streams direction) = look.Nothing
+lookOf s (Supported field stream) = look.Stream (fieldOf field (pcmOf s stream))
+lookOf s (Xfer stream) = look.Nothing
+
+-- the look of the call that waits
+abbrev pub pendingLook : Stage → Sound → Look
+pendingLook Idle s = look.Nothing
+pendingLook (JacksAsked call) s = look.Nothing
+pendingLook (StreamsAsked call) s = look.Nothing
+pendingLook (MapsAsked call) s = lookOf s call
+pendingLook (Sent call) s = look.Nothing
+
+-- ---- THE EFFECT on the state, with the page at hand: one table is read from it, or one stream's parameters are stored
+
+abbrev pub soundAfter : Effect → Core → Sound → List ℕ → Sound
+soundAfter Nothing c s page = withCore c s
+soundAfter (FillJacks n) c s page = record { core = c; jacks = jacksRead page n (s .jacks); pcms = s .pcms; maps = s .maps; params = s .params }
+soundAfter (FillStreams n) c s page = record { core = c; jacks = s .jacks; pcms = streamsRead page n (s .pcms); maps = s .maps; params = s .params }
+soundAfter (FillMaps n) c s page = record { core = c; jacks = s .jacks; pcms = s .pcms; maps = mapsRead page n (s .maps); params = s .params }
+soundAfter (Store stream to) c s page = record { core = c; jacks = s .jacks; pcms = s .pcms; maps = s .maps; params = set (s .params) stream to }

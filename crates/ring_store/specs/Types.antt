@@ -1,0 +1,17 @@
+-- The types of `turns`, and their cases, as definitions and laws name them.
+-- Assumes nothing.
+pub use Rattle.turns.specs.declared.ring.Slot.{Slot}
+pub use Rattle.turns.specs.declared.ring.Track.{Track}
+pub use Rattle.turns.specs.declared.ring.Ring.{Ring}
+pub use Rattle.turns.specs.declared.ring.Sent.{Sent}
+pub use Rattle.turns.specs.declared.ring.Sent.the-variants.{Nothing, Period}
+pub use Rattle.turns.specs.declared.ring.Said.{Said}
+pub use Rattle.turns.specs.declared.ring.Said.the-variants.{Going, Done, Ended, Refused}
+pub use Rattle.turns.specs.declared.ring.Step.{Step}
+pub use Rattle.turns.specs.declared.ring.Turned.{Turned}
+pub use Rattle.turns.specs.declared.reading.Reading.{Reading}
+pub use Rattle.turns.specs.declared.reading.Reading.the-variants.{Quiet, Completed}
+pub use Rattle.turns.specs.declared.rules.Choice.{Choice}
+pub use Rattle.turns.specs.declared.rules.Choice.the-variants.{Submit, Finish, Wait}
+pub use Rattle.turns.specs.declared.rules.Verdict.{Verdict}
+pub use Rattle.turns.specs.declared.rules.Verdict.the-variants.{WrongSlot, Good, Bad}

@@ -1,0 +1,27 @@
+-- Where the parts of a state stand in its store, and what they take: the head, jacks, streams, channel maps, parameters.
+-- Assumes nothing.
+use Prim.Native.Nat.{ℕ}
+
+-- the core and 16 bytes that are reserved; the jacks follow
+abbrev pub headSize : ℕ
+headSize = 64
+
+-- after 170 jacks of 24 bytes
+abbrev pub pcmsPlace : ℕ
+pcmsPlace = 4144
+
+-- after 127 streams of 32
+abbrev pub mapsPlace : ℕ
+mapsPlace = 8208
+
+-- after 170 channel maps of 24
+abbrev pub paramsPlace : ℕ
+paramsPlace = 12288
+
+-- after the parameters of 127 streams, 16 bytes each
+abbrev pub stateSize : ℕ
+stateSize = 14320
+
+-- all but the head
+abbrev pub tablesSize : ℕ
+tablesSize = 14256

@@ -1,0 +1,76 @@
+-- What calls leave never fails the consistency test: a new ring, a turn, a drain turn, the start of a transfer, each with its refusals.
+-- Assumes nothing.
+use Prim.Native.Nat.{ℕ, _<_}
+use native.Mathlib.Omega.{arith}
+use mathlib.Core.Path.{_≡_, refl}
+use mathlib.Core.Bool.{true, false≢true}
+use borrow.Author.Tests.{ltb-true}
+use Rattle.codes.specs.SaysLaws.{guarded-by}
+use Rattle.turns.specs.Ring.{direct, newTrack}
+use Rattle.turns.specs.Rules.{release}
+use Rattle.turns.specs.RuleLaws.{oldest-facts}
+use Rattle.turns.specs.Consistent.{consistentOf}
+use Rattle.turns.specs.ConsistentLaws.{Consistent, consistent-facts, consistent-true}
+use Rattle.turns.specs.Calls.{turnCall, drained, drainCall, begun, startCall}
+use Rattle.turns.specs.KeepLaws.{Leaves, Fit, fit-of, fit-release, turn-keeps}
+use Rattle.turns.specs.Types.{Track, Reading, Quiet, Completed}
+
+-- THE CALL of a turn
+pub call-keeps : (t : Track) (len : ℕ) (reading : Reading) → Consistent t → Consistent (turnCall t len reading .track)
+unfolding turnCall
+call-keeps t len reading c =
+    guarded-by Leaves _ _ _ (λ _. guarded-by Leaves _ _ _ (λ _. guarded-by Leaves _ _ _ (λ on. turn-keeps (t .descriptors) t reading (omega arith) c on) (λ _. c)) (λ _. c)) (λ _. c)
+
+release-keeps : (t : Track) → 0 < t .inflight → Consistent t → Consistent (release t)
+release-keeps t h c =
+    let f = fit-release t h (fit-of t c) in
+    record { placed = f .placed; paced = record { within = f .within; some = c .paced .some; left = c .paced .left } }
+
+drained-keeps : (t : Track) (reading : Reading) → Consistent t → Leaves (drained t reading)
+drained-keeps t Quiet c = c
+drained-keeps t (Completed slot status) c = guarded-by Leaves _ _ _ (λ e. release-keeps t (oldest-facts t slot e .0) c) (λ _. c)
+
+-- A DRAIN TURN
+pub drain-keeps : (t : Track) (reading : Reading) → Consistent t → Consistent (drainCall t reading .track)
+unfolding drainCall
+drain-keeps t reading c = guarded-by Leaves _ _ _ (λ _. guarded-by Leaves _ _ _ (λ _. c) (λ _. drained-keeps t reading c)) (λ _. c)
+
+pub begun-fit : (t : Track) (stream total period budget : ℕ) → t .descriptors ≡ direct → Fit (begun t stream total period budget)
+begun-fit t stream total period budget e = record { placed = record { mode = e; head-in = omega arith; tail-in = omega arith; room = omega arith; line = omega arith }; within = omega arith }
+
+pub begun-keeps : (t : Track) (stream total period budget : ℕ) → t .descriptors ≡ direct → 0 < period → 0 < budget → Consistent (begun t stream total period budget)
+begun-keeps t stream total period budget e p b =
+    let f = begun-fit t stream total period budget e in
+    record { placed = f .placed; paced = record { within = f .within; some = λ _. p; left = λ _. b } }
+
+-- THE START of a transfer
+pub start-keeps : (t : Track) (stream total period budget : ℕ) → Consistent t → Consistent (startCall t stream total period budget .track)
+unfolding startCall
+start-keeps t stream total period budget c =
+    guarded-by Leaves _ _ _
+    (λ _. guarded-by Leaves _ _ _
+    (λ _. guarded-by Leaves _ _ _
+    (λ p. guarded-by Leaves _ _ _ (λ b. begun-keeps t stream total period budget (c .placed .mode) (ltb-true _ _ p) (ltb-true _ _ b)) (λ _. c))
+    (λ _. c))
+    (λ _. c))
+    (λ _. c)
+
+-- ---- the same of the test: A NEW RING passes it, and what passed it before a call passes it afterwards
+
+pub new-passes : consistentOf (newTrack direct) ≡ true
+new-passes =
+    consistent-true (newTrack direct)
+    (record {
+      placed = record { mode = refl; head-in = omega arith; tail-in = omega arith; room = omega arith; line = omega arith };
+      paced = record { within = omega arith; some = λ h. absurd (false≢true h); left = λ h. absurd (false≢true h) };
+    })
+
+module _ (t : Track) (ok : consistentOf t ≡ true) where
+  pub call-passes : (len : ℕ) (reading : Reading) → consistentOf (turnCall t len reading .track) ≡ true
+  call-passes len reading = consistent-true _ (call-keeps t len reading (consistent-facts t ok))
+
+  pub drain-passes : (reading : Reading) → consistentOf (drainCall t reading .track) ≡ true
+  drain-passes reading = consistent-true _ (drain-keeps t reading (consistent-facts t ok))
+
+  pub start-passes : (stream total period budget : ℕ) → consistentOf (startCall t stream total period budget .track) ≡ true
+  start-passes stream total period budget = consistent-true _ (start-keeps t stream total period budget (consistent-facts t ok))
