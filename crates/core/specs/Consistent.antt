@@ -4,13 +4,7 @@ use mathlib.Core.Bool.{Bool, true, false, not, _&&_, _||_}
 use Prim.Native.Nat.{ℕ, _%_}
 use lib.Dec.{leb, ltb, eqb}
 use Rattle.codes.specs.Says.{pick}
-use Rattle.core.specs.declared.state.Counts.{Counts}
-use Rattle.core.specs.declared.state.Params.{Params}
-use Rattle.core.specs.declared.state.Call.{Call}
-use Rattle.core.specs.declared.state.Call.the-variants.{SetParams, Command, Remap, Streams, Supported, Xfer}
-use Rattle.core.specs.declared.state.Stage.{Stage}
-use Rattle.core.specs.declared.state.Stage.the-variants.{Idle, JacksAsked, StreamsAsked, MapsAsked, Sent}
-use Rattle.core.specs.declared.state.Core.{Core}
+use Rattle.core.specs.Types.{Counts, Params, Call, SetParams, Command, Remap, Streams, Supported, Xfer, Stage, Idle, JacksAsked, StreamsAsked, MapsAsked, Sent, Core}
 
 -- "period 0, period above buffer, or buffer not a multiple of period gives 1"
 abbrev pub periodOk : ℕ → ℕ → Bool

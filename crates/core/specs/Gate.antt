@@ -6,17 +6,11 @@ use Prim.Native.Nat.{ℕ}
 use lib.Dec.{ltb, eqb}
 use Rattle.codes.specs.Says.{Says, says, guard}
 use Rattle.codes.specs.Answers.{saysRefusal}
-use Rattle.codes.specs.declared.answers.Refusal.{Refusal}
-use Rattle.codes.specs.declared.answers.Refusal.the-variants.{InvalidParam, IoError, Busy, BadLength}
 use Rattle.turns.specs.Calls.{idleOf}
 use Rattle.turns.specs.Consistent as ring
-use Rattle.turns.specs.declared.ring.Track.{Track}
 use Rattle.core.specs.Consistent.{consistentOf, streamOk}
 use Rattle.core.specs.Plan.{isIdle}
-use Rattle.core.specs.declared.state.Core.{Core}
-use Rattle.core.specs.declared.state.Params.{Params}
-use Rattle.core.specs.declared.gate.Gate.{Gate}
-use Rattle.core.specs.declared.gate.Gate.the-variants.{Shut, SetUp, Open}
+use Rattle.core.specs.Types.{Refusal, InvalidParam, IoError, Busy, BadLength, Track, Core, Params, Gate, Shut, SetUp, Open}
 
 -- what is left of the checks once state and ring are at rest: set-up, range, parameters
 abbrev pub restBy : {A : Type 0} → Core → Params → ℕ → (Refusal → A) → A → (ℕ → A) → A

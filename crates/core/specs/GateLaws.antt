@@ -7,11 +7,8 @@ use Prim.Native.Nat.{ℕ}
 use Rattle.codes.specs.Says.{says, guard}
 use Rattle.codes.specs.SaysLaws.{guard-ap}
 use Rattle.codes.specs.Answers.{saysRefusal}
-use Rattle.turns.specs.declared.ring.Track.{Track}
 use Rattle.core.specs.Gate.{gateBy, saysGate}
-use Rattle.core.specs.declared.state.Core.{Core}
-use Rattle.core.specs.declared.state.Params.{Params}
-use Rattle.core.specs.declared.gate.Gate.the-variants.{Shut, SetUp, Open}
+use Rattle.core.specs.Types.{Track, Core, Params, Shut, SetUp, Open}
 
 pub gate-says : (lengths : Bool) (c : Core) (p : Params) (t : Track) (stream : ℕ)
     → saysGate (gateBy lengths c p t stream Shut SetUp Open) ≡ gateBy lengths c p t stream saysRefusal (saysGate SetUp) (λ (n : ℕ). says 0 (n ∷ []))

@@ -6,37 +6,16 @@ use Prim.Native.Nat.{ℕ}
 use lib.Dec.{ltb, eqb}
 use Rattle.codes.specs.Says.{pick, guard}
 use Rattle.codes.specs.Flags.{hasBit, remapFeature}
-use Rattle.codes.specs.declared.answers.Refusal.{Refusal}
-use Rattle.codes.specs.declared.answers.Refusal.the-variants.{InvalidParam, IoError, Unsupported, NoInfo, TooMany, Busy, BadLength}
-use Rattle.records.specs.declared.control.SetParameters.{SetParameters}
 use Rattle.tables.specs.Tables.{judged, isGood, refusedBy}
-use Rattle.tables.specs.declared.verdict.Verdict.{Verdict}
 use Rattle.tables.specs.declared.verdict.Verdict.the-variants as verdict
 use Rattle.turns.specs.Calls.{idleOf}
 use Rattle.turns.specs.Consistent as ring
-use Rattle.turns.specs.declared.ring.Track.{Track}
 use Rattle.core.specs.State.{none, withStage}
 use Rattle.core.specs.Consistent.{periodOk, callOk, consistentOf}
-use Rattle.core.specs.declared.state.Counts.{Counts}
-use Rattle.core.specs.declared.state.Params.{Params}
-use Rattle.core.specs.declared.state.Kind.{Kind}
-use Rattle.core.specs.declared.state.Kind.the-variants.{Prepare, Release, Start, Stop}
-use Rattle.core.specs.declared.state.Call.{Call}
-use Rattle.core.specs.declared.state.Call.the-variants.{SetParams, Command, Remap, Streams, Supported, Xfer}
-use Rattle.core.specs.declared.state.Stage.{Stage}
-use Rattle.core.specs.declared.state.Stage.the-variants.{Idle, JacksAsked, StreamsAsked, MapsAsked, Sent}
-use Rattle.core.specs.declared.state.Core.{Core}
-use Rattle.core.specs.declared.plan.Request.{Request}
 use Rattle.core.specs.declared.plan.Request.the-variants as request
-use Rattle.core.specs.declared.plan.Value.{Value}
 use Rattle.core.specs.declared.plan.Value.the-variants as value
-use Rattle.core.specs.declared.plan.Look.{Look}
 use Rattle.core.specs.declared.plan.Look.the-variants as look
-use Rattle.core.specs.declared.plan.Say.{Say}
-use Rattle.core.specs.declared.plan.Say.the-variants.{Send, Done, Refused}
-use Rattle.core.specs.declared.plan.Effect.{Effect}
-use Rattle.core.specs.declared.plan.Effect.the-variants.{Nothing, FillJacks, FillStreams, FillMaps, Store}
-use Rattle.core.specs.declared.plan.Plan.{Plan}
+use Rattle.core.specs.Types.{Refusal, InvalidParam, IoError, Unsupported, NoInfo, TooMany, Busy, BadLength, SetParameters, Verdict, Track, Counts, Params, Kind, Prepare, Release, Start, Stop, Call, SetParams, Command, Remap, Streams, Supported, Xfer, Stage, Idle, JacksAsked, StreamsAsked, MapsAsked, Sent, Core, Request, Value, Look, Say, Send, Done, Refused, Effect, Nothing, FillJacks, FillStreams, FillMaps, Store, Plan}
 
 -- ---- four ways to go on
 

@@ -7,15 +7,10 @@ use lib.ListN.{length, drop}
 use Rattle.layout.specs.Layout.{write}
 use Rattle.codes.specs.Says.{Says, says, guard}
 use Rattle.codes.specs.Answers.{saysRefusal}
-use Rattle.codes.specs.declared.answers.Refusal.the-variants.{BadLength}
 use Rattle.records.specs.Records.{query, queryValues, remap, remapValues, pcmCommand, pcmCommandValues, setParameters, setParametersValues}
-use Rattle.core.specs.declared.plan.Request.{Request}
 use Rattle.core.specs.declared.plan.Request.the-variants as request
-use Rattle.core.specs.declared.plan.Value.{Value}
 use Rattle.core.specs.declared.plan.Value.the-variants as value
-use Rattle.core.specs.declared.plan.Say.{Say}
-use Rattle.core.specs.declared.plan.Say.the-variants.{Send, Done, Refused}
-use Rattle.core.specs.declared.reply.Reply.{Reply}
+use Rattle.core.specs.Types.{BadLength, Request, Value, Say, Send, Done, Refused, Reply}
 use Rattle.core.specs.declared.reply.Reply.the-variants as reply
 
 -- ---- the message

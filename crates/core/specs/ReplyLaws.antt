@@ -11,7 +11,7 @@ use Rattle.records.specs.Slice.{written}
 use Rattle.records.specs.SliceLaws.{written-long}
 use Rattle.codes.specs.SaysLaws.{passes}
 use Rattle.core.specs.Reply.{messageAfter, replyOf, tellOf, toldIn}
-use Rattle.core.specs.declared.plan.Say.{Say}
+use Rattle.core.specs.Types.{Say}
 
 -- a record, written at the front of a buffer that is long enough
 pub sent-by : (ws vs l n : List ℕ) → size ws ≤ length l → n ≡ written ws vs l → (size ws ≡ length (write ws vs)) × (n ≡ write ws vs ++ drop (length (write ws vs)) l)

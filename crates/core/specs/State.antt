@@ -2,11 +2,7 @@
 -- Assumes nothing.
 use mathlib.Core.Bool.{false}
 use Prim.Native.Nat.{ℕ}
-use Rattle.core.specs.declared.state.Counts.{Counts}
-use Rattle.core.specs.declared.state.Params.{Params}
-use Rattle.core.specs.declared.state.Core.{Core}
-use Rattle.core.specs.declared.state.Stage.{Stage}
-use Rattle.core.specs.declared.state.Stage.the-variants.{Idle}
+use Rattle.core.specs.Types.{Counts, Params, Core, Stage, Idle}
 
 abbrev pub none : Counts
 none = record { jacks = 0; streams = 0; maps = 0 }

@@ -8,7 +8,7 @@ use lib.ListN.{getD}
 use Rattle.codes.specs.Says.{Says, pick}
 use Rattle.codes.specs.SaysLaws.{same, one}
 use Rattle.exchange.specs.State.{saysConfigured}
-use Rattle.exchange.specs.declared.state.Configured.{Configured}
+use Rattle.exchange.specs.Types.{Configured}
 use Rattle.exchange.specs.declared.state.Configured.the-variants as configured
 use Rattle.exchange.proofs.state.Sound.new.Reads as new
 use Rattle.exchange.proofs.state.Sound.jacks.Reads as jacks

@@ -9,13 +9,7 @@ use borrow.Author.Tests.{leb-true, le-leb, ltb-true, eqb-true, eqb-false, eq-eqb
 use Rattle.codes.specs.Says.{pick}
 use Rattle.turns.specs.ConsistentLaws.{both}
 use Rattle.core.specs.Consistent.{periodOk, numbersOk, stageOk, queriesAnswered, exactly, noneOrAll, tablesOk, bothOrNeither, consistentOf}
-use Rattle.core.specs.declared.state.Counts.{Counts}
-use Rattle.core.specs.declared.state.Params.{Params}
-use Rattle.core.specs.declared.state.Call.{Call}
-use Rattle.core.specs.declared.state.Call.the-variants.{SetParams}
-use Rattle.core.specs.declared.state.Stage.{Stage}
-use Rattle.core.specs.declared.state.Stage.the-variants.{Idle, JacksAsked, StreamsAsked, MapsAsked, Sent}
-use Rattle.core.specs.declared.state.Core.{Core}
+use Rattle.exchange.specs.Types.{Counts, Params, Call, SetParams, Stage, Idle, JacksAsked, StreamsAsked, MapsAsked, Sent, Core}
 use Rattle.exchange.specs.Feed.{asking}
 
 pub both-of : (a b : Bool) → a ≡ true → b ≡ true → (a && b) ≡ true

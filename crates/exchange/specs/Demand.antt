@@ -13,17 +13,13 @@ use Rattle.turns.specs.Asked as asked
 use Rattle.layout.specs.All.{All}
 use Rattle.turns.specs.Asked.{starts, plays, NoFault, CompletesWithin, Whole, Accounted}
 use Rattle.turns.specs.Demand as turns
-use Rattle.turns.specs.declared.ring.Ring.{Ring}
-use Rattle.turns.specs.declared.ring.Said.the-variants.{Going, Done}
-use Rattle.turns.specs.declared.reading.Reading.{Reading}
+use Rattle.turns.specs.declared.ring.Said.the-variants.{Done}
 use Rattle.exchange.specs.State.{paramsOf}
 use Rattle.exchange.specs.Xfer.{startOf, xferOf}
 use Rattle.exchange.specs.Kept.{Playable}
 use Rattle.exchange.specs.XferLaws.{start-by, script-by, period-divides, start-is, xfer-is}
 use Rattle.exchange.specs.ResultLaws.{wrong, says-said}
-use Rattle.exchange.specs.declared.state.Sound.{Sound}
-use Rattle.exchange.specs.declared.xfer.XferReply.the-variants.{Says}
-use Rattle.exchange.specs.declared.xfer.XferStep.{XferStep}
+use Rattle.exchange.specs.Types.{Ring, Going, Reading, Sound, Says, XferStep}
 
 -- the stream's period_bytes
 abbrev pub periodOf : Sound → ℕ → ℕ

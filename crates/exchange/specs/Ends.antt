@@ -6,8 +6,6 @@ use mathlib.Core.List.{List, [], _∷_}
 use Prim.Native.Nat.{ℕ, _+_, _-_, _≤_}
 use native.Mathlib.Omega.{arith}
 use lib.ListN.{length}
-use Rattle.tables.specs.declared.verdict.Verdict.{Verdict}
-use Rattle.turns.specs.declared.ring.Track.{Track}
 use Rattle.core.specs.Consistent.{consistentOf}
 use Rattle.exchange.specs.OwnLaws.{Own, sets, commands, remaps, lists, tells, refuses}
 use Rattle.exchange.specs.PlanLaws.{Begun, bars, asks, goes, begun, Answered, short, idle, asks-streams, asks-maps, cuts, finishes, ends, fails, fed, long-of}
@@ -17,14 +15,7 @@ use Rattle.exchange.specs.Kept.{Kept}
 use Rattle.exchange.specs.KeptLaws.{feed-kept}
 use Rattle.exchange.specs.Feed.{Feed, pageOf, planOf, fedOf, longOf, Long}
 use Rattle.exchange.specs.StayLaws.{after-core}
-use Rattle.core.specs.declared.state.Call.{Call}
-use Rattle.core.specs.declared.state.Stage.{Stage}
-use Rattle.core.specs.declared.state.Stage.the-variants.{Idle, JacksAsked, StreamsAsked, MapsAsked, Sent}
-use Rattle.core.specs.declared.state.Core.{Core}
-use Rattle.exchange.specs.declared.state.Sound.{Sound}
-use Rattle.core.specs.declared.plan.Look.{Look}
-use Rattle.core.specs.declared.plan.Plan.{Plan}
-use Rattle.core.specs.declared.reply.Reply.{Reply}
+use Rattle.exchange.specs.Types.{Verdict, Track, Call, Stage, Idle, JacksAsked, StreamsAsked, MapsAsked, Sent, Core, Sound, Look, Plan, Reply}
 use Rattle.core.specs.declared.reply.Reply.the-variants as reply
 
 -- ---- a run of feeds

@@ -8,24 +8,13 @@ use lib.Dec.{leb, eqb}
 use lib.ListN.{length, take, replicate}
 use Rattle.codes.specs.Says.{Says, says, pick, guard}
 use Rattle.codes.specs.Answers.{saysRefusal}
-use Rattle.codes.specs.declared.answers.Refusal.the-variants.{QueueFailed, BadLength}
-use Rattle.records.specs.declared.info.PcmInfo.{PcmInfo}
 use Rattle.tables.specs.declared.verdict.Verdict.the-variants as verdict
-use Rattle.turns.specs.declared.ring.Track.{Track}
 use Rattle.core.specs.Plan.{refuseOf, beginOf, answerOf, verdictBy}
 use Rattle.core.specs.Reply.{requestBytes, messageAfter, replyOf}
-use Rattle.core.specs.declared.state.Call.{Call}
-use Rattle.core.specs.declared.plan.Value.{Value}
 use Rattle.core.specs.declared.plan.Value.the-variants as value
-use Rattle.core.specs.declared.plan.Say.{Say}
-use Rattle.core.specs.declared.plan.Say.the-variants.{Send, Done, Refused}
-use Rattle.core.specs.declared.plan.Plan.{Plan}
-use Rattle.core.specs.declared.reply.Reply.{Reply}
 use Rattle.core.specs.declared.reply.Reply.the-variants as reply
 use Rattle.exchange.specs.Tables.{lookOf, pendingLook, soundAfter}
-use Rattle.exchange.specs.declared.state.Sound.{Sound}
-use Rattle.exchange.specs.declared.calls.StreamList.{StreamList}
-use Rattle.exchange.specs.declared.calls.Step.{Step}
+use Rattle.exchange.specs.Types.{QueueFailed, BadLength, PcmInfo, Track, Call, Value, Say, Send, Done, Refused, Plan, Reply, Sound, StreamList, Step}
 
 -- ---- "ascending ids with direction 0, or 1. Other directions are in neither list."
 

@@ -6,19 +6,11 @@ use mathlib.Core.List.{List, [], _∷_}
 use Prim.Native.Nat.{ℕ, _≤_}
 use lib.Dec.{leb, eqb}
 use lib.ListN.{length}
-use Rattle.tables.specs.declared.verdict.Verdict.{Verdict}
-use Rattle.codes.specs.declared.answers.Refusal.the-variants.{QueueFailed}
 use Rattle.tables.specs.declared.verdict.Verdict.the-variants as verdict
 use Rattle.core.specs.Plan.{verdictBy}
 use Rattle.exchange.specs.Exchange.{stepOf, feedOf, failOf}
-use Rattle.exchange.specs.declared.state.Sound.{Sound}
-use Rattle.core.specs.declared.plan.Plan.{Plan}
-use Rattle.exchange.specs.declared.calls.Step.{Step}
 use mathlib.Core.Logic.{_⊎_}
-use Rattle.core.specs.declared.state.Call.{Call}
-use Rattle.core.specs.declared.state.Call.the-variants.{SetParams, Command, Remap, Streams, Supported, Xfer}
-use Rattle.core.specs.declared.state.Stage.{Stage}
-use Rattle.core.specs.declared.state.Stage.the-variants.{Idle, JacksAsked, StreamsAsked, MapsAsked, Sent}
+use Rattle.exchange.specs.Types.{Verdict, QueueFailed, Sound, Plan, Step, Call, SetParams, Command, Remap, Streams, Supported, Xfer, Stage, Idle, JacksAsked, StreamsAsked, MapsAsked, Sent}
 
 -- a page, or a failure; with a message buffer of n bytes
 pub data Feed : Type 0 where

@@ -5,7 +5,6 @@ use mathlib.Core.List.{List}
 use Prim.Native.Nat.{ℕ, _+_, _*_, _<_}
 use native.Mathlib.Omega.{arith}
 use Rattle.tables.specs.Tables.{pcmAt}
-use Rattle.turns.specs.declared.ring.Track.{Track}
 use Rattle.core.specs.Plan.{foundOf}
 use Rattle.exchange.specs.State.{pcmOf}
 use Rattle.exchange.specs.Tables.{fieldOf, pendingLook}
@@ -15,18 +14,8 @@ use Rattle.exchange.specs.Exchange.{callOf}
 use Rattle.exchange.specs.Ends.{waits}
 use Rattle.exchange.specs.ResultLaws.{wrong, recall, own?, begun-own, Finished, answered-own}
 use Rattle.exchange.specs.Feed.{Feed, planOf, callAt}
-use Rattle.core.specs.declared.state.Counts.{Counts}
-use Rattle.core.specs.declared.state.Field.{Field}
-use Rattle.core.specs.declared.state.Call.the-variants.{Supported}
-use Rattle.core.specs.declared.state.Stage.{Stage}
-use Rattle.core.specs.declared.state.Stage.the-variants.{MapsAsked}
-use Rattle.core.specs.declared.state.Core.{Core}
-use Rattle.exchange.specs.declared.state.Sound.{Sound}
-use Rattle.core.specs.declared.plan.Value.{Value}
 use Rattle.core.specs.declared.plan.Look.the-variants as look
-use Rattle.core.specs.declared.plan.Say.the-variants.{Done}
-use Rattle.core.specs.declared.plan.Look.{Look}
-use Rattle.core.specs.declared.plan.Plan.{Plan}
+use Rattle.exchange.specs.Types.{Track, Counts, Field, Supported, Stage, MapsAsked, Core, Sound, Value, Done, Look, Plan}
 use Rattle.exchange.specs.Filled.{Filled}
 
 -- "Rates, formats, channel range, features: stream too high 1, else the stored bits, unknown bits kept."

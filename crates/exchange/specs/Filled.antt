@@ -10,8 +10,6 @@ use Rattle.codes.specs.Says.{pick}
 use Rattle.tables.specs.Tables.{judged, isGood, pcmAt}
 use Rattle.tables.specs.TablesLaws.{good-fits}
 use Rattle.tables.specs.TableLengthLaws.{streams-at}
-use Rattle.tables.specs.declared.verdict.Verdict.{Verdict}
-use Rattle.turns.specs.declared.ring.Track.{Track}
 use Rattle.exchange.specs.State.{pcmOf}
 use Rattle.core.specs.Plan.{effectOf, verdictBy}
 use Rattle.exchange.specs.Tables.{soundAfter}
@@ -24,18 +22,7 @@ use Rattle.exchange.specs.Feed.{Feed, paged, failed, pageOf, planOf, fed
 use Rattle.exchange.specs.StayLaws.{called-stays, called-quiet, fed-stays}
 use Rattle.exchange.specs.Xfer.{startOf, xferOf}
 use Rattle.exchange.specs.XferLaws.{start-by, script-by}
-use Rattle.turns.specs.declared.ring.Ring.{Ring}
-use Rattle.core.specs.declared.state.Counts.{Counts}
-use Rattle.core.specs.declared.state.Call.{Call}
-use Rattle.core.specs.declared.state.Call.the-variants.{SetParams, Command, Remap, Streams, Supported, Xfer}
-use Rattle.core.specs.declared.state.Stage.{Stage}
-use Rattle.core.specs.declared.state.Stage.the-variants.{StreamsAsked}
-use Rattle.core.specs.declared.state.Core.{Core}
-use Rattle.exchange.specs.declared.state.Sound.{Sound}
-use Rattle.core.specs.declared.plan.Effect.{Effect}
-use Rattle.core.specs.declared.plan.Effect.the-variants.{Nothing, FillJacks, FillStreams, FillMaps, Store}
-use Rattle.core.specs.declared.plan.Look.{Look}
-use Rattle.core.specs.declared.plan.Plan.{Plan}
+use Rattle.exchange.specs.Types.{Verdict, Track, Ring, Counts, Call, SetParams, Command, Remap, Streams, Supported, Xfer, Stage, StreamsAsked, Core, Sound, Effect, Nothing, FillJacks, FillStreams, FillMaps, Store, Look, Plan}
 
 -- the stream table is that of a page
 abbrev pub Filled : Sound → List ℕ → Type 0

@@ -9,9 +9,7 @@ use lib.Dec.{eqb}
 use borrow.Author.Tests.{lt-ltb}
 use Rattle.tables.specs.Tables.{isGood}
 use Rattle.tables.specs.TablesLaws.{good-whole}
-use Rattle.tables.specs.declared.verdict.Verdict.{Verdict}
 use Rattle.turns.specs.ConsistentLaws.{both}
-use Rattle.turns.specs.declared.ring.Track.{Track}
 use Rattle.core.specs.State.{withStage}
 use Rattle.core.specs.Consistent.{periodOk, callOk, numbersOk, sentOk, queriesAnswered, exactly, noneOrAll, tablesOk, consistentOf, paramsOk}
 use Rattle.exchange.specs.ConsistentLaws.{At, facts-at, ready-sent, full, exactly-self, noneOrAll-self, ready-tables, sent-facts}
@@ -20,18 +18,7 @@ use Rattle.exchange.specs.OwnLaws.{Own, sets, commands, remaps, lists, t
 use Rattle.exchange.specs.PlanLaws.{Begun, bars, asks, goes, begun, counted, Answered, short, idle, asks-streams, asks-maps, cuts, finishes, ends, fails, fed}
 use Rattle.exchange.specs.Exchange.{callOf}
 use Rattle.exchange.specs.Feed.{Feed, paged, failed, planOf, verdictOf}
-use Rattle.core.specs.declared.state.Counts.{Counts}
-use Rattle.core.specs.declared.state.Params.{Params}
-use Rattle.core.specs.declared.state.Call.{Call}
-use Rattle.core.specs.declared.state.Call.the-variants.{SetParams, Command, Remap, Streams, Supported, Xfer}
-use Rattle.core.specs.declared.state.Stage.{Stage}
-use Rattle.core.specs.declared.state.Stage.the-variants.{Idle, JacksAsked, StreamsAsked, MapsAsked, Sent}
-use Rattle.core.specs.declared.state.Core.{Core}
-use Rattle.exchange.specs.declared.state.Sound.{Sound}
-use Rattle.core.specs.declared.plan.Effect.{Effect}
-use Rattle.core.specs.declared.plan.Effect.the-variants.{Nothing, FillJacks, FillStreams, FillMaps, Store}
-use Rattle.core.specs.declared.plan.Look.{Look}
-use Rattle.core.specs.declared.plan.Plan.{Plan}
+use Rattle.exchange.specs.Types.{Verdict, Track, Counts, Params, Call, SetParams, Command, Remap, Streams, Supported, Xfer, Stage, Idle, JacksAsked, StreamsAsked, MapsAsked, Sent, Core, Sound, Effect, Nothing, FillJacks, FillStreams, FillMaps, Store, Look, Plan}
 
 abbrev pub Allowed : Core → Effect → Type 0
 Allowed c Nothing = Unit {0}

@@ -5,11 +5,9 @@ use mathlib.Core.Bool.{true, false}
 use Prim.Native.Nat.{ℕ, _≤_}
 use lib.ListN.{length}
 use Rattle.turns.specs.Consistent as ring
-use Rattle.turns.specs.declared.ring.Ring.{Ring}
 use Rattle.exchange.specs.State.{paramsOf}
 use Rattle.core.specs.Consistent.{consistentOf, paramsOk}
-use Rattle.core.specs.declared.state.Stage.the-variants.{Idle}
-use Rattle.exchange.specs.declared.state.Sound.{Sound}
+use Rattle.exchange.specs.Types.{Ring, Idle, Sound}
 
 pub record Kept (s : Sound) : Type 0 where
   -- it passes the consistency test

@@ -15,20 +15,9 @@ use Rattle.exchange.specs.Tables.{soundAfter}
 use Rattle.exchange.specs.Exchange.{stepOf, callOf}
 use Rattle.exchange.specs.Kept.{Kept}
 use Rattle.exchange.specs.FineLaws.{Allowed, Fine, called-fine, fed-fine}
-use Rattle.turns.specs.declared.ring.Track.{Track}
-use Rattle.records.specs.declared.info.JackInfo.{JackInfo}
-use Rattle.records.specs.declared.info.PcmInfo.{PcmInfo}
-use Rattle.records.specs.declared.info.ChannelMap.{ChannelMap}
 use Rattle.exchange.specs.Feed.{Feed, pageOf, planOf, fedOf}
 use Rattle.exchange.specs.StayLaws.{Stays, called-stays, fed-stays}
-use Rattle.core.specs.declared.state.Counts.{Counts}
-use Rattle.core.specs.declared.state.Params.{Params}
-use Rattle.core.specs.declared.state.Call.{Call}
-use Rattle.core.specs.declared.state.Core.{Core}
-use Rattle.exchange.specs.declared.state.Sound.{Sound}
-use Rattle.core.specs.declared.plan.Effect.{Effect}
-use Rattle.core.specs.declared.plan.Effect.the-variants.{Nothing, FillJacks, FillStreams, FillMaps, Store}
-use Rattle.core.specs.declared.plan.Plan.{Plan}
+use Rattle.exchange.specs.Types.{Track, JackInfo, PcmInfo, ChannelMap, Counts, Params, Call, Core, Sound, Effect, Nothing, FillJacks, FillStreams, FillMaps, Store, Plan}
 
 unset-known : (n i : ℕ) → getD (replicate n unset) i unset ≡ unset
 unset-known zero i = refl

@@ -1,4 +1,5 @@
 -- definitions
+pub mod Types
 pub mod State
 pub mod Tables
 pub mod Exchange

@@ -11,7 +11,7 @@ use lib.Dec.{eqb}
 use lib.ListN.{length, getD, set, take, replicate, length-append}
 use lib.Seq.{take-suc, set-append-seam, append-snoc, length-take-le, take-all}
 use Rattle.codes.specs.Says.{pick}
-use Rattle.records.specs.declared.info.PcmInfo.{PcmInfo}
+use Rattle.exchange.specs.Types.{PcmInfo}
 use Rattle.exchange.specs.Exchange.{idsFrom, listed}
 use Rattle.exchange.specs.Steps.{pushed}
 

@@ -12,8 +12,6 @@ use lib.Seq.{getD-take, length-take-le}
 use borrow.Author.Tests.{eqb-true, eq-eqb}
 use Rattle.codes.specs.Says.{pick}
 use Rattle.records.specs.Records.{pcmInfoOf}
-use Rattle.records.specs.declared.info.PcmInfo.{PcmInfo}
-use Rattle.turns.specs.declared.ring.Track.{Track}
 use Rattle.exchange.specs.ConsistentLaws.{full, ready-tables}
 use Rattle.exchange.specs.Exchange.{idsFrom, listed, listOf, stepOf, callOf}
 use Rattle.exchange.specs.OwnLaws.{Own, lists, refuses}
@@ -24,17 +22,8 @@ use Rattle.exchange.specs.Ends.{waits}
 use Rattle.exchange.specs.ResultLaws.{recall, own?, begun-own, Finished, answered-own}
 use Rattle.exchange.specs.Feed.{Feed, pageOf, planOf, fedOf, One, callAt}
 use Rattle.exchange.specs.StayLaws.{Stays, called-stays, fed-stays}
-use Rattle.core.specs.declared.state.Counts.{Counts}
-use Rattle.core.specs.declared.state.Call.the-variants.{Streams}
-use Rattle.core.specs.declared.state.Stage.the-variants.{MapsAsked}
-use Rattle.core.specs.declared.state.Core.{Core}
-use Rattle.exchange.specs.declared.state.Sound.{Sound}
-use Rattle.core.specs.declared.plan.Value.{Value}
 use Rattle.core.specs.declared.plan.Value.the-variants as value
-use Rattle.core.specs.declared.plan.Say.{Say}
-use Rattle.core.specs.declared.plan.Say.the-variants.{Done}
-use Rattle.core.specs.declared.plan.Look.{Look}
-use Rattle.core.specs.declared.plan.Plan.{Plan}
+use Rattle.exchange.specs.Types.{PcmInfo, Track, Counts, Streams, MapsAsked, Core, Sound, Value, Say, Done, Look, Plan}
 
 -- ---- one id more, or not
 

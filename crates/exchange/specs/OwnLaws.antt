@@ -8,23 +8,11 @@ use borrow.Author.Tests.{ltb-true, eqb-false, not-true}
 use Rattle.codes.specs.Says.{pick}
 use Rattle.codes.specs.Answers.{saysRefusal}
 use Rattle.codes.specs.SaysLaws.{guarded-by}
-use Rattle.codes.specs.declared.answers.Refusal.{Refusal}
-use Rattle.codes.specs.declared.answers.Refusal.the-variants.{InvalidParam, IoError, Unsupported, NoInfo}
 use Rattle.core.specs.Consistent.{periodOk}
 use Rattle.core.specs.Plan.{sendOf, endOf, kindCode, setOf, canRemap, foundOf, refusing, ownSet, ownRemap, ownSupported, ownXfer, ownOf}
-use Rattle.core.specs.declared.state.Params.{Params}
-use Rattle.core.specs.declared.state.Kind.{Kind}
-use Rattle.core.specs.declared.state.Field.{Field}
-use Rattle.core.specs.declared.state.Call.{Call}
-use Rattle.core.specs.declared.state.Call.the-variants.{SetParams, Command, Remap, Streams, Supported, Xfer}
-use Rattle.core.specs.declared.state.Stage.the-variants.{Sent}
-use Rattle.core.specs.declared.state.Core.{Core}
 use Rattle.core.specs.declared.plan.Request.the-variants as request
 use Rattle.core.specs.declared.plan.Value.the-variants as value
-use Rattle.core.specs.declared.plan.Look.{Look}
-use Rattle.core.specs.declared.plan.Say.the-variants.{Done}
-use Rattle.core.specs.declared.plan.Effect.the-variants.{Nothing}
-use Rattle.core.specs.declared.plan.Plan.{Plan}
+use Rattle.exchange.specs.Types.{Refusal, InvalidParam, IoError, Unsupported, NoInfo, Params, Kind, Field, Call, SetParams, Command, Remap, Streams, Supported, Xfer, Sent, Core, Look, Done, Nothing, Plan}
 use Rattle.exchange.specs.Feed.{One, ownRefusals}
 
 -- what holds of both ends of a choice holds of it

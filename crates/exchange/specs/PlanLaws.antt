@@ -11,32 +11,19 @@ use lib.ListN.{length}
 use Rattle.codes.specs.Says.{pick, guard}
 use Rattle.codes.specs.SaysLaws.{guarded-by}
 use Rattle.codes.specs.Answers.{saysRefusal}
-use Rattle.codes.specs.declared.answers.Refusal.{Refusal}
-use Rattle.codes.specs.declared.answers.Refusal.the-variants.{InvalidParam, IoError, TooMany, QueueFailed, Busy, BadLength}
 use Rattle.tables.specs.Tables.{judged, isGood, refusedBy}
-use Rattle.tables.specs.declared.verdict.Verdict.{Verdict}
 use Rattle.tables.specs.declared.verdict.Verdict.the-variants as verdict
 use Rattle.turns.specs.Calls.{idleOf}
 use Rattle.turns.specs.Consistent as ring
 use Rattle.turns.specs.ConsistentLaws.{both}
-use Rattle.turns.specs.declared.ring.Track.{Track}
 use Rattle.core.specs.Consistent.{callOk, consistentOf}
 use Rattle.core.specs.Plan.{sendOf, endOf, refusing, statusRefusal, refuseOf, cutShortOf, queryOf, ownOf, isIdle, beginOf, refusalOf, afterJacks, afterStreams, afterMaps, effectOf, afterSent, answerBy, answerOf, verdictBy, readTo}
 use Rattle.exchange.specs.Tables.{lookOf, pendingLook}
 use Rattle.exchange.specs.Exchange.{callOf, feedOf, failOf}
 use Rattle.exchange.specs.ConsistentLaws.{both-of}
 use Rattle.exchange.specs.Feed.{Feed, paged, failed, planOf, verdictOf, longOf, Long, One, asking}
-use Rattle.core.specs.declared.state.Counts.{Counts}
-use Rattle.core.specs.declared.state.Call.{Call}
-use Rattle.core.specs.declared.state.Stage.{Stage}
-use Rattle.core.specs.declared.state.Stage.the-variants.{Idle, JacksAsked, StreamsAsked, MapsAsked, Sent}
-use Rattle.core.specs.declared.state.Core.{Core}
-use Rattle.exchange.specs.declared.state.Sound.{Sound}
 use Rattle.core.specs.declared.plan.Value.the-variants as value
-use Rattle.core.specs.declared.plan.Look.{Look}
-use Rattle.core.specs.declared.plan.Say.the-variants.{Done}
-use Rattle.core.specs.declared.plan.Effect.the-variants.{Nothing, FillJacks, FillStreams, FillMaps}
-use Rattle.core.specs.declared.plan.Plan.{Plan}
+use Rattle.exchange.specs.Types.{Refusal, InvalidParam, IoError, TooMany, QueueFailed, Busy, BadLength, Verdict, Track, Counts, Call, Stage, Idle, JacksAsked, StreamsAsked, MapsAsked, Sent, Core, Sound, Look, Done, Nothing, FillJacks, FillStreams, FillMaps, Plan}
 use Rattle.exchange.specs.OwnLaws.{picked-by, Own, own}
 
 -- ---- a call: refused with nothing changed, the first query of set-up, or its own part

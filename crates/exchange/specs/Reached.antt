@@ -17,8 +17,6 @@ use Rattle.turns.specs.ConsistentLaws.{Consistent, consistent-facts, consistent
 use Rattle.turns.specs.StaysConsistentLaws.{call-keeps, drain-keeps, start-keeps, new-passes}
 use Rattle.turns.specs.DemandLaws.{script-keeps}
 use Rattle.turns.specs.Ring.{direct, newTrack, newRing}
-use Rattle.turns.specs.declared.ring.Ring.{Ring}
-use Rattle.turns.specs.declared.reading.Reading.{Reading}
 use Rattle.exchange.specs.State.{newSound, paramsOf}
 use Rattle.core.specs.Consistent.{consistentOf}
 use Rattle.core.specs.Plan.{ownSet, beginOf, afterJacks, afterStreams, afterMaps, afterSent, answerOf}
@@ -29,10 +27,7 @@ use Rattle.exchange.specs.KeptLaws.{new-kept, call-kept, feed-kept}
 use Rattle.exchange.specs.Ends.{after}
 use Rattle.exchange.specs.XferLaws.{start-by, script-by, start-kept, xfer-kept}
 use Rattle.exchange.specs.Feed.{Feed, paged, failed, fedOf}
-use Rattle.core.specs.declared.state.Call.{Call}
-use Rattle.core.specs.declared.state.Call.the-variants.{SetParams}
-use Rattle.core.specs.declared.state.Stage.the-variants.{Idle}
-use Rattle.exchange.specs.declared.state.Sound.{Sound}
+use Rattle.exchange.specs.Types.{Ring, Reading, Call, SetParams, Idle, Sound}
 
 pub data Reached : Sound → Ring → Type 0 where
   fresh : (jacks streams maps : ℕ) → Reached (newSound jacks streams maps) (newRing direct)

@@ -9,13 +9,8 @@ use lib.Dec.{eqb}
 use Rattle.codes.specs.Says.{pick}
 use Rattle.codes.specs.SaysLaws.{guarded-by}
 use Rattle.codes.specs.Answers.{saysRefusal}
-use Rattle.codes.specs.declared.answers.Refusal.{Refusal}
-use Rattle.codes.specs.declared.answers.Refusal.the-variants.{IoError}
-use Rattle.records.specs.declared.info.ChannelMap.{ChannelMap}
 use Rattle.tables.specs.Tables.{judged, isGood, refusedBy, saysVerdict, mapsRead}
-use Rattle.tables.specs.declared.verdict.Verdict.{Verdict}
 use Rattle.tables.specs.declared.verdict.Verdict.the-variants as verdict
-use Rattle.turns.specs.declared.ring.Track.{Track}
 use Rattle.core.specs.State.{none, withStage}
 use Rattle.core.specs.Plan.{refusalOf, statusRefusal, verdictBy, readTo}
 use Rattle.exchange.specs.Tables.{soundAfter}
@@ -25,18 +20,7 @@ use Rattle.core.specs.Reply.{messageAfter, replyOf}
 use Rattle.exchange.specs.Exchange.{stepOf, callOf}
 use Rattle.exchange.specs.Feed.{Feed, paged, failed, pageOf, planOf, fedOf, verdictOf, longOf, One, ownRefusals, asking}
 use Rattle.exchange.specs.StayLaws.{own-stays}
-use Rattle.core.specs.declared.state.Call.{Call}
-use Rattle.core.specs.declared.state.Call.the-variants.{SetParams, Command, Remap, Streams, Supported, Xfer}
-use Rattle.core.specs.declared.state.Stage.{Stage}
-use Rattle.core.specs.declared.state.Stage.the-variants.{Idle, MapsAsked, Sent}
-use Rattle.core.specs.declared.state.Core.{Core}
-use Rattle.exchange.specs.declared.state.Sound.{Sound}
-use Rattle.core.specs.declared.plan.Say.{Say}
-use Rattle.core.specs.declared.plan.Say.the-variants.{Send, Done, Refused}
-use Rattle.core.specs.declared.plan.Effect.{Effect}
-use Rattle.core.specs.declared.plan.Effect.the-variants.{Nothing, FillMaps}
-use Rattle.core.specs.declared.plan.Look.{Look}
-use Rattle.core.specs.declared.plan.Plan.{Plan}
+use Rattle.exchange.specs.Types.{Refusal, IoError, ChannelMap, Verdict, Track, Call, SetParams, Command, Remap, Streams, Supported, Xfer, Stage, Idle, MapsAsked, Sent, Core, Sound, Say, Send, Done, Refused, Effect, Nothing, FillMaps, Look, Plan}
 use Rattle.core.specs.declared.reply.Reply.the-variants as reply
 
 -- `refusalOf` has the verdict's own number (of a remap, a status that is not ok says 3 instead)

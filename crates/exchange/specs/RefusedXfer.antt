@@ -4,7 +4,6 @@ use mathlib.Core.Path.{_≡_, refl, sym, ap, _∙_, subst}
 use mathlib.Core.List.{List}
 use Prim.Native.Nat.{ℕ, zero, suc}
 use Rattle.codes.specs.SaysLaws.{guarded-by}
-use Rattle.codes.specs.declared.answers.Refusal.{Refusal}
 use Rattle.turns.specs.Calls.{startCall, startedOf}
 use Rattle.turns.specs.Rules.{turnOf}
 use Rattle.turns.specs.Log.{Ran, loop, firstOf, restOf, ruled, run}
@@ -13,19 +12,12 @@ use Rattle.turns.specs.CaseLaws.{Plain, plain, over-plain, counted-cases, onwar
 use Rattle.turns.specs.KeepLaws.{turn-plain}
 use Rattle.turns.specs.HostLaws.{begins, Runs, link}
 use Rattle.turns.specs.Demand as turns
-use Rattle.turns.specs.declared.ring.Track.{Track}
-use Rattle.turns.specs.declared.ring.Ring.{Ring}
-use Rattle.turns.specs.declared.ring.Said.{Said}
-use Rattle.turns.specs.declared.ring.Said.the-variants.{Going, Done, Ended, Refused}
-use Rattle.turns.specs.declared.reading.Reading.{Reading}
-use Rattle.turns.specs.declared.script.Transferred.{Transferred}
+use Rattle.turns.specs.declared.ring.Said.the-variants.{Done, Refused}
 use Rattle.exchange.specs.State.{paramsOf}
 use Rattle.exchange.specs.Xfer.{startOf, xferOf}
 use Rattle.exchange.specs.XferLaws.{start-by, script-by}
 use Rattle.exchange.specs.ResultLaws.{wrong, says-said}
-use Rattle.exchange.specs.declared.state.Sound.{Sound}
-use Rattle.exchange.specs.declared.xfer.XferReply.the-variants.{Says}
-use Rattle.exchange.specs.declared.xfer.XferStep.{XferStep}
+use Rattle.exchange.specs.Types.{Refusal, Track, Ring, Said, Going, Ended, Reading, Transferred, Sound, Says, XferStep}
 
 -- ---- a transfer that runs is answered, never refused
 

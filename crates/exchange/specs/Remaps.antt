@@ -5,7 +5,6 @@ use mathlib.Core.Bool.{true}
 use Prim.Native.Nat.{ℕ, _<_}
 use Rattle.codes.specs.Flags.{hasBit, remapFeature}
 use Rattle.records.specs.declared.control.Remap as records
-use Rattle.turns.specs.declared.ring.Track.{Track}
 use Rattle.core.specs.Plan.{canRemap}
 use Rattle.exchange.specs.State.{jackOf}
 use Rattle.exchange.specs.Tables.{lookOf, pendingLook}
@@ -13,15 +12,8 @@ use Rattle.exchange.specs.OwnLaws.{Own, sets, commands, remaps, lists, t
 use Rattle.exchange.specs.PlanLaws.{begun, fed}
 use Rattle.exchange.specs.Exchange.{callOf}
 use Rattle.exchange.specs.Feed.{Feed, planOf}
-use Rattle.core.specs.declared.state.Call.{Call}
-use Rattle.core.specs.declared.state.Stage.{Stage}
-use Rattle.core.specs.declared.state.Core.{Core}
-use Rattle.exchange.specs.declared.state.Sound.{Sound}
 use Rattle.core.specs.declared.plan.Request.the-variants as request
-use Rattle.core.specs.declared.plan.Say.the-variants.{Send}
-use Rattle.core.specs.declared.plan.Look.{Look}
-use Rattle.core.specs.declared.plan.Plan.{Plan}
-use Rattle.core.specs.declared.state.Counts.{Counts}
+use Rattle.exchange.specs.Types.{Track, Call, Stage, Core, Sound, Send, Look, Plan, Counts}
 use Rattle.exchange.specs.ResultLaws.{wrong, own?, begun-own, Finished, answered-own}
 
 -- "Remap: no jacks or id too high 1; table empty 4; no REMAP bit 3; then sent."

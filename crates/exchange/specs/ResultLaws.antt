@@ -4,20 +4,11 @@ use mathlib.Core.Path.{_≡_, refl, subst}
 use mathlib.Core.Bool.{Bool, true, false, false≢true}
 use Prim.Native.Nat.{ℕ}
 use native.Mathlib.Omega.{arith}
-use Rattle.tables.specs.declared.verdict.Verdict.{Verdict}
-use Rattle.turns.specs.declared.ring.Said.{Said}
 use Rattle.exchange.specs.OwnLaws.{Own}
 use Rattle.exchange.specs.PlanLaws.{Begun, bars, asks, goes, Answered, short, idle, asks-streams, asks-maps, cuts, finishes, ends, fails}
-use Rattle.core.specs.declared.state.Call.{Call}
-use Rattle.core.specs.declared.state.Stage.the-variants.{MapsAsked, Sent}
-use Rattle.core.specs.declared.state.Core.{Core}
 use Rattle.core.specs.declared.plan.Request.the-variants as request
 use Rattle.core.specs.declared.plan.Value.the-variants as value
-use Rattle.core.specs.declared.plan.Say.{Say}
-use Rattle.core.specs.declared.plan.Say.the-variants.{Send, Done, Refused}
-use Rattle.core.specs.declared.plan.Look.{Look}
-use Rattle.core.specs.declared.plan.Plan.{Plan}
-use Rattle.exchange.specs.declared.xfer.XferReply.the-variants.{Says}
+use Rattle.exchange.specs.Types.{Verdict, Said, Call, MapsAsked, Sent, Core, Say, Send, Done, Refused, Look, Plan, Says}
 
 pub wrong : _≡_ {A = ℕ} 0 1 → ⊥
 wrong e = omega arith

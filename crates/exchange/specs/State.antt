@@ -4,16 +4,11 @@ use mathlib.Core.List.{[], _∷_}
 use Prim.Native.Nat.{ℕ}
 use lib.ListN.{getD, replicate}
 use Rattle.codes.specs.Says.{Says, says, guard}
-use Rattle.records.specs.declared.info.JackInfo.{JackInfo}
-use Rattle.records.specs.declared.info.PcmInfo.{PcmInfo}
 use Rattle.records.specs.Records.{jackInfoOf, pcmInfoOf}
 use Rattle.tables.specs.Tables.{noJacks, noStreams, noMaps}
 use Rattle.core.specs.State.{unset, newCore}
 use Rattle.core.specs.Consistent.{consistentOf}
-use Rattle.core.specs.declared.state.Core.{Core}
-use Rattle.core.specs.declared.state.Params.{Params}
-use Rattle.exchange.specs.declared.state.Sound.{Sound}
-use Rattle.exchange.specs.declared.state.Configured.{Configured}
+use Rattle.exchange.specs.Types.{JackInfo, PcmInfo, Core, Params, Sound, Configured}
 use Rattle.exchange.specs.declared.state.Configured.the-variants as configured
 
 -- the state from the three configured counts, before any call

@@ -4,8 +4,6 @@ use mathlib.Core.Path.{_≡_, refl, sym, ap, _∙_}
 use mathlib.Core.Bool.{Bool, true, false}
 use mathlib.Core.List.{List}
 use Prim.Native.Nat.{ℕ}
-use Rattle.tables.specs.declared.verdict.Verdict.{Verdict}
-use Rattle.turns.specs.declared.ring.Track.{Track}
 use Rattle.core.specs.Consistent.{consistentOf}
 use Rattle.exchange.specs.ConsistentLaws.{facts, not-ready}
 use Rattle.exchange.specs.Tables.{soundAfter}
@@ -13,13 +11,7 @@ use Rattle.exchange.specs.Exchange.{callOf}
 use Rattle.exchange.specs.Feed.{Feed, planOf, asking}
 use Rattle.exchange.specs.OwnLaws.{Own, sets, commands, remaps, lists, tells, refuses}
 use Rattle.exchange.specs.PlanLaws.{Begun, bars, asks, goes, begun, Answered, short, idle, asks-streams, asks-maps, cuts, finishes, ends, fails, fed}
-use Rattle.core.specs.declared.state.Call.{Call}
-use Rattle.core.specs.declared.state.Core.{Core}
-use Rattle.exchange.specs.declared.state.Sound.{Sound}
-use Rattle.core.specs.declared.plan.Effect.{Effect}
-use Rattle.core.specs.declared.plan.Effect.the-variants.{Nothing, FillJacks, FillStreams, FillMaps, Store}
-use Rattle.core.specs.declared.plan.Look.{Look}
-use Rattle.core.specs.declared.plan.Plan.{Plan}
+use Rattle.exchange.specs.Types.{Verdict, Track, Call, Core, Sound, Effect, Nothing, FillJacks, FillStreams, FillMaps, Store, Look, Plan}
 
 pub record Stays (c : Core) (p : Plan) : Type 0 where
   pub counts : p .core .counts ≡ c .counts

@@ -11,23 +11,12 @@ use lib.Seq.{take-at}
 use Rattle.codes.specs.Says as answers
 use Rattle.codes.specs.Says.{says, guard}
 use Rattle.codes.specs.SaysLaws.{guard-ap}
-use Rattle.codes.specs.declared.answers.Refusal.{Refusal}
 use Rattle.turns.specs.Calls.{startCall, startedOf}
 use Rattle.turns.specs.Script.{transferOf}
-use Rattle.turns.specs.declared.ring.Track.{Track}
-use Rattle.turns.specs.declared.ring.Ring.{Ring}
-use Rattle.records.specs.declared.info.PcmInfo.{PcmInfo}
 use Rattle.core.specs.Reply.{messageAfter, replyOf}
-use Rattle.core.specs.declared.plan.Say.{Say}
-use Rattle.core.specs.declared.plan.Say.the-variants.{Send, Done, Refused}
 use Rattle.exchange.specs.Exchange.{idsBy, listOf, stepOf, listValues, saysBeside, saysStep, saysSay, Stepped}
 use Rattle.exchange.specs.Xfer.{xferBy, refusedStep, setUpStep, startStep, doneStep, startOf, xferOf, xferMessage, saysXfer, startSays, xferSays, Transfers}
-use Rattle.exchange.specs.declared.state.Sound.{Sound}
-use Rattle.core.specs.declared.plan.Plan.{Plan}
-use Rattle.exchange.specs.declared.calls.Step.{Step}
-use Rattle.core.specs.declared.gate.Gate.{Gate}
-use Rattle.core.specs.declared.gate.Gate.the-variants.{Shut, SetUp, Open}
-use Rattle.exchange.specs.declared.xfer.XferStep.{XferStep}
+use Rattle.exchange.specs.Types.{Refusal, Track, Ring, PcmInfo, Say, Send, Done, Refused, Sound, Plan, Step, Gate, Shut, SetUp, Open, XferStep}
 
 -- a list of ids is told as it is
 listed-ids : (ids : List ℕ) (rest : List ℕ) → take (length ids) (ids ++ rest) ≡ ids

@@ -2,7 +2,7 @@
 -- Assumes nothing.
 use Prim.Native.Nat.{ℕ, _+_}
 use lib.ListN.{set}
-use Rattle.exchange.specs.declared.calls.StreamList.{StreamList}
+use Rattle.exchange.specs.Types.{StreamList}
 
 -- one more id
 abbrev pub pushed : StreamList → ℕ → StreamList

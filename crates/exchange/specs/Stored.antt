@@ -10,9 +10,6 @@ use Rattle.layout.specs.Bytes.{numAt}
 use Rattle.codes.specs.Says.{pick}
 use Rattle.tables.specs.Tables.{isGood}
 use Rattle.tables.specs.TablesLaws.{good-whole}
-use Rattle.tables.specs.declared.verdict.Verdict.{Verdict}
-use Rattle.turns.specs.declared.ring.Track.{Track}
-use Rattle.turns.specs.declared.ring.Ring.{Ring}
 use Rattle.core.specs.State.{unset}
 use Rattle.exchange.specs.State.{paramsOf}
 use Rattle.core.specs.Plan.{storedOf, effectOf, verdictBy}
@@ -23,17 +20,7 @@ use Rattle.exchange.specs.Xfer.{startOf, xferOf}
 use Rattle.exchange.specs.XferLaws.{start-by, script-by}
 use Rattle.exchange.specs.Feed.{Feed, paged, failed, pageOf, planOf, fedOf, verdictOf}
 use Rattle.exchange.specs.StayLaws.{Stays, called-stays, called-quiet, fed-stays, after-core}
-use Rattle.core.specs.declared.state.Params.{Params}
-use Rattle.core.specs.declared.state.Call.{Call}
-use Rattle.core.specs.declared.state.Call.the-variants.{SetParams, Command, Remap, Streams, Supported, Xfer}
-use Rattle.core.specs.declared.state.Stage.{Stage}
-use Rattle.core.specs.declared.state.Stage.the-variants.{Sent}
-use Rattle.core.specs.declared.state.Core.{Core}
-use Rattle.exchange.specs.declared.state.Sound.{Sound}
-use Rattle.core.specs.declared.plan.Effect.{Effect}
-use Rattle.core.specs.declared.plan.Effect.the-variants.{Nothing, FillJacks, FillMaps}
-use Rattle.core.specs.declared.plan.Look.{Look}
-use Rattle.core.specs.declared.plan.Plan.{Plan}
+use Rattle.exchange.specs.Types.{Verdict, Track, Ring, Params, Call, SetParams, Command, Remap, Streams, Supported, Xfer, Stage, Sent, Core, Sound, Effect, Nothing, FillJacks, FillMaps, Look, Plan}
 
 -- ---- "A set-up finished in a call stays done however that call ends."
 

@@ -3,23 +3,11 @@
 use mathlib.Core.List.{List}
 use Prim.Native.Nat.{ℕ}
 use lib.ListN.{set}
-use Rattle.records.specs.declared.info.PcmInfo.{PcmInfo}
 use Rattle.tables.specs.Tables.{jacksRead, streamsRead, mapsRead}
-use Rattle.core.specs.declared.state.Field.{Field}
-use Rattle.core.specs.declared.state.Field.the-variants.{Rates, Formats, Channels, Features}
-use Rattle.core.specs.declared.state.Call.{Call}
-use Rattle.core.specs.declared.state.Call.the-variants.{SetParams, Command, Remap, Streams, Supported, Xfer}
-use Rattle.core.specs.declared.state.Stage.{Stage}
-use Rattle.core.specs.declared.state.Stage.the-variants.{Idle, JacksAsked, StreamsAsked, MapsAsked, Sent}
-use Rattle.core.specs.declared.state.Core.{Core}
-use Rattle.core.specs.declared.plan.Value.{Value}
 use Rattle.core.specs.declared.plan.Value.the-variants as value
-use Rattle.core.specs.declared.plan.Look.{Look}
 use Rattle.core.specs.declared.plan.Look.the-variants as look
-use Rattle.core.specs.declared.plan.Effect.{Effect}
-use Rattle.core.specs.declared.plan.Effect.the-variants.{Nothing, FillJacks, FillStreams, FillMaps, Store}
 use Rattle.exchange.specs.State.{jackOf, pcmOf, withCore}
-use Rattle.exchange.specs.declared.state.Sound.{Sound}
+use Rattle.exchange.specs.Types.{PcmInfo, Field, Rates, Formats, Channels, Features, Call, SetParams, Command, Remap, Streams, Supported, Xfer, Stage, Idle, JacksAsked, StreamsAsked, MapsAsked, Sent, Core, Value, Look, Effect, Nothing, FillJacks, FillStreams, FillMaps, Store, Sound}
 
 -- ---- what a call looks up in a table: a jack's features, or the field of a stream's record that is asked for
 

@@ -6,9 +6,6 @@ use mathlib.Core.List.{List, [], _∷_}
 use mathlib.Core.Logic.{inl, inr}
 use Prim.Native.Nat.{ℕ}
 use Rattle.codes.specs.Answers.{saysRefusal}
-use Rattle.codes.specs.declared.answers.Refusal.{Refusal}
-use Rattle.tables.specs.declared.verdict.Verdict.{Verdict}
-use Rattle.turns.specs.declared.ring.Ring.{Ring}
 use Rattle.exchange.specs.State.{paramsOf}
 use Rattle.exchange.specs.ConsistentLaws.{facts, not-ready}
 use Rattle.core.specs.Consistent.{consistentOf}
@@ -22,17 +19,9 @@ use Rattle.exchange.specs.XferLaws.{start-by, script-by}
 use Rattle.exchange.specs.StayLaws.{after-core}
 use Rattle.exchange.specs.ResultLaws.{wrong, recall}
 use Rattle.exchange.specs.Feed.{Feed, pageOf, planOf, fedOf, verdictOf, longOf, Long, One, asking, callAt}
-use Rattle.core.specs.declared.state.Call.the-variants.{Xfer}
-use Rattle.core.specs.declared.state.Stage.{Stage}
-use Rattle.core.specs.declared.state.Stage.the-variants.{Idle}
-use Rattle.core.specs.declared.state.Core.{Core}
-use Rattle.exchange.specs.declared.state.Sound.{Sound}
-use Rattle.core.specs.declared.plan.Look.{Look}
-use Rattle.core.specs.declared.plan.Plan.{Plan}
-use Rattle.core.specs.declared.reply.Reply.{Reply}
 use Rattle.core.specs.declared.reply.Reply.the-variants as reply
 use Rattle.exchange.specs.declared.xfer.XferReply.the-variants as xfer
-use Rattle.exchange.specs.declared.xfer.XferStep.{XferStep}
+use Rattle.exchange.specs.Types.{Refusal, Verdict, Ring, Xfer, Stage, Idle, Core, Sound, Look, Plan, Reply, XferStep}
 
 -- a transfer of a stream waits for set-up
 pub record Pending (g : Stage) (stream : ℕ) : Type 0 where

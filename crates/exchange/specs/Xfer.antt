@@ -8,27 +8,16 @@ use lib.Dec.{leb, eqb}
 use lib.ListN.{length}
 use Rattle.codes.specs.Says as answers
 use Rattle.codes.specs.Answers.{saysRefusal}
-use Rattle.codes.specs.declared.answers.Refusal.{Refusal}
 use Rattle.turns.specs.Calls.{startCall, startedOf}
 use Rattle.turns.specs.Script.{transferOf}
-use Rattle.turns.specs.declared.ring.Track.{Track}
-use Rattle.turns.specs.declared.ring.Ring.{Ring}
-use Rattle.turns.specs.declared.ring.Turned.{Turned}
 use Rattle.turns.specs.declared.ring.Said.the-variants as said
-use Rattle.turns.specs.declared.script.Transferred.{Transferred}
 use Rattle.core.specs.State.{withStage}
 use Rattle.core.specs.Plan.{queryOf, sendOf}
 use Rattle.core.specs.Gate.{gateBy}
 use Rattle.core.specs.Reply.{messageAfter}
-use Rattle.core.specs.declared.state.Call.the-variants.{Xfer}
-use Rattle.core.specs.declared.state.Stage.the-variants.{JacksAsked}
 use Rattle.exchange.specs.State.{paramsOf, withCore}
-use Rattle.exchange.specs.declared.state.Sound.{Sound}
-use Rattle.core.specs.declared.plan.Effect.the-variants.{Nothing}
-use Rattle.core.specs.declared.plan.Plan.{Plan}
-use Rattle.exchange.specs.declared.xfer.XferReply.{XferReply}
-use Rattle.exchange.specs.declared.xfer.XferReply.the-variants.{Send, Says}
-use Rattle.exchange.specs.declared.xfer.XferStep.{XferStep}
+use Rattle.exchange.specs.declared.xfer.XferReply.the-variants.{Send}
+use Rattle.exchange.specs.Types.{Refusal, Track, Ring, Turned, Transferred, Xfer, JacksAsked, Sound, Nothing, Plan, XferReply, Says, XferStep}
 use Rattle.turns.specs.Ring.{saysSaid}
 
 abbrev pub xferBy : {A : Type 0} → Bool → Sound → Track → ℕ → (Refusal → A) → A → (ℕ → A) → A

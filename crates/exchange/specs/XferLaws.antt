@@ -8,13 +8,10 @@ use lib.Dec.{leb, ltb, eqb}
 use lib.ListN.{length}
 use borrow.Author.Tests.{le-leb, ltb-false, eqb-true, eq-eqb, ne-eqb}
 use Rattle.codes.specs.SaysLaws.{guarded-by, passes}
-use Rattle.codes.specs.declared.answers.Refusal.{Refusal}
 use Rattle.turns.specs.Calls.{idleOf, startCall, startedOf}
 use Rattle.turns.specs.Script.{transferOf}
 use Rattle.turns.specs.Consistent as ring
 use Rattle.turns.specs.ConsistentLaws.{both}
-use Rattle.turns.specs.declared.ring.Track.{Track}
-use Rattle.turns.specs.declared.ring.Ring.{Ring}
 use Rattle.exchange.specs.State.{paramsOf}
 use Rattle.core.specs.Consistent.{numbersOk, periodOk, paramsOk, consistentOf, streamOk}
 use Rattle.exchange.specs.ConsistentLaws.{both-of, either-of, Paced, period-facts}
@@ -24,11 +21,7 @@ use Rattle.exchange.specs.Xfer.{xferBy, setUpPlan, refusedStep, setUpSte
 use Rattle.exchange.specs.Kept.{Kept, Playable}
 use Rattle.exchange.specs.FineLaws.{ask-fine}
 use Rattle.exchange.specs.KeptLaws.{step-kept}
-use Rattle.core.specs.declared.state.Params.{Params}
-use Rattle.core.specs.declared.state.Call.the-variants.{Xfer}
-use Rattle.core.specs.declared.state.Stage.the-variants.{Idle}
-use Rattle.exchange.specs.declared.state.Sound.{Sound}
-use Rattle.exchange.specs.declared.xfer.XferStep.{XferStep}
+use Rattle.exchange.specs.Types.{Refusal, Track, Ring, Params, Xfer, Idle, Sound, XferStep}
 
 -- what holds of each end of the checks holds of what they come to
 xfer-by : {A : Type 0} (P : A → Type 0) (lengths : Bool) (s : Sound) (t : Track) (stream : ℕ) (refuse : Refusal → A) (setUp : A) (go : ℕ → A) →

@@ -8,7 +8,7 @@ use denote.Ref.{now}
 use Rattle.codes.specs.SaysLaws.{same}
 use Rattle.layout.specs.Lent.{Made, made, Shown, shown}
 use Rattle.state_store.specs.Calls.{Told, left, Opened, opened}
-use Rattle.state_store.specs.declared.calls.Opening.{Opening}
+use Rattle.state_store.specs.Types.{Opening}
 use Rattle.state_store.proofs.calls.size.Reads as size
 use Rattle.state_store.proofs.calls.call.Reads as call
 use Rattle.state_store.proofs.calls.feed.Reads as feed

@@ -12,27 +12,19 @@ use Rattle.layout.specs.Layout.{write}
 use Rattle.layout.specs.Rows.{rowsBytes}
 use Rattle.codes.specs.Says.{guard}
 use Rattle.codes.specs.Answers.{saysRefusal}
-use Rattle.codes.specs.declared.answers.Refusal.{Refusal}
-use Rattle.turns.specs.declared.ring.Track.{Track}
 use Rattle.exchange.specs.State.{newSound}
 use Rattle.core.specs.Consistent.{consistentOf}
 use Rattle.exchange.specs.Tables.{soundAfter}
 use Rattle.core.specs.Reply.{saysReply, messageAfter}
 use Rattle.exchange.specs.Exchange.{stepOf, callOf, feedOf, failOf}
 use Rattle.exchange.specs.Xfer.{xferBy, setUpPlan}
-use Rattle.core.specs.declared.state.Call.{Call}
-use Rattle.core.specs.declared.state.Counts.{Counts}
-use Rattle.core.specs.declared.plan.Value.{Value}
 use Rattle.core.specs.declared.plan.Value.the-variants as value
-use Rattle.core.specs.declared.plan.Plan.{Plan}
-use Rattle.core.specs.declared.reply.Reply.{Reply}
 use Rattle.core.specs.declared.reply.Reply.the-variants as reply
-use Rattle.exchange.specs.declared.calls.StreamList.{StreamList}
 use Rattle.state_store.specs.Places.{stateSize}
 use Rattle.layout.specs.Lent.{Made, made, Shown, shown, resultSize}
 use Rattle.state_store.specs.Store.{soundOf, soundBytes, stateAfter}
-use Rattle.state_store.specs.declared.calls.Opening.{Opening}
-use Rattle.state_store.specs.declared.calls.Opening.the-variants.{Says, Open}
+use Rattle.state_store.specs.Types.{Refusal, Track, Call, Counts, Value, Plan, Reply, StreamList, Opening, Says}
+use Rattle.state_store.specs.declared.calls.Opening.the-variants.{Open}
 
 -- an answer by its number, and what state, message and result hold then
 pub record Told : Type 0 where

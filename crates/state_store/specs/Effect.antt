@@ -7,8 +7,7 @@ use lib.Seq.{sets}
 use Rattle.layout.specs.Bytes.{bytesAt}
 use Rattle.codes.specs.Says.{pick}
 use Rattle.tables.specs.Tables.{fits}
-use Rattle.core.specs.declared.plan.Effect.{Effect}
-use Rattle.core.specs.declared.plan.Effect.the-variants.{Nothing, FillJacks, FillStreams, FillMaps, Store}
+use Rattle.state_store.specs.Types.{Effect, Nothing, FillJacks, FillStreams, FillMaps, Store}
 use Rattle.state_store.specs.Places.{headSize, pcmsPlace, mapsPlace, paramsPlace}
 use Rattle.state_store.specs.Store.{paramsBytes}
 

@@ -23,10 +23,7 @@ use Rattle.tables.specs.Tables.{fits, filled, jackAt, pcmAt, mapAt, jacksRead, 
 use Rattle.tables.specs.TablesLaws.{fits-facts}
 use Rattle.tables.specs.TableLengthLaws.{jacks-length, streams-length, maps-length}
 use Rattle.exchange.specs.Tables.{soundAfter}
-use Rattle.core.specs.declared.state.Core.{Core}
-use Rattle.core.specs.declared.state.Params.{Params}
-use Rattle.core.specs.declared.plan.Effect.{Effect}
-use Rattle.core.specs.declared.plan.Effect.the-variants.{Nothing, FillJacks, FillStreams, FillMaps, Store}
+use Rattle.state_store.specs.Types.{Core, Params, Effect, Nothing, FillJacks, FillStreams, FillMaps, Store}
 use Rattle.state_store.specs.Places.{headSize, pcmsPlace, mapsPlace, paramsPlace}
 use Rattle.state_store.specs.Store.{headRow, headValues, headOf, paramsRow, paramsBytes, paramsAt, soundOf, soundBytes}
 use Rattle.records.specs.Records.{jackBytes, pcmBytes, mapBytes}

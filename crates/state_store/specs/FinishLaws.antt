@@ -15,27 +15,16 @@ use Rattle.codes.specs.Says.{guard}
 use Rattle.codes.specs.SaysLaws.{picks, skips, passes, stops}
 use Rattle.codes.specs.Answers as answers
 use Rattle.codes.specs.AnswersLaws.{numbered}
-use Rattle.codes.specs.declared.answers.Refusal.the-variants.{BadLength}
 use Rattle.records.specs.Records.{query, queryValues, remap, remapValues, pcmCommand, pcmCommandValues, setParameters, setParametersValues}
 use Rattle.turns.specs.ConsistentLaws.{both}
-use Rattle.turns.specs.declared.ring.Track.{Track}
-use Rattle.tables.specs.declared.verdict.Verdict.{Verdict}
-use Rattle.codes.specs.declared.answers.Refusal.the-variants.{QueueFailed}
-use Rattle.tables.specs.declared.verdict.Verdict.the-variants.{Refused}
 use Rattle.core.specs.Plan.{refuseOf, beginOf, answerOf, verdictBy}
 use Rattle.exchange.specs.Tables.{lookOf, pendingLook, soundAfter}
 use Rattle.core.specs.ReplyLaws.{tells-reply, tells-message}
 use Rattle.core.specs.Reply.{saysReply, requestBytes, messageAfter, replyOf, tellOf, toldIn}
 use Rattle.exchange.specs.Exchange.{callOf, feedOf, failOf}
-use Rattle.core.specs.declared.state.Call.{Call}
-use Rattle.core.specs.declared.state.Core.{Core}
-use Rattle.core.specs.declared.plan.Request.{Request}
 use Rattle.core.specs.declared.plan.Request.the-variants as request
-use Rattle.core.specs.declared.plan.Say.{Say}
-use Rattle.core.specs.declared.plan.Say.the-variants.{Send, Done, Refused}
-use Rattle.core.specs.declared.plan.Effect.{Effect}
-use Rattle.core.specs.declared.plan.Look.{Look}
-use Rattle.core.specs.declared.plan.Plan.{Plan}
+use Rattle.core.specs.declared.plan.Say.the-variants.{Refused}
+use Rattle.state_store.specs.Types.{BadLength, Track, Verdict, QueueFailed, Refused, Call, Core, Request, Say, Send, Done, Effect, Look, Plan}
 use Rattle.state_store.specs.Places.{stateSize}
 use Rattle.layout.specs.Lent.{resultSize}
 use Rattle.state_store.specs.Store.{headAt, coreOf, whole, soundOf, soundBytes}

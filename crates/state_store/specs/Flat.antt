@@ -5,16 +5,7 @@ use mathlib.Core.List.{List, [], _∷_}
 use Prim.Native.Nat.{ℕ}
 use lib.Dec.{eqb}
 use Rattle.codes.specs.Says.{pick}
-use Rattle.core.specs.declared.state.Params.{Params}
-use Rattle.core.specs.declared.state.Kind.{Kind}
-use Rattle.core.specs.declared.state.Kind.the-variants.{Prepare, Release, Start, Stop}
-use Rattle.core.specs.declared.state.Field.{Field}
-use Rattle.core.specs.declared.state.Field.the-variants.{Rates, Formats, Channels, Features}
-use Rattle.core.specs.declared.state.Call.{Call}
-use Rattle.core.specs.declared.state.Call.the-variants.{SetParams, Command, Remap, Streams, Supported, Xfer}
-use Rattle.core.specs.declared.state.Stage.{Stage}
-use Rattle.core.specs.declared.state.Stage.the-variants.{Idle, JacksAsked, StreamsAsked, MapsAsked, Sent}
-use Rattle.state_store.specs.declared.flat.Flat.{Flat}
+use Rattle.state_store.specs.Types.{Params, Kind, Prepare, Release, Start, Stop, Field, Rates, Formats, Channels, Features, Call, SetParams, Command, Remap, Streams, Supported, Xfer, Stage, Idle, JacksAsked, StreamsAsked, MapsAsked, Sent, Flat}
 
 -- ready 1, stage 1, call 1, part 1, id 4, first 4, second 4, third 4, known 1, channels 1, format 1, rate 1
 abbrev pub flatRow : List ℕ

@@ -10,19 +10,9 @@ use borrow.Author.Tests.{eq-eqb, eqb-true}
 use Rattle.codes.specs.Says.{pick}
 use Rattle.codes.specs.SaysLaws.{picks}
 use Rattle.turns.specs.ConsistentLaws.{both}
-use Rattle.core.specs.declared.state.Kind.{Kind}
-use Rattle.core.specs.declared.state.Kind.the-variants.{Prepare, Release, Start, Stop}
-use Rattle.core.specs.declared.state.Field.{Field}
-use Rattle.core.specs.declared.state.Field.the-variants.{Rates, Formats, Channels, Features}
-use Rattle.core.specs.declared.state.Call.{Call}
-use Rattle.core.specs.declared.state.Call.the-variants.{SetParams, Command, Remap, Streams, Supported, Xfer}
-use Rattle.core.specs.declared.state.Stage.{Stage}
-use Rattle.core.specs.declared.state.Stage.the-variants.{Idle, JacksAsked, StreamsAsked, MapsAsked, Sent}
-use Rattle.core.specs.declared.state.Core.{Core}
 use Rattle.state_store.specs.Flat.{flatValues, kindNumber, kindOf, fieldNumber, flatField, callFlat, staged, flatOf, flatCall, flatStage, flatReady, sameFlat, wholeFlat}
 use Rattle.state_store.specs.Store.{wholeHead, headFrom, headOf, coreOf}
-use Rattle.state_store.specs.declared.flat.Flat.{Flat}
-use Rattle.state_store.specs.declared.flat.Head.{Head}
+use Rattle.state_store.specs.Types.{Kind, Prepare, Release, Start, Stop, Field, Rates, Formats, Channels, Features, Call, SetParams, Command, Remap, Streams, Supported, Xfer, Stage, Idle, JacksAsked, StreamsAsked, MapsAsked, Sent, Core, Flat, Head}
 
 -- ---- a stage is had back from its fields
 

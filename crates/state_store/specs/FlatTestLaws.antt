@@ -7,15 +7,9 @@ use native.Mathlib.Omega.{arith}
 use lib.Dec.{leb, eqb}
 use borrow.Author.Tests.{le-leb, leb-true, eq-eqb, eqb-true, eqb-false}
 use Rattle.codes.specs.Says.{pick}
-use Rattle.core.specs.declared.state.Kind.the-variants.{Prepare, Release, Start, Stop}
-use Rattle.core.specs.declared.state.Field.the-variants.{Rates, Formats, Channels, Features}
-use Rattle.core.specs.declared.state.Call.{Call}
-use Rattle.core.specs.declared.state.Call.the-variants.{SetParams, Command, Remap, Streams, Supported, Xfer}
-use Rattle.core.specs.declared.state.Stage.{Stage}
-use Rattle.core.specs.declared.state.Stage.the-variants.{Idle, JacksAsked, StreamsAsked, MapsAsked, Sent}
 use Rattle.state_store.specs.Flat.{kindNumber, kindOf, fieldNumber, flatField, numbered, flatParams, callFlat, staged, flatOf, flatCall, flatReady, sameFlat, wholeFlat}
 use Rattle.state_store.specs.FlatTests.{plainOf, shortOf, sameCall}
-use Rattle.state_store.specs.declared.flat.Flat.{Flat}
+use Rattle.state_store.specs.Types.{Prepare, Release, Start, Stop, Rates, Formats, Channels, Features, Call, SetParams, Command, Remap, Streams, Supported, Xfer, Stage, Idle, JacksAsked, StreamsAsked, MapsAsked, Sent, Flat}
 
 -- two tests that hold together are one
 same-bool : (a b : Bool) → (a ≡ true → b ≡ true) → (b ≡ true → a ≡ true) → a ≡ b

@@ -2,7 +2,7 @@
 -- Assumes nothing.
 use mathlib.Core.Bool.{Bool, _&&_}
 use lib.Dec.{eqb}
-use Rattle.state_store.specs.declared.flat.Flat.{Flat}
+use Rattle.state_store.specs.Types.{Flat}
 
 -- what only parameters use is 0
 abbrev pub plainOf : Flat → Bool

@@ -11,10 +11,9 @@ use Rattle.layout.specs.Bytes.{le}
 use Rattle.layout.specs.Layout.{write}
 use Rattle.layout.specs.LayoutLaws.{length-write}
 use Rattle.layout.specs.StoreLaws.{sets-then}
-use Rattle.core.specs.declared.state.Core.{Core}
 use Rattle.state_store.specs.Flat.{flatRow, flatValues, flatOf}
 use Rattle.state_store.specs.Store.{reservedRow, headRow, headValues, headOf}
-use Rattle.state_store.specs.declared.flat.Flat.{Flat}
+use Rattle.state_store.specs.Types.{Core, Flat}
 use Rattle.state_store.specs.Steps.{countsRow, countsValues}
 
 -- fields that follow fields

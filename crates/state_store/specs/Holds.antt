@@ -20,18 +20,11 @@ use Rattle.layout.specs.All.{All}
 use Rattle.layout.specs.AllLaws.{append-ok, drop-ok, set-ok, replicate-ok, rows-ok}
 use Rattle.codes.specs.Says.{pick, guard}
 use Rattle.codes.specs.SaysLaws.{guarded-by}
-use Rattle.codes.specs.declared.answers.Refusal.{Refusal}
 use Rattle.records.specs.Records.{jackInfo, jackInfoValues, pcmInfo, pcmInfoValues, channelMap, channelMapValues, jackBytes, pcmBytes, mapBytes, jackInfoOf, pcmInfoOf, channelMapOf}
-use Rattle.records.specs.declared.info.JackInfo.{JackInfo}
-use Rattle.records.specs.declared.info.PcmInfo.{PcmInfo}
-use Rattle.records.specs.declared.info.ChannelMap.{ChannelMap}
 use Rattle.tables.specs.Tables.{fits, isGood, filled, jackAt, pcmAt, mapAt, jacksRead, streamsRead, mapsRead}
 use Rattle.tables.specs.TableLengthLaws.{jacks-length, streams-length, maps-length}
-use Rattle.tables.specs.declared.verdict.Verdict.{Verdict}
 use Rattle.turns.specs.Consistent as ring
 use Rattle.turns.specs.ConsistentLaws.{both}
-use Rattle.turns.specs.declared.ring.Track.{Track}
-use Rattle.turns.specs.declared.ring.Ring.{Ring}
 use Rattle.core.specs.State.{unset, newCore}
 use Rattle.exchange.specs.State.{newSound, paramsOf}
 use Rattle.core.specs.Consistent.{consistentOf, streamOk}
@@ -44,19 +37,7 @@ use Rattle.exchange.specs.OwnLaws.{picked-by}
 use Rattle.exchange.specs.PlanLaws.{begun, Answered, short, idle, asks-streams, asks-maps, cuts, finishes, ends, fails, fed}
 use Rattle.exchange.specs.StayLaws.{called-quiet}
 use Rattle.exchange.specs.StepLaws.{startBy, started-by}
-use Rattle.core.specs.declared.state.Params.{Params}
-use Rattle.core.specs.declared.state.Call.{Call}
-use Rattle.core.specs.declared.state.Call.the-variants.{SetParams, Command, Remap, Streams, Supported, Xfer}
-use Rattle.core.specs.declared.state.Stage.the-variants.{Sent}
-use Rattle.core.specs.declared.state.Core.{Core}
-use Rattle.exchange.specs.declared.state.Sound.{Sound}
-use Rattle.core.specs.declared.plan.Effect.{Effect}
-use Rattle.core.specs.declared.plan.Effect.the-variants.{Nothing, FillJacks, FillStreams, FillMaps, Store}
-use Rattle.core.specs.declared.plan.Look.{Look}
-use Rattle.core.specs.declared.plan.Plan.{Plan}
-use Rattle.core.specs.declared.gate.Gate.{Gate}
-use Rattle.core.specs.declared.gate.Gate.the-variants.{Shut, SetUp, Open}
-use Rattle.exchange.specs.declared.xfer.XferStep.{XferStep}
+use Rattle.state_store.specs.Types.{Refusal, JackInfo, PcmInfo, ChannelMap, Verdict, Track, Ring, Params, Call, SetParams, Command, Remap, Streams, Supported, Xfer, Sent, Core, Sound, Effect, Nothing, FillJacks, FillStreams, FillMaps, Store, Look, Plan, Gate, Shut, SetUp, Open, XferStep}
 use Rattle.state_store.specs.Places.{headSize, pcmsPlace, mapsPlace, paramsPlace, stateSize}
 use Rattle.state_store.specs.Store.{whole, paramsRow, paramsAt, soundOf, soundBytes, stateAfter, headRow, headValues, headOf, paramsBytes}
 use Rattle.layout.specs.Lent.{Made}

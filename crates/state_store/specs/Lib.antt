@@ -1,4 +1,5 @@
 -- definitions
+pub mod Types
 pub mod Places
 pub mod Flat
 pub mod Store

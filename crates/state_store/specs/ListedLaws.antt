@@ -19,7 +19,7 @@ use Rattle.exchange.specs.State.{pcmOf}
 use Rattle.exchange.specs.Exchange.{idsFrom, listed}
 use Rattle.exchange.specs.ListLaws.{listed-push, listed-more, length-ids, take-cap}
 use Rattle.exchange.specs.Steps.{pushed}
-use Rattle.exchange.specs.declared.calls.StreamList.{StreamList}
+use Rattle.state_store.specs.Types.{StreamList}
 use Rattle.core.specs.declared.plan.Value.the-variants.{Streams}
 use Rattle.state_store.specs.Places.{pcmsPlace}
 use Rattle.state_store.specs.Store.{soundOf}

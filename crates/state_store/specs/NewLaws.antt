@@ -15,8 +15,7 @@ use Rattle.codes.specs.SaysLaws.{passes, stops}
 use Rattle.records.specs.Records.{jackInfoOf, pcmInfoOf, channelMapOf, jackBytes, pcmBytes, mapBytes}
 use Rattle.tables.specs.Tables.{noJacks, noStreams, noMaps}
 use Rattle.core.specs.State.{unset, newCore}
-use Rattle.core.specs.declared.state.Counts.{Counts}
-use Rattle.core.specs.declared.state.Core.{Core}
+use Rattle.state_store.specs.Types.{Counts, Core}
 use Rattle.state_store.specs.Places.{headSize, stateSize, tablesSize}
 use Rattle.state_store.specs.Store.{paramsBytes, headAt, coreOf, soundBytes}
 use Rattle.layout.specs.Lent.{made, shown}

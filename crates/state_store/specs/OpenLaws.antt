@@ -9,22 +9,17 @@ use lib.Dec.{leb}
 use lib.ListN.{length}
 use borrow.Author.Tests.{leb-true}
 use Rattle.codes.specs.SaysLaws.{stops}
-use Rattle.codes.specs.declared.answers.Refusal.the-variants.{BadLength}
 use Rattle.turns.specs.ConsistentLaws.{both}
-use Rattle.turns.specs.declared.ring.Track.{Track}
 use Rattle.exchange.specs.State.{paramsOf}
 use Rattle.core.specs.Gate.{gateBy}
 use Rattle.exchange.specs.Xfer.{xferBy}
 use Rattle.exchange.specs.StepLaws as step
-use Rattle.core.specs.declared.state.Params.{Params}
-use Rattle.core.specs.declared.state.Core.{Core}
-use Rattle.core.specs.declared.gate.Gate.{Gate}
-use Rattle.core.specs.declared.gate.Gate.the-variants.{Shut, SetUp}
 use Rattle.core.specs.declared.gate.Gate.the-variants as gate
 use Rattle.state_store.specs.Places.{headSize, stateSize}
 use Rattle.state_store.specs.Store.{headAt, coreOf, soundOf}
 use Rattle.state_store.specs.Calls.{Opened, opened, shut, settingUp, openIn}
 use Rattle.state_store.specs.StoreLaws.{core-at}
+use Rattle.state_store.specs.Types.{BadLength, Track, Params, Core, Gate, Shut, SetUp}
 use Rattle.state_store.specs.declared.calls.Opening.the-variants.{Open}
 
 module _ (s m : List ℕ) (t : Track) (stream : ℕ) where

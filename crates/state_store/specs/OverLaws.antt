@@ -14,15 +14,9 @@ use Rattle.layout.specs.LayoutLaws.{length-write, write-read}
 use Rattle.layout.specs.StoreLaws.{sets-then}
 use Rattle.layout.specs.RowsLaws.{length-rows, length-rowsBytes}
 use Rattle.records.specs.Records.{jackInfo, jackInfoValues, pcmInfo, pcmInfoValues, channelMap, channelMapValues, jackBytes, pcmBytes, mapBytes}
-use Rattle.records.specs.declared.info.JackInfo.{JackInfo}
-use Rattle.records.specs.declared.info.PcmInfo.{PcmInfo}
-use Rattle.records.specs.declared.info.ChannelMap.{ChannelMap}
 use Rattle.tables.specs.Tables.{jackAt, pcmAt, mapAt}
-use Rattle.core.specs.declared.state.Params.{Params}
-use Rattle.core.specs.declared.state.Core.{Core}
-use Rattle.exchange.specs.declared.state.Sound.{Sound}
 use Rattle.exchange.specs.Tables.{soundAfter}
-use Rattle.core.specs.declared.plan.Effect.the-variants.{Nothing}
+use Rattle.state_store.specs.Types.{JackInfo, PcmInfo, ChannelMap, Params, Core, Sound, Nothing}
 use Rattle.state_store.specs.Places.{headSize, pcmsPlace, mapsPlace, paramsPlace}
 use Rattle.state_store.specs.Store.{headRow, headValues, headOf, paramsRow, paramsBytes, paramsAt, soundOf, soundBytes}
 use Rattle.state_store.specs.TableLaws.{Alike, alike-self, alike-on, alike-after, table-kept}

@@ -14,11 +14,8 @@ use Rattle.tables.specs.Tables.{jackAt, pcmAt}
 use Rattle.core.specs.State.{unset}
 use Rattle.exchange.specs.State.{jackOf, pcmOf, paramsOf}
 use Rattle.exchange.specs.Tables.{fieldOf}
-use Rattle.core.specs.declared.state.Params.{Params}
-use Rattle.core.specs.declared.state.Field.{Field}
-use Rattle.core.specs.declared.plan.Value.{Value}
 use Rattle.core.specs.declared.plan.Value.the-variants as value
-use Rattle.core.specs.declared.state.Field.the-variants.{Rates, Formats, Channels, Features}
+use Rattle.state_store.specs.Types.{Params, Field, Value, Rates, Formats, Channels, Features}
 use Rattle.state_store.specs.Places.{headSize, pcmsPlace, paramsPlace}
 use Rattle.state_store.specs.Store.{paramsAt, soundOf}
 

@@ -13,10 +13,6 @@ use Rattle.layout.specs.Bytes.{Bytes}
 use Rattle.codes.specs.Says.{pick}
 use Rattle.codes.specs.SaysLaws.{guarded-by, skips}
 use Rattle.codes.specs.Answers.{saysRefusal}
-use Rattle.codes.specs.declared.answers.Refusal.{Refusal}
-use Rattle.codes.specs.declared.answers.Refusal.the-variants.{InvalidParam, BadLength}
-use Rattle.tables.specs.declared.verdict.Verdict.{Verdict}
-use Rattle.turns.specs.declared.ring.Track.{Track}
 use Rattle.core.specs.Consistent.{consistentOf}
 use Rattle.core.specs.Plan.{refuseOf}
 use Rattle.core.specs.Reply.{saysReply, replyOf}
@@ -24,21 +20,12 @@ use Rattle.exchange.specs.Exchange.{stepOf, callOf}
 use Rattle.exchange.specs.Feed.{Feed, paged, failed, planOf, pageOf, fedOf, One, ownRefusals}
 use Rattle.exchange.specs.PlanLaws.{Begun, bars, asks, goes, Answered, short, idle, asks-streams, asks-maps, cuts, finishes, ends, fails, fed}
 use Rattle.exchange.specs.Refused.{refused-writes-nothing, refused-unchanged, Left, same, closed, cut, done, refused-feed}
-use Rattle.core.specs.declared.state.Call.{Call}
-use Rattle.core.specs.declared.state.Call.the-variants.{SetParams, Command, Remap, Streams, Supported, Xfer}
-use Rattle.core.specs.declared.state.Core.{Core}
-use Rattle.exchange.specs.declared.state.Sound.{Sound}
-use Rattle.core.specs.declared.plan.Look.{Look}
-use Rattle.core.specs.declared.plan.Plan.{Plan}
-use Rattle.core.specs.declared.reply.Reply.{Reply}
 use Rattle.core.specs.declared.reply.Reply.the-variants as reply
 use Rattle.state_store.specs.Store.{whole, soundOf, soundBytes, stateAfter}
 use Rattle.state_store.specs.Calls.{Told, told, tooShort, resultBytes, callIn, feedIn, failIn, Opened, openIn}
 use Rattle.state_store.specs.StoreLaws.{core-at, store-same}
 use Rattle.state_store.specs.OpenLaws.{gateIn, openBy, opened-by}
-use Rattle.core.specs.declared.gate.Gate.{Gate}
-use Rattle.core.specs.declared.gate.Gate.the-variants.{Shut, SetUp, Open}
-use Rattle.state_store.specs.declared.calls.Opening.the-variants.{Says}
+use Rattle.state_store.specs.Types.{Refusal, InvalidParam, BadLength, Verdict, Track, Call, SetParams, Command, Remap, Streams, Supported, Xfer, Core, Sound, Look, Plan, Reply, Gate, Shut, SetUp, Open, Says}
 
 pub record Unchanged (s m r : List ℕ) (x : Told) : Type 0 where
   pub state : x .state ≡ s

@@ -6,7 +6,6 @@ use lib.Seq.{sets}
 use Rattle.layout.specs.Bytes.{le}
 use Rattle.codes.specs.Says.{guard, pick}
 use Rattle.core.specs.Consistent.{consistentOf}
-use Rattle.core.specs.declared.state.Core.{Core}
 use Rattle.layout.specs.Lent.{Shown, shown}
 use Rattle.state_store.specs.Calls.{Told, left, resultBytes, Opened, opened}
 use mathlib.Core.Path.{_≡_}
@@ -15,16 +14,10 @@ use Rattle.layout.specs.Rows.{rowsBytes}
 use Rattle.exchange.specs.Exchange.{idsFrom, listOf}
 use Rattle.core.specs.Reply.{saysReply, messageAfter, replyOf}
 use Rattle.state_store.specs.Store.{soundOf, soundBytes}
-use Rattle.core.specs.declared.state.Counts.{Counts}
 use mathlib.Core.Bool.{Bool}
 use Rattle.core.specs.Plan.{queryOf, sendOf}
 use Rattle.exchange.specs.Tables.{soundAfter}
-use Rattle.core.specs.declared.state.Call.the-variants.{Xfer}
-use Rattle.core.specs.declared.state.Stage.the-variants.{JacksAsked}
-use Rattle.core.specs.declared.plan.Effect.{Effect}
-use Rattle.core.specs.declared.plan.Effect.the-variants.{Nothing}
-use Rattle.core.specs.declared.plan.Plan.{Plan}
-use Rattle.state_store.specs.declared.calls.Opening.the-variants.{Says}
+use Rattle.state_store.specs.Types.{Core, Counts, Xfer, JacksAsked, Effect, Nothing, Plan, Says}
 
 abbrev pub countBy : Core → ℕ → List ℕ → Shown
 countBy c n r = guard (consistentOf c) (shown 1 r)

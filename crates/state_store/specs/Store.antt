@@ -12,14 +12,9 @@ use Rattle.layout.specs.Rows.{rowsAt, rowsBytes}
 use Rattle.codes.specs.Says.{pick}
 use Rattle.records.specs.Records.{jackBytes, pcmBytes, mapBytes}
 use Rattle.tables.specs.Tables.{jackAt, pcmAt, mapAt}
-use Rattle.core.specs.declared.state.Params.{Params}
-use Rattle.core.specs.declared.state.Core.{Core}
-use Rattle.exchange.specs.declared.state.Sound.{Sound}
-use Rattle.core.specs.declared.state.Call.the-variants.{Streams}
-use Rattle.core.specs.declared.state.Stage.the-variants.{JacksAsked}
 use Rattle.state_store.specs.Places.{headSize, pcmsPlace, mapsPlace, paramsPlace}
 use Rattle.state_store.specs.Flat.{flatRow, flatValues, flatOf, flatStage, flatReady, wholeFlat}
-use Rattle.state_store.specs.declared.flat.Head.{Head}
+use Rattle.state_store.specs.Types.{Params, Core, Sound, Streams, JacksAsked, Head}
 
 -- ---- the core: configured counts 4 each, table counts 4 each, then the stage
 

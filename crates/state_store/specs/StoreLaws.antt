@@ -17,13 +17,11 @@ use Rattle.layout.specs.All.{All}
 use Rattle.layout.specs.StoreLaws.{sets-same}
 use Rattle.records.specs.Records.{jackInfo, jackInfoValues, pcmInfo, pcmInfoValues, channelMap, channelMapValues, jackInfoOf, pcmInfoOf, channelMapOf, jackBytes, pcmBytes, mapBytes}
 use Rattle.tables.specs.Tables.{jackAt, pcmAt, mapAt}
-use Rattle.core.specs.declared.state.Params.{Params}
-use Rattle.exchange.specs.declared.state.Sound.{Sound}
 use Rattle.state_store.specs.Places.{headSize, pcmsPlace, mapsPlace, paramsPlace, stateSize}
 use Rattle.state_store.specs.Store.{headRow, headValues, headFrom, headAt, headOf, coreOf, whole, paramsRow, paramsAt, paramsBytes, soundOf, soundBytes}
 use Rattle.state_store.specs.FlatLaws.{core-back, core-same}
 use Rattle.state_store.specs.OverLaws.{jack-sized, pcm-sized, map-sized, params-sized, headBytes, head-sized, core-over}
-use Rattle.state_store.specs.declared.flat.Head.{Head}
+use Rattle.state_store.specs.Types.{Params, Sound, Head}
 
 -- ---- WHAT WAS READ, WRITTEN AGAIN, leaves a store that is whole
 

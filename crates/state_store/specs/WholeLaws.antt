@@ -18,9 +18,7 @@ use Rattle.layout.specs.StoreLaws.{sets-then, bytesAt-before}
 use Rattle.codes.specs.Says.{pick}
 use Rattle.codes.specs.SaysLaws.{picks, guarded-by}
 use Rattle.tables.specs.Tables.{isGood}
-use Rattle.tables.specs.declared.verdict.Verdict.{Verdict}
 use Rattle.turns.specs.ConsistentLaws.{both}
-use Rattle.turns.specs.declared.ring.Track.{Track}
 use Rattle.core.specs.State.{newCore, withStage}
 use Rattle.exchange.specs.State.{newSound}
 use Rattle.exchange.specs.Tables.{soundAfter}
@@ -29,19 +27,6 @@ use Rattle.exchange.specs.Exchange.{callOf}
 use Rattle.exchange.specs.Xfer.{setUpPlan}
 use Rattle.exchange.specs.OwnLaws.{Own, sets as sends, commands, remaps, lists, tells, refuses, picked-by}
 use Rattle.exchange.specs.PlanLaws.{Begun, bars, asks, goes, begun, counted, Answered, short, idle, asks-streams, asks-maps, cuts, finishes, ends, fails, fed}
-use Rattle.core.specs.declared.state.Counts.{Counts}
-use Rattle.core.specs.declared.state.Call.{Call}
-use Rattle.core.specs.declared.state.Call.the-variants.{Xfer}
-use Rattle.core.specs.declared.state.Stage.{Stage}
-use Rattle.core.specs.declared.state.Stage.the-variants.{Idle, JacksAsked, StreamsAsked, MapsAsked, Sent}
-use Rattle.core.specs.declared.state.Core.{Core}
-use Rattle.exchange.specs.declared.state.Sound.{Sound}
-use Rattle.core.specs.declared.plan.Effect.{Effect}
-use Rattle.core.specs.declared.plan.Effect.the-variants.{Nothing, FillJacks, FillStreams, FillMaps, Store}
-use Rattle.core.specs.declared.plan.Look.{Look}
-use Rattle.core.specs.declared.plan.Plan.{Plan}
-use Rattle.core.specs.declared.gate.Gate.{Gate}
-use Rattle.core.specs.declared.gate.Gate.the-variants.{Shut, SetUp, Open}
 use Rattle.state_store.specs.Places.{headSize, stateSize}
 use Rattle.layout.specs.Lent.{resultSize}
 use Rattle.state_store.specs.Flat.{flatRow, flatValues, callFlat, staged, flatOf}
@@ -53,7 +38,7 @@ use Rattle.state_store.specs.FlatLaws.{core-same, head-whole}
 use Rattle.state_store.specs.OverLaws.{headBytes, head-sized}
 use Rattle.state_store.specs.StoreLaws.{core-at, head-back}
 use Rattle.state_store.specs.OpenLaws.{gateIn, openBy, set-up-long, opened-by}
-use Rattle.state_store.specs.declared.flat.Head.{Head}
+use Rattle.state_store.specs.Types.{Verdict, Track, Counts, Call, Xfer, Stage, Idle, JacksAsked, StreamsAsked, MapsAsked, Sent, Core, Sound, Effect, Nothing, FillJacks, FillStreams, FillMaps, Store, Look, Plan, Gate, Shut, SetUp, Open, Head}
 
 -- ---- a core whose numbers fit their widths, as every core of the code does
 

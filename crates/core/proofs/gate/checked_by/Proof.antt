@@ -2,8 +2,7 @@
 use mathlib.Core.Bool.{not}
 use mathlib.Core.Path.{refl, ap}
 use borrow.Author.Tests.{eq-eqb, ne-eqb, lt-ltb, le-ltb, not-true, not-false}
-use Rattle.codes.specs.declared.answers.Refusal.the-variants.{InvalidParam, IoError}
-use Rattle.core.specs.declared.gate.Gate.the-variants.{Shut, SetUp}
+use Rattle.core.specs.Types.{InvalidParam, IoError, Shut, SetUp}
 use Rattle.codes.specs.SaysLaws.{passes, stops}
 use Rattle.core.proofs.gate.checked_by.Statement.{statement}
 use Rattle.core.proofs.gate.checked_by.Tie as tie

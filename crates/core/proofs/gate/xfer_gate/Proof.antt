@@ -4,8 +4,7 @@ use mathlib.Core.Path.{refl, _∙_}
 use borrow.Author.Needs.{needs}
 use borrow.Author.Tests.{not-true, not-false}
 use Rattle.codes.specs.SaysLaws.{passed, failed}
-use Rattle.codes.specs.declared.answers.Refusal.the-variants.{InvalidParam, Busy, BadLength}
-use Rattle.core.specs.declared.gate.Gate.the-variants.{Shut}
+use Rattle.core.specs.Types.{InvalidParam, Busy, BadLength, Shut}
 use Rattle.codes.specs.SaysLaws.{passes, stops}
 use Rattle.core.proofs.gate.xfer_gate.Statement.{statement}
 use Rattle.core.proofs.gate.xfer_gate.Tie as tie

@@ -5,7 +5,7 @@ use lib.ListN.{length}
 use borrow.Author.Needs.{needs}
 use borrow.Author.Tests.{le-leb, lt-leb}
 use Rattle.exchange.specs.StepLaws.{stepped, moved}
-use Rattle.codes.specs.declared.answers.Refusal.the-variants.{QueueFailed}
+use Rattle.exchange.specs.Types.{QueueFailed}
 use Rattle.tables.specs.declared.verdict.Verdict.the-variants.{Refused}
 use Rattle.core.specs.Plan.{answerOf}
 use Rattle.exchange.specs.Exchange.{failOf}

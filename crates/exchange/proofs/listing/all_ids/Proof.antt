@@ -3,7 +3,7 @@ use mathlib.Core.List.{List}
 use mathlib.Core.Path.{_≡_, ap, _∙_}
 use lib.ListN.{length}
 use borrow.Author.Needs.{needs}
-use Rattle.records.specs.declared.info.PcmInfo.{PcmInfo}
+use Rattle.exchange.specs.Types.{PcmInfo}
 use Rattle.exchange.specs.Exchange.{idsFrom, listed}
 use Rattle.exchange.specs.ListLaws.{take-cap}
 use Rattle.exchange.proofs.listing.all_ids.Statement.{statement}

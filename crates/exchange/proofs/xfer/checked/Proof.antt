@@ -2,8 +2,7 @@
 use mathlib.Core.Path.{ap, _∙_}
 use borrow.Author.Needs.{needs}
 use Rattle.core.specs.Gate.{gateBy}
-use Rattle.core.specs.declared.state.Params.{Params}
-use Rattle.core.specs.declared.gate.Gate.the-variants.{Shut, SetUp, Open}
+use Rattle.exchange.specs.Types.{Params, Shut, SetUp, Open}
 use Rattle.exchange.proofs.xfer.checked.Statement.{statement}
 use Rattle.exchange.proofs.xfer.checked.Tie as tie
 

@@ -3,7 +3,7 @@ use mathlib.Core.Path.{_∙_}
 use mathlib.Core.List.{[]}
 use lib.Dec.{lit<}
 use borrow.Author.Tests.{not-true, not-false}
-use Rattle.core.specs.declared.plan.Effect.the-variants.{Nothing}
+use Rattle.state_store.specs.Types.{Nothing}
 use Rattle.state_store.specs.EffectLaws.{effect-over}
 use Rattle.state_store.specs.FinishLaws.{change-none, change-all}
 use borrow.Author.Needs.{needs}

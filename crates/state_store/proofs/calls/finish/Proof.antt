@@ -1,7 +1,7 @@
 -- `state_store::calls::finish` meets its contract, by those of its parts. Assumes nothing.
 use mathlib.Core.Path.{ap, _∙_}
 use Rattle.core.specs.Reply.{saysReply}
-use Rattle.core.specs.declared.reply.Reply.{Reply}
+use Rattle.state_store.specs.Types.{Reply}
 use Rattle.state_store.specs.Calls.{left}
 use Rattle.state_store.specs.FinishLaws.{reply-small, tells, says-in}
 use borrow.Author.Needs.{needs}

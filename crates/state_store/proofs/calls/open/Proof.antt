@@ -5,12 +5,11 @@ use Rattle.state_store.specs.Store.{coreOf}
 use Rattle.state_store.specs.Calls.{opened}
 use Rattle.state_store.specs.Steps.{settingUpBy}
 use Rattle.state_store.specs.OpenLaws.{gated, shut-short, long-head, set-up-long, opens}
-use Rattle.state_store.specs.declared.calls.Opening.the-variants.{Says}
 use Rattle.core.specs.declared.gate.Gate.the-variants as gate
 use Rattle.state_store.specs.StoreLaws.{core-at}
 use Prim.Native.Nat.{ℕ}
 use borrow.Author.Tests.{not-true, not-false}
-use Rattle.codes.specs.declared.answers.Refusal.the-variants.{BadLength}
+use Rattle.state_store.specs.Types.{Says, BadLength}
 use borrow.Author.Needs.{needs}
 use Rattle.state_store.proofs.calls.open.Statement.{statement}
 use Rattle.state_store.proofs.calls.open.Tie as tie

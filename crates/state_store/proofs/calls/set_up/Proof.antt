@@ -5,9 +5,7 @@ use Rattle.state_store.specs.Calls.{opened}
 use Rattle.state_store.specs.FinishLaws.{says-in}
 use Rattle.state_store.specs.Steps.{changed}
 use Rattle.core.specs.Reply.{messageAfter}
-use Rattle.core.specs.declared.plan.Effect.the-variants.{Nothing}
-use Rattle.core.specs.declared.plan.Plan.{Plan}
-use Rattle.state_store.specs.declared.calls.Opening.the-variants.{Says}
+use Rattle.state_store.specs.Types.{Nothing, Plan, Says}
 use borrow.Author.Needs.{needs}
 use Rattle.state_store.proofs.calls.set_up.Statement.{statement}
 use Rattle.state_store.proofs.calls.set_up.Tie as tie

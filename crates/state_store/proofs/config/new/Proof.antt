@@ -2,7 +2,7 @@
 use mathlib.Core.Path.{ap, _∙_}
 use lib.Seq.{sets}
 use Rattle.layout.specs.Layout.{write}
-use Rattle.core.specs.declared.state.Core.{Core}
+use Rattle.state_store.specs.Types.{Core}
 use Rattle.state_store.specs.Store.{headRow, headValues, headOf}
 use Rattle.state_store.specs.NewLaws.{new-short, new-made}
 use borrow.Author.Needs.{needs}

@@ -1,6 +1,6 @@
 -- `state_store::place::field_at` meets its contract, case by case: each field stands at its place in the record. Assumes nothing.
 use mathlib.Core.Path.{sym, ap, _∙_}
-use Rattle.core.specs.declared.state.Field.the-variants.{Rates, Formats, Channels, Features}
+use Rattle.state_store.specs.Types.{Rates, Formats, Channels, Features}
 use Rattle.state_store.specs.PlaceLaws.{field-in}
 use borrow.Author.Needs.{needs}
 use Rattle.core.specs.declared.plan.Value.the-variants as value

@@ -1,6 +1,6 @@
 -- `state_store::place::jack_features` meets its contract: the record stands at its place. Assumes nothing.
 use mathlib.Core.Path.{sym, ap, _∙_}
-use Rattle.records.specs.declared.info.JackInfo.{JackInfo}
+use Rattle.state_store.specs.Types.{JackInfo}
 use Rattle.state_store.specs.PlaceLaws.{jack-in, jack-out, jack-features}
 use borrow.Author.Needs.{needs}
 use Rattle.state_store.proofs.place.jack_features.Statement.{statement}

@@ -4,7 +4,7 @@ use Prim.Native.Nat.{ℕ, _≤_, _-_}
 use lib.Dec.{eqb}
 use lib.ListN.{length}
 use lib.Seq.{length-sets}
-use Rattle.records.specs.declared.info.PcmInfo.{PcmInfo}
+use Rattle.state_store.specs.Types.{PcmInfo}
 use Rattle.state_store.specs.PlaceLaws.{pcm-in, direction-in}
 use Rattle.state_store.specs.ListedLaws.{none-listed, ids-short, turn-listed}
 use Rattle.state_store.specs.Steps.{idsIn, Listed}
