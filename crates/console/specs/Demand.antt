@@ -9,7 +9,7 @@ use lib.ListN.{length}
 use borrow.Author.Tests.{le-leb}
 use Rattle.layout.specs.All.{All}
 use Rattle.layout.specs.Bytes.{Bytes}
-use Rattle.layout.specs.Lent.{Made}
+use Rattle.layout.specs.Lent.{Made, messageSize}
 use Rattle.layout.specs.WrittenLaws.{Again}
 use Rattle.codes.specs.AnswersLaws.{numbered}
 use Rattle.turns.specs.Cut.{cut}
@@ -89,7 +89,7 @@ module _ (s ring m : List ℕ) (b : Bytes s) (c : Bytes ring) (h : stateSize ≤
   start-says = ap (λ (x : Begun). x .answer) (entry-is s ring m b c h k stream (length frames) budget)
 
   -- THE FIRST HALF: the start answers 512, and then a turn answers 0, no later than turn n * g + 1
-  pub entries-in-time : (g : ℕ) → Playable (soundOf s) (ringOf ring) stream → 24 ≤ length m → 0 < g → length (cut (periodOf (soundOf s) stream) frames) * g + 1 ≤ budget →
+  pub entries-in-time : (g : ℕ) → Playable (soundOf s) (ringOf ring) stream → messageSize ≤ length m → 0 < g → length (cut (periodOf (soundOf s) stream) frames) * g + 1 ≤ budget →
       let log = playing (soundOf s) (ringOf ring) stream budget (length m) frames readings .log in
       (startsIn s ring m stream budget frames .answer ≡ 512)
       × (All NoFault log → CompletesWithin g log

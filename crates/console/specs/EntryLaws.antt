@@ -29,7 +29,7 @@ use Rattle.exchange.specs.Xfer.{xferBy, refusedStep, setUpStep, startStep, star
 use Rattle.exchange.specs.StepLaws.{xfer-ap}
 use Rattle.ring_store.specs.Store.{ringSize}
 use Rattle.state_store.specs.Places.{stateSize}
-use Rattle.layout.specs.Lent.{Shown, shown, resultSize}
+use Rattle.layout.specs.Lent.{Shown, shown, resultSize, messageSize}
 use Rattle.ring_store.specs.Store.{trackAt, ringOf}
 use Rattle.ring_store.specs.Calls.{leftBy, startIn}
 use Rattle.state_store.specs.Store.{whole, soundOf, stateAfter}
@@ -128,7 +128,7 @@ module _ (s ring : List ℕ) (stream len budget : ℕ) where
 
     pub start-is : startBy (openIn s (trackAt ring) stream m) ≡ startEntry s ring stream len budget m
     unfolding openIn startEntry startOf ringOf
-    start-is = ends (leb stateSize (length s)) (leb 24 (length m))
+    start-is = ends (leb stateSize (length s)) (leb messageSize (length m))
 
     pub started : (o q : Opening) (st after : List ℕ) (t : Track) → q ≡ o → t ≡ trackAt ring → opened q st after ≡ openIn s t stream m → startOpening o st after ≡ startEntry s ring stream len budget m
     started o q st after t d e p = ap (λ (x : Opening). startOpening x st after) (sym d) ∙ ap startBy (p ∙ ap (λ (x : Track). openIn s x stream m) e) ∙ start-is

@@ -1,6 +1,6 @@
 // Sizes of the stores and buffers.
 ghost use mathlib.Core.Path.{_≡_};
-ghost use Rattle.layout.specs.Lent.{resultSize};
+ghost use Rattle.layout.specs.Lent.{messageSize, pageSize, resultSize};
 ghost use Rattle.model_store.specs.Store.{deviceSize};
 ghost use Rattle.ring_store.specs.Store.{ringSize};
 ghost use Rattle.state_store.specs.Places.{stateSize};
@@ -23,7 +23,7 @@ pub extern "C" fn snd_ring_size() -> u64
 
 #[no_mangle]
 pub extern "C" fn snd_message_size() -> u64
-    ensures { λ r. ⌜ r ≡ 24 ⌝ }
+    ensures { λ r. ⌜ r ≡ messageSize ⌝ }
 {
     MESSAGE as u64
 }
@@ -37,7 +37,7 @@ pub extern "C" fn snd_result_size() -> u64
 
 #[no_mangle]
 pub extern "C" fn snd_page_size() -> u64
-    ensures { λ r. ⌜ r ≡ 4096 ⌝ }
+    ensures { λ r. ⌜ r ≡ pageSize ⌝ }
 {
     PAGE as u64
 }

@@ -4,6 +4,8 @@ use mathlib.Core.Bool.{Bool, true, false, not, _&&_}
 use mathlib.Core.List.{List}
 use Prim.Native.Nat.{ℕ}
 use lib.Dec.{ltb, eqb}
+use Rattle.records.specs.Records.{jackInfo, pcmInfo, channelMap}
+use Rattle.layout.specs.Layout.{size}
 use Rattle.codes.specs.Says.{pick, guard}
 use Rattle.codes.specs.Flags.{hasBit, remapFeature}
 use Rattle.tables.specs.Tables.{judged, isGood, refusedBy}
@@ -120,7 +122,7 @@ isIdle (Sent call) = false
 
 -- set-up first, where it is not done
 abbrev pub setUpOf : Core → Call → Look → Plan
-setUpOf c call look = pick (c .ready) (ownOf c call look) (sendOf c (JacksAsked call) (queryOf 0x0001 (c .counts .jacks) 24) Nothing)
+setUpOf c call look = pick (c .ready) (ownOf c call look) (sendOf c (JacksAsked call) (queryOf 0x0001 (c .counts .jacks) (size jackInfo)) Nothing)
 
 unfoldable pub beginOf : Core → Track → Call → Look → Plan
 beginOf c t call look =
@@ -146,13 +148,13 @@ unfoldable pub afterJacks : Core → Call → Verdict → Plan
 afterJacks c call v =
     let n = pick (isGood v) (c .counts .jacks) 0 in
     guard (not (refusedBy 5 v)) (cutShortOf c TooMany)
-    (sendOf (readTo c n 0 0 false) (StreamsAsked call) (queryOf 0x0100 (c .counts .streams) 32) (pick (isGood v) (FillJacks (c .counts .jacks)) Nothing))
+    (sendOf (readTo c n 0 0 false) (StreamsAsked call) (queryOf 0x0100 (c .counts .streams) (size pcmInfo)) (pick (isGood v) (FillJacks (c .counts .jacks)) Nothing))
 
 -- "On streams it ends the call with 2 or 7."
 unfoldable pub afterStreams : Core → Call → Verdict → Plan
 afterStreams c call v =
     guard (isGood v) (cutShortOf c (refusalOf IoError v))
-    (sendOf (readTo c (c .read .jacks) (c .counts .streams) 0 false) (MapsAsked call) (queryOf 0x0200 (c .counts .maps) 24) (FillStreams (c .counts .streams)))
+    (sendOf (readTo c (c .read .jacks) (c .counts .streams) 0 false) (MapsAsked call) (queryOf 0x0200 (c .counts .maps) (size channelMap)) (FillStreams (c .counts .streams)))
 
 -- "A set-up finished in a call stays done however that call ends."
 unfoldable pub afterMaps : Core → Call → Verdict → Look → Plan
@@ -212,7 +214,7 @@ answerOf c v look =
 -- what a page says to what was asked
 abbrev pub verdictBy : Stage → Counts → List ℕ → Verdict
 verdictBy Idle n page = judged page 0 0
-verdictBy (JacksAsked call) n page = judged page (n .jacks) 24
-verdictBy (StreamsAsked call) n page = judged page (n .streams) 32
-verdictBy (MapsAsked call) n page = judged page (n .maps) 24
+verdictBy (JacksAsked call) n page = judged page (n .jacks) (size jackInfo)
+verdictBy (StreamsAsked call) n page = judged page (n .streams) (size pcmInfo)
+verdictBy (MapsAsked call) n page = judged page (n .maps) (size channelMap)
 verdictBy (Sent call) n page = judged page 0 0

@@ -4,6 +4,7 @@ use mathlib.Core.List.{List, [], _∷_, _++_}
 use Prim.Native.Nat.{ℕ, _+_}
 use lib.Dec.{leb}
 use lib.ListN.{length, drop}
+use Rattle.layout.specs.Lent.{messageSize}
 use Rattle.layout.specs.Layout.{write}
 use Rattle.codes.specs.Says.{Says, says, guard}
 use Rattle.codes.specs.Answers.{saysRefusal}
@@ -46,7 +47,7 @@ replyOf (Refused r) = reply.Refused r
 
 -- the same told in a message of any length: a short one is refused, and nothing is written
 abbrev pub tellOf : Say → ℕ → Reply
-tellOf a n = guard (leb 24 n) (reply.Refused BadLength) (replyOf a)
+tellOf a n = guard (leb messageSize n) (reply.Refused BadLength) (replyOf a)
 
 abbrev pub toldIn : Say → List ℕ → List ℕ
-toldIn a l = guard (leb 24 (length l)) l (messageAfter a l)
+toldIn a l = guard (leb messageSize (length l)) l (messageAfter a l)

@@ -5,6 +5,7 @@ use mathlib.Core.List.{List, _++_}
 use Prim.Native.Nat.{ℕ, _≤_}
 use lib.ListN.{length, drop}
 use borrow.Author.Tests.{le-leb}
+use Rattle.layout.specs.Lent.{messageSize}
 use Rattle.layout.specs.Layout.{size, write}
 use Rattle.layout.specs.LayoutLaws.{length-write}
 use Rattle.records.specs.Slice.{written}
@@ -19,8 +20,8 @@ sent-by ws vs l n h e =
     let k : size ws ≡ length (write ws vs) = sym (length-write ws vs) in
     (k, e ∙ written-long ws vs l h ∙ ap (λ (m : ℕ). write ws vs ++ drop m l) k)
 
-pub tells-reply : (a : Say) (n : ℕ) → 24 ≤ n → tellOf a n ≡ replyOf a
-tells-reply a n h = sym (passes _ _ _ (le-leb 24 n h) refl)
+pub tells-reply : (a : Say) (n : ℕ) → messageSize ≤ n → tellOf a n ≡ replyOf a
+tells-reply a n h = sym (passes _ _ _ (le-leb messageSize n h) refl)
 
-pub tells-message : (a : Say) (l : List ℕ) → 24 ≤ length l → toldIn a l ≡ messageAfter a l
-tells-message a l h = sym (passes _ _ _ (le-leb 24 (length l) h) refl)
+pub tells-message : (a : Say) (l : List ℕ) → messageSize ≤ length l → toldIn a l ≡ messageAfter a l
+tells-message a l h = sym (passes _ _ _ (le-leb messageSize (length l) h) refl)

@@ -1,5 +1,7 @@
 // What a call or an answer leads to, decided on the core: no table is in sight.
 ghost use mathlib.Core.Path.{_≡_};
+ghost use Rattle.records.specs.Records.{jackInfo};
+ghost use Rattle.layout.specs.Layout.{size};
 ghost use Rattle.codes.specs.Says.{pick};
 ghost use Rattle.core.specs.Plan.{sendOf, endOf, refuseOf, cutShortOf, queryOf, kindCode, setOf, ownSet, ownRemap, ownSupported, ownXfer, ownOf, isIdle, setUpOf, beginOf, refusalOf, afterJacks, afterStreams, afterMaps, storedOf, effectOf, afterSent, answerBy, answerOf, canRemap, foundOf, statusRefusal};
 ghost use Rattle.core.specs.declared.state.Call.the-variants.{Command};
@@ -276,7 +278,7 @@ pub(crate) fn is_idle_stage(g: Stage) -> bool
 
 // The first query of set-up.
 pub fn ask_jacks(c: Core, call: Call) -> Plan
-    ensures { λ r. ⌜ r ≡ sendOf c (JacksAsked call) (queryOf 0x0001 (c .counts .jacks) 24) done.Nothing ⌝ }
+    ensures { λ r. ⌜ r ≡ sendOf c (JacksAsked call) (queryOf 0x0001 (c .counts .jacks) (size jackInfo)) done.Nothing ⌝ }
 {
     let q = query(JackInfo::CODE, c.counts.jacks, JackInfo::SIZE as u32);
     send(c, Stage::JacksAsked(call), q, Effect::Nothing)

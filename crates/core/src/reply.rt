@@ -3,6 +3,7 @@ ghost use mathlib.Core.Path.{_≡_};
 ghost use mathlib.Core.List.{_++_};
 ghost use Prim.Native.Nat.{_≤_};
 ghost use lib.ListN.{length, drop};
+ghost use Rattle.layout.specs.Lent.{messageSize};
 ghost use Rattle.core.specs.Reply.{requestBytes, messageAfter, replyOf, tellOf, toldIn};
 use crate::plan::Request;
 use crate::plan::Say;
@@ -25,7 +26,7 @@ pub const MESSAGE: usize = SetParameters::SIZE;
 
 // A request, written by its record; its length.
 fn put_request(q: Request, message: &mut [u8]) -> usize
-    requires { ⌜ 24 ≤ length (now message) ⌝ }
+    requires { ⌜ messageSize ≤ length (now message) ⌝ }
     ensures { λ r. ⌜ (r ≡ length (requestBytes q)) × (now (message .exit) ≡ requestBytes q ++ drop (length (requestBytes q)) (now (message .entry))) ⌝ }
 {
     match q {
@@ -50,7 +51,7 @@ fn put_request(q: Request, message: &mut [u8]) -> usize
 
 // Only a request is written.
 fn put(say: Say, message: &mut [u8]) -> Reply
-    requires { ⌜ 24 ≤ length (now message) ⌝ }
+    requires { ⌜ messageSize ≤ length (now message) ⌝ }
     ensures { λ r. ⌜ (r ≡ replyOf say) × (now (message .exit) ≡ messageAfter say (now (message .entry))) ⌝ }
 {
     match say {

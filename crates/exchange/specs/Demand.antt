@@ -6,6 +6,7 @@ use mathlib.Core.List.{List, []}
 use Prim.Native.Nat.{ℕ, _+_, _*_, _%_, _≤_, _<_}
 use native.Mathlib.Omega.{arith}
 use lib.ListN.{length}
+use Rattle.layout.specs.Lent.{messageSize}
 use Rattle.turns.specs.Cut.{cut}
 use Rattle.turns.specs.Log.{Ran, turnByTurn}
 use Rattle.turns.specs.Script.{scriptOf}
@@ -38,7 +39,7 @@ idle-ring s r stream o = record { consistent = o .ring; stopped = o .still; empt
 -- "Take a state and ring that calls left, lent lengths that answer 10 does not refuse, a stream with parameters set, no exchange or transfer open, nothing in
 -- flight, and frames that make n periods. If no turn reports a wrong token or a status other than 0x8000, and among any g turns running (g at least 1), each with
 -- something in flight at its reading, one reports a completion, then the transfer answers Ok no later than turn n times g plus 1, given a turn budget of at least that."
-pub ok-in-time : (s : Sound) (r : Ring) (stream budget m g : ℕ) (frames : List ℕ) (script : List Reading) → Playable s r stream → 24 ≤ m → 0 < g
+pub ok-in-time : (s : Sound) (r : Ring) (stream budget m g : ℕ) (frames : List ℕ) (script : List Reading) → Playable s r stream → messageSize ≤ m → 0 < g
     → length (cut (periodOf s stream) frames) * g + 1 ≤ budget →
     let x = starting s r stream budget m frames in
     let h = playing s r stream budget m frames script in
@@ -77,7 +78,7 @@ module _ (s : Sound) (r : Ring) (stream budget m : ℕ) (frames : List ℕ) (scr
 
 -- ---- the same of a transfer over a script of whole readings: what it answers, and the number of its turns
 
-pub ok-in-time-script : (s : Sound) (r : Ring) (stream budget m g : ℕ) (frames bytes : List ℕ) → Playable s r stream → 24 ≤ m → length bytes % 12 ≡ 0 → 0 < g
+pub ok-in-time-script : (s : Sound) (r : Ring) (stream budget m g : ℕ) (frames bytes : List ℕ) → Playable s r stream → messageSize ≤ m → length bytes % 12 ≡ 0 → 0 < g
     → length (cut (periodOf s stream) frames) * g + 1 ≤ budget →
     let h = playing s r stream budget m frames (scriptOf bytes) in
     let x = xferOf s r stream (length frames) budget bytes m in

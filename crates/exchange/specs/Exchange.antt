@@ -6,6 +6,7 @@ use mathlib.Core.List.{List, [], _∷_, _++_}
 use Prim.Native.Nat.{ℕ, suc, _+_, _-_}
 use lib.Dec.{leb, eqb}
 use lib.ListN.{length, take, replicate}
+use Rattle.layout.specs.Lent.{messageSize, pageSize}
 use Rattle.codes.specs.Says.{Says, says, pick, guard}
 use Rattle.codes.specs.Answers.{saysRefusal}
 use Rattle.tables.specs.declared.verdict.Verdict.the-variants as verdict
@@ -75,16 +76,16 @@ pub record Stepped (p : Plan) (s : Sound) (page m n : List ℕ) (r : Step) : Typ
 
 -- A CALL, with a ring that tells whether a transfer runs or a slot is in flight, and a message buffer of n bytes
 unfoldable pub callOf : Sound → Track → Call → ℕ → Plan
-callOf s t call n = guard (leb 24 n) (refuseOf (s .core) BadLength)
+callOf s t call n = guard (leb messageSize n) (refuseOf (s .core) BadLength)
     (beginOf (s .core) t call (lookOf s call))
 
 -- A FEED of an answer page
 unfoldable pub feedOf : Sound → List ℕ → ℕ → Plan
 feedOf s page n =
-    guard (eqb (length page) 4096 && leb 24 n) (refuseOf (s .core) BadLength)
+    guard (eqb (length page) pageSize && leb messageSize n) (refuseOf (s .core) BadLength)
     (answerOf (s .core) (verdictBy (s .core .stage) (s .core .counts) page) (pendingLook (s .core .stage) s))
 
 -- A FEED of a queue failure
 unfoldable pub failOf : Sound → ℕ → Plan
-failOf s n = guard (leb 24 n) (refuseOf (s .core) BadLength)
+failOf s n = guard (leb messageSize n) (refuseOf (s .core) BadLength)
     (answerOf (s .core) (verdict.Refused QueueFailed) (pendingLook (s .core .stage) s))

@@ -6,6 +6,7 @@ use mathlib.Core.List.{List, [], _∷_}
 use Prim.Native.Nat.{ℕ, _≤_}
 use lib.Dec.{leb, eqb}
 use lib.ListN.{length}
+use Rattle.layout.specs.Lent.{messageSize, pageSize}
 use Rattle.tables.specs.declared.verdict.Verdict.the-variants as verdict
 use Rattle.core.specs.Plan.{verdictBy}
 use Rattle.exchange.specs.Exchange.{stepOf, feedOf, failOf}
@@ -35,12 +36,12 @@ verdictOf s (failed n) = verdict.Refused QueueFailed
 
 -- a feed that 10 does not refuse
 abbrev pub longOf : Feed → Bool
-longOf (paged bytes n) = eqb (length bytes) 4096 && leb 24 n
-longOf (failed n) = leb 24 n
+longOf (paged bytes n) = eqb (length bytes) pageSize && leb messageSize n
+longOf (failed n) = leb messageSize n
 
 abbrev pub Long : Feed → Type 0
-Long (paged bytes n) = (length bytes ≡ 4096) × (24 ≤ n)
-Long (failed n) = 24 ≤ n
+Long (paged bytes n) = (length bytes ≡ pageSize) × (messageSize ≤ n)
+Long (failed n) = messageSize ≤ n
 
 -- a number of a list
 abbrev pub One : ℕ → List ℕ → Type 0

@@ -8,6 +8,7 @@ use Prim.Native.Nat.{ℕ}
 use lib.Dec.{leb, eqb}
 use borrow.Author.Tests.{eq-eqb, le-leb}
 use lib.ListN.{length}
+use Rattle.layout.specs.Lent.{messageSize, pageSize}
 use Rattle.codes.specs.Says.{pick, guard}
 use Rattle.codes.specs.SaysLaws.{guarded-by}
 use Rattle.codes.specs.Answers.{saysRefusal}
@@ -120,7 +121,7 @@ module _ (c : Core) (v : Verdict) (look : Look) (long : Bool) where
 
 -- ---- what is long has no verdict of its length
 
-long-judged : (page : List ℕ) (n size : ℕ) → eqb (length page) 4096 ≡ true → Failing (judged page n size) × (refusedBy 10 (judged page n size) ≡ false)
+long-judged : (page : List ℕ) (n size : ℕ) → eqb (length page) pageSize ≡ true → Failing (judged page n size) × (refusedBy 10 (judged page n size) ≡ false)
 unfolding judged
 long-judged page n size l =
     guarded-by (λ (v : Verdict). Failing v × (refusedBy 10 v ≡ false)) _ _ _
@@ -129,7 +130,7 @@ long-judged page n size l =
     (λ _. (tt, refl)))
     (λ f. absurd (false≢true (sym f ∙ l)))
 
-long-by : (g : Stage) (n : Counts) (page : List ℕ) → eqb (length page) 4096 ≡ true → Failing (verdictBy g n page) × (refusedBy 10 (verdictBy g n page) ≡ false)
+long-by : (g : Stage) (n : Counts) (page : List ℕ) → eqb (length page) pageSize ≡ true → Failing (verdictBy g n page) × (refusedBy 10 (verdictBy g n page) ≡ false)
 long-by Idle n page l = long-judged page 0 0 l
 long-by (JacksAsked call) n page l = long-judged page (n .jacks) 24 l
 long-by (StreamsAsked call) n page l = long-judged page (n .streams) 32 l
@@ -137,14 +138,14 @@ long-by (MapsAsked call) n page l = long-judged page (n .maps) 24 l
 long-by (Sent call) n page l = long-judged page 0 0 l
 
 pub long-verdict : (s : Sound) (f : Feed) → longOf f ≡ true → Failing (verdictOf s f) × (refusedBy 10 (verdictOf s f) ≡ false)
-long-verdict s (paged bytes n) l = long-by (s .core .stage) (s .core .counts) bytes (both (eqb (length bytes) 4096) (leb 24 n) l .0)
+long-verdict s (paged bytes n) l = long-by (s .core .stage) (s .core .counts) bytes (both (eqb (length bytes) pageSize) (leb messageSize n) l .0)
 long-verdict s (failed n) l = (inr refl, refl)
 
 pub fed : (s : Sound) (f : Feed) → Answered (s .core) (verdictOf s f) (pendingLook (s .core .stage) s) (longOf f) (planOf s f)
 unfolding feedOf failOf
-fed s (paged bytes n) = answered (s .core) (verdictBy (s .core .stage) (s .core .counts) bytes) (pendingLook (s .core .stage) s) (eqb (length bytes) 4096 && leb 24 n) (λ l. long-verdict s (paged bytes n) l .1)
-fed s (failed n) = answered (s .core) (verdict.Refused QueueFailed) (pendingLook (s .core .stage) s) (leb 24 n) (λ l. refl)
+fed s (paged bytes n) = answered (s .core) (verdictBy (s .core .stage) (s .core .counts) bytes) (pendingLook (s .core .stage) s) (eqb (length bytes) pageSize && leb messageSize n) (λ l. long-verdict s (paged bytes n) l .1)
+fed s (failed n) = answered (s .core) (verdict.Refused QueueFailed) (pendingLook (s .core .stage) s) (leb messageSize n) (λ l. refl)
 
 pub long-of : (f : Feed) → Long f → longOf f ≡ true
-long-of (paged bytes n) l = both-of (eqb (length bytes) 4096) (leb 24 n) (eq-eqb _ _ (l .0)) (le-leb _ _ (l .1))
+long-of (paged bytes n) l = both-of (eqb (length bytes) pageSize) (leb messageSize n) (eq-eqb _ _ (l .0)) (le-leb _ _ (l .1))
 long-of (failed n) l = le-leb _ _ l

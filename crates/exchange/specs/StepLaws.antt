@@ -8,6 +8,7 @@ use native.Mathlib.Omega.{arith}
 use lib.Dec.{leb, eqb}
 use lib.ListN.{length, take}
 use lib.Seq.{take-at}
+use Rattle.layout.specs.Lent.{messageSize}
 use Rattle.codes.specs.Says as answers
 use Rattle.codes.specs.Says.{says, guard}
 use Rattle.codes.specs.SaysLaws.{guard-ap}
@@ -53,30 +54,30 @@ module _ (s : Sound) (r : Ring) (stream len budget : ℕ) where
   startBy SetUp = setUpStep s r stream
   startBy (Open period) = startStep s r (startedOf r (startCall (r .track) stream len period budget))
 
-  pub started-by : (n : ℕ) (g : Gate) → g ≡ xferBy (leb 24 n) s (r .track) stream Shut SetUp Open → startBy g ≡ startOf s r stream len budget n
+  pub started-by : (n : ℕ) (g : Gate) → g ≡ xferBy (leb messageSize n) s (r .track) stream Shut SetUp Open → startBy g ≡ startOf s r stream len budget n
   unfolding startOf
-  started-by n g e = ap startBy e ∙ xfer-ap startBy (leb 24 n) s (r .track) stream Shut SetUp Open
+  started-by n g e = ap startBy e ∙ xfer-ap startBy (leb messageSize n) s (r .track) stream Shut SetUp Open
 
   abbrev pub runBy : List ℕ → Gate → XferStep
   runBy script (Shut x) = refusedStep s r x
   runBy script SetUp = setUpStep s r stream
   runBy script (Open period) = doneStep s (transferOf r stream len period budget script)
 
-  pub run-by : (script : List ℕ) (n : ℕ) (b : Bool) (g : Gate) → b ≡ (leb 24 n && eqb (length script % 12) 0) → g ≡ xferBy b s (r .track) stream Shut SetUp Open → runBy script g ≡ xferOf s r stream len budget script n
+  pub run-by : (script : List ℕ) (n : ℕ) (b : Bool) (g : Gate) → b ≡ (leb messageSize n && eqb (length script % 12) 0) → g ≡ xferBy b s (r .track) stream Shut SetUp Open → runBy script g ≡ xferOf s r stream len budget script n
   unfolding xferOf
-  run-by script n b g p e = ap (runBy script) (e ∙ ap (λ (t : Bool). xferBy t s (r .track) stream Shut SetUp Open) p) ∙ xfer-ap (runBy script) (leb 24 n && eqb (length script % 12) 0) s (r .track) stream Shut SetUp Open
+  run-by script n b g p e = ap (runBy script) (e ∙ ap (λ (t : Bool). xferBy t s (r .track) stream Shut SetUp Open) p) ∙ xfer-ap (runBy script) (leb messageSize n && eqb (length script % 12) 0) s (r .track) stream Shut SetUp Open
 
 -- what the checks say is what they come to
 pub start-says : (s : Sound) (r : Ring) (stream len budget n : ℕ) → saysXfer (startOf s r stream len budget n .reply) ≡ startSays s r stream len budget n
 unfolding startOf
 start-says s r stream len budget n =
-    xfer-ap (λ (x : XferStep). saysXfer (x .reply)) (leb 24 n) s (r .track) stream (refusedStep s r) (setUpStep s r stream)
+    xfer-ap (λ (x : XferStep). saysXfer (x .reply)) (leb messageSize n) s (r .track) stream (refusedStep s r) (setUpStep s r stream)
     (λ period. startStep s r (startedOf r (startCall (r .track) stream len period budget)))
 
 pub xfer-says : (s : Sound) (r : Ring) (stream len budget : ℕ) (script : List ℕ) (n : ℕ) → saysXfer (xferOf s r stream len budget script n .reply) ≡ xferSays s r stream len budget script n
 unfolding xferOf
 xfer-says s r stream len budget script n =
-    xfer-ap (λ (x : XferStep). saysXfer (x .reply)) (leb 24 n && eqb (length script % 12) 0) s (r .track) stream (refusedStep s r) (setUpStep s r stream)
+    xfer-ap (λ (x : XferStep). saysXfer (x .reply)) (leb messageSize n && eqb (length script % 12) 0) s (r .track) stream (refusedStep s r) (setUpStep s r stream)
     (λ period. doneStep s (transferOf r stream len period budget script))
 
 -- a step, what it says, and the message that goes with its reply

@@ -6,6 +6,7 @@ use mathlib.Core.List.{List, []}
 use Prim.Native.Nat.{ℕ, _%_, _+_}
 use lib.Dec.{leb, eqb}
 use lib.ListN.{length}
+use Rattle.layout.specs.Lent.{messageSize}
 use Rattle.codes.specs.Says as answers
 use Rattle.codes.specs.Answers.{saysRefusal}
 use Rattle.turns.specs.Calls.{startCall, startedOf}
@@ -42,13 +43,13 @@ doneStep s d = record { sound = s; ring = d .ring; reply = Says (d .said); turns
 -- THE START of a transfer of frames of some length, with a message buffer of n bytes: it goes on, is refused, or begins set-up
 unfoldable pub startOf : Sound → Ring → ℕ → ℕ → ℕ → ℕ → XferStep
 startOf s r stream len budget n =
-    xferBy (leb 24 n) s (r .track) stream (refusedStep s r) (setUpStep s r stream)
+    xferBy (leb messageSize n) s (r .track) stream (refusedStep s r) (setUpStep s r stream)
     (λ period. startStep s r (startedOf r (startCall (r .track) stream len period budget)))
 
 -- A TRANSFER over a script: the same checks, then turns until an answer. A script that is no whole number of readings gets 10
 unfoldable pub xferOf : Sound → Ring → ℕ → ℕ → ℕ → List ℕ → ℕ → XferStep
 xferOf s r stream len budget script n =
-    xferBy (leb 24 n && eqb (length script % 12) 0) s (r .track) stream (refusedStep s r) (setUpStep s r stream)
+    xferBy (leb messageSize n && eqb (length script % 12) 0) s (r .track) stream (refusedStep s r) (setUpStep s r stream)
     (λ period. doneStep s (transferOf r stream len period budget script))
 
 -- what the message buffer holds then: the query of set-up, or what it held
@@ -63,11 +64,11 @@ saysXfer (Says x) = saysSaid x
 
 -- document 01's number and values of the start, and of a transfer over a script: a refusal's, 256 + 16 for set-up's first query, or what the ring says
 abbrev pub startSays : Sound → Ring → ℕ → ℕ → ℕ → ℕ → answers.Says
-startSays s r stream len budget n = xferBy (leb 24 n) s (r .track) stream saysRefusal (answers.says (256 + 16) []) (λ period. saysSaid (startCall (r .track) stream len period budget .said))
+startSays s r stream len budget n = xferBy (leb messageSize n) s (r .track) stream saysRefusal (answers.says (256 + 16) []) (λ period. saysSaid (startCall (r .track) stream len period budget .said))
 
 abbrev pub xferSays : Sound → Ring → ℕ → ℕ → ℕ → List ℕ → ℕ → answers.Says
 xferSays s r stream len budget script n =
-    xferBy (leb 24 n && eqb (length script % 12) 0) s (r .track) stream saysRefusal (answers.says (256 + 16) [])
+    xferBy (leb messageSize n && eqb (length script % 12) 0) s (r .track) stream saysRefusal (answers.says (256 + 16) [])
     (λ period. saysSaid (transferOf r stream len period budget script .said))
 
 -- what a transfer returns, its number and values, and what it leaves in the message buffer: m before, n after

@@ -7,6 +7,7 @@ use Prim.Native.Nat.{ℕ, _≤_, _%_}
 use lib.Dec.{leb, ltb, eqb}
 use lib.ListN.{length}
 use borrow.Author.Tests.{le-leb, ltb-false, eqb-true, eq-eqb, ne-eqb}
+use Rattle.layout.specs.Lent.{messageSize}
 use Rattle.codes.specs.SaysLaws.{guarded-by, passes}
 use Rattle.turns.specs.Calls.{idleOf, startCall, startedOf}
 use Rattle.turns.specs.Script.{transferOf}
@@ -46,12 +47,12 @@ module _ (P : XferStep → Type 0) (s : Sound) (r : Ring) (stream len budget n :
     (b : consistentOf (s .core) ≡ true → s .core .stage ≡ Idle → s .core .ready ≡ false → P (setUpStep s r stream)) where
   pub start-by : P (startStep s r (startedOf r (startCall (r .track) stream len (paramsOf s stream .period) budget))) → P (startOf s r stream len budget n)
   unfolding startOf
-  start-by = xfer-by P (leb 24 n) s (r .track) stream (refusedStep s r) (setUpStep s r stream) (λ period. startStep s r (startedOf r (startCall (r .track) stream len period budget))) a b
+  start-by = xfer-by P (leb messageSize n) s (r .track) stream (refusedStep s r) (setUpStep s r stream) (λ period. startStep s r (startedOf r (startCall (r .track) stream len period budget))) a b
 
   pub script-by : (script : List ℕ) → P (doneStep s (transferOf r stream len (paramsOf s stream .period) budget script)) → P (xferOf s r stream len budget script n)
   unfolding xferOf
   script-by script =
-      xfer-by P (leb 24 n && eqb (length script % 12) 0) s (r .track) stream (refusedStep s r) (setUpStep s r stream) (λ period. doneStep s (transferOf r stream len period budget script)) a b
+      xfer-by P (leb messageSize n && eqb (length script % 12) 0) s (r .track) stream (refusedStep s r) (setUpStep s r stream) (λ period. doneStep s (transferOf r stream len period budget script)) a b
 
 -- ---- they keep the invariant
 
@@ -111,13 +112,13 @@ passed-all lengths s r stream refuse setUp go long o =
     let known : not (eqb (paramsOf s stream .known) 0) ≡ true = ap not (ne-eqb _ _ (o .set)) in
     passes _ _ _ long (passes _ _ _ ok (passes _ _ _ free (passes _ _ _ (set-ready s k stream (o .set)) (passes _ _ _ (set-range s k stream (o .set)) (passes _ _ _ known refl)))))
 
-module _ (s : Sound) (r : Ring) (stream len budget n : ℕ) (o : Playable s r stream) (long : 24 ≤ n) where
+module _ (s : Sound) (r : Ring) (stream len budget n : ℕ) (o : Playable s r stream) (long : messageSize ≤ n) where
   pub start-is : startStep s r (startedOf r (startCall (r .track) stream len (paramsOf s stream .period) budget)) ≡ startOf s r stream len budget n
   unfolding startOf
-  start-is = passed-all (leb 24 n) s r stream (refusedStep s r) (setUpStep s r stream) (λ period. startStep s r (startedOf r (startCall (r .track) stream len period budget))) (le-leb 24 n long) o
+  start-is = passed-all (leb messageSize n) s r stream (refusedStep s r) (setUpStep s r stream) (λ period. startStep s r (startedOf r (startCall (r .track) stream len period budget))) (le-leb messageSize n long) o
 
   pub xfer-is : (script : List ℕ) → length script % 12 ≡ 0 → doneStep s (transferOf r stream len (paramsOf s stream .period) budget script) ≡ xferOf s r stream len budget script n
   unfolding xferOf
   xfer-is script whole =
-      passed-all (leb 24 n && eqb (length script % 12) 0) s r stream (refusedStep s r) (setUpStep s r stream) (λ period. doneStep s (transferOf r stream len period budget script))
-      (both-of (leb 24 n) (eqb (length script % 12) 0) (le-leb 24 n long) (eq-eqb _ _ whole)) o
+      passed-all (leb messageSize n && eqb (length script % 12) 0) s r stream (refusedStep s r) (setUpStep s r stream) (λ period. doneStep s (transferOf r stream len period budget script))
+      (both-of (leb messageSize n) (eqb (length script % 12) 0) (le-leb messageSize n long) (eq-eqb _ _ whole)) o

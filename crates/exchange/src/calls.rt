@@ -3,6 +3,7 @@ ghost use mathlib.Core.Path.{_≡_};
 ghost use mathlib.Core.List.{[], _++_};
 ghost use Prim.Native.Nat.{_≤_};
 ghost use lib.ListN.{length, drop};
+ghost use Rattle.layout.specs.Lent.{messageSize};
 ghost use Rattle.codes.specs.declared.answers.Refusal.the-variants.{BadLength};
 ghost use Rattle.core.specs.State.{askedParams};
 ghost use Rattle.core.specs.Plan.{refuseOf};
@@ -47,7 +48,7 @@ pub struct Step {
 
 // What a plan comes to, with the page at hand.
 fn finish(p: Plan, s: Sound, page: &[u8], message: &mut [u8]) -> Step
-    requires { ⌜ 24 ≤ length (now message) ⌝ }
+    requires { ⌜ messageSize ≤ length (now message) ⌝ }
     ensures { λ r. ⌜ Stepped p s (now (page .entry)) (now (message .entry)) (now (message .exit)) r ⌝ }
 {
     let core = p.core;

@@ -2,6 +2,7 @@
 ghost use mathlib.Core.Path.{_≡_};
 ghost use Prim.Native.Nat.{_≤_};
 ghost use lib.ListN.{length};
+ghost use Rattle.layout.specs.Lent.{messageSize};
 ghost use Rattle.core.specs.Reply.{messageAfter};
 ghost use Rattle.core.specs.declared.gate.Gate.the-variants.{Shut, SetUp, Open};
 ghost use Rattle.exchange.specs.Xfer.{xferBy, setUpPlan, refusedStep, setUpStep, startStep, doneStep, startOf, xferOf, startSays, xferSays, Transfers};
@@ -58,7 +59,7 @@ fn refused(s: Sound, ring: Ring, refusal: Refusal) -> XferStep
 
 // The transfer waits for set-up, and its first query goes out.
 fn set_up(s: Sound, ring: Ring, stream: u32, message: &mut [u8]) -> XferStep
-    requires { ⌜ 24 ≤ length (now message) ⌝ }
+    requires { ⌜ messageSize ≤ length (now message) ⌝ }
     ensures { λ r. ⌜ (r ≡ setUpStep s ring stream) × (now (message .exit) ≡ messageAfter (setUpPlan s stream .say) (now (message .entry))) ⌝ }
 {
     let plan = ask_jacks(s.core, Call::Xfer { stream });

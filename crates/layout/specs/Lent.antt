@@ -11,13 +11,20 @@ pub record Made : Type 0 where
 abbrev pub made : ℕ → List ℕ → Made
 made a s = record { answer = a; store = s }
 
--- a call that tells something in the result slice, which has 512 bytes at the least
+-- a call that tells something in the result slice
 pub record Shown : Type 0 where
   pub answer : ℕ
   pub result : List ℕ
 
 abbrev pub shown : ℕ → List ℕ → Shown
 shown a r = record { answer = a; result = r }
+
+-- what is lent has this length: message and result at the least, an answer page exactly
+abbrev pub messageSize : ℕ
+messageSize = 24
+
+abbrev pub pageSize : ℕ
+pageSize = 4096
 
 abbrev pub resultSize : ℕ
 resultSize = 512

@@ -6,6 +6,7 @@ use mathlib.Core.List.{List, [], _∷_, _++_}
 use Prim.Native.Nat.{ℕ, _+_}
 use lib.Dec.{leb, ltb, eqb}
 use lib.ListN.{length, getD, take, drop, set}
+use Rattle.layout.specs.Lent.{pageSize}
 use Rattle.layout.specs.Bytes.{le, numAt}
 use Rattle.layout.specs.Layout.{size, read}
 use Rattle.layout.specs.Rows.{rowsBytes}
@@ -19,7 +20,7 @@ use Rattle.codes.specs.declared.answers.Refusal.the-variants.{InvalidParam, Bad
 use Rattle.model.specs.Types.{RequestCode, RJackInfo, RJackRemap, RPcmInfo, RPcmSetParams, RPcmPrepare, RPcmRelease, RPcmStart, RPcmStop, RChmapInfo, FoundRequest, Held, Device, Control, Answer, Refused, Answered, Range, Of, Bad}
 use Rattle.codes.specs.declared.requests.FoundRequest.the-variants as found
 use Rattle.records.specs.Records.{query, pcmCommand, setParameters, jackInfo, pcmInfo, channelMap, queryOf, setParametersOf, jackBytes, pcmBytes, mapBytes}
-use Rattle.model.specs.Device.{pageSize, withinOf}
+use Rattle.model.specs.Device.{withinOf}
 
 -- what a request or a transfer leaves and says, document 01's number and values of that, and what the lent slice holds
 abbrev pub saysControl : Control → Says

@@ -21,9 +21,6 @@ mostStreams = 127
 abbrev pub mostMaps : ℕ
 mostMaps = 170
 
-abbrev pub pageSize : ℕ
-pageSize = 4096
-
 abbrev pub fewOf : ℕ → ℕ → ℕ → Bool
 fewOf jacks streams maps = leb jacks mostJacks && (leb streams mostStreams && leb maps mostMaps)
 

@@ -11,6 +11,7 @@ use lib.Dec.{lit<, ltb}
 use lib.ListN.{length, getD, take, set, length-append}
 use lib.Seq.{ext-getD, getD-take, getD-set-same, getD-set-other, length-take-le, drop-at}
 use borrow.Author.Tests.{le-leb, lt-ltb, eq-eqb}
+use Rattle.layout.specs.Lent.{pageSize}
 use Rattle.layout.specs.Bytes.{le}
 use Rattle.layout.specs.Layout.{size, write, readAt, read, Fit}
 use Rattle.layout.specs.Rows.{rowsAt}
@@ -23,7 +24,7 @@ use Rattle.codes.specs.Requests.{requestCode}
 use Rattle.model.specs.Types.{RequestCode, RJackInfo, RPcmInfo, RPcmSetParams, RChmapInfo, SetParameters, Device, Answer}
 use Rattle.records.specs.Records.{query, pcmCommand, setParameters, setParametersValues, jackInfo, jackInfoValues, pcmInfo, pcmInfoValues, channelMap, channelMapValues, transfer, transferStatus, jackInfoOf, pcmInfoOf, channelMapOf}
 use Rattle.records.specs.SliceLaws.{read-long}
-use Rattle.model.specs.Device.{mostJacks, mostStreams, mostMaps, pageSize, withinOf, nothing, streamOk, heldSays, paramsSays, playedSays}
+use Rattle.model.specs.Device.{mostJacks, mostStreams, mostMaps, withinOf, nothing, streamOk, heldSays, paramsSays, playedSays}
 use Rattle.model.specs.Control.{given, laid, answering, ok, askedSays, rowsIn, table, keptBy, commandOf, answerBy, outcomeOf, controlOf}
 use Rattle.model.specs.Transfer.{streamOf, plays, payloadOf, playedBy, statusBy, deviceAfter, statusGiven, transferCall}
 use Rattle.model.specs.DeviceLaws.{and-passes, few-jacks, few-streams, few-maps}

@@ -9,11 +9,11 @@ use lib.Seq.{sets}
 use borrow.Author.Tests.{le-leb, lt-leb, eq-eqb, ne-eqb}
 use Rattle.layout.specs.Bytes.{le, Bytes}
 use Rattle.layout.specs.Rows.{rowsBytes}
-use Rattle.layout.specs.Lent.{resultSize}
+use Rattle.layout.specs.Lent.{resultSize, pageSize}
 use Rattle.codes.specs.SaysLaws.{passes, stops}
 use Rattle.codes.specs.declared.answers.Refusal.the-variants.{InvalidParam, BadLength}
 use Rattle.model_store.specs.Types.{Answer}
-use Rattle.model.specs.Device.{pageSize, withinOf}
+use Rattle.model.specs.Device.{withinOf}
 use Rattle.model.specs.DeviceLaws.{and-passes, and-stops}
 use Rattle.model.specs.Control.{Given, given, refusing, laid, answering, outcomeOf, controlOf}
 use Rattle.model_store.specs.Store.{deviceSize, countsAt, deviceOf, deviceBytes}

@@ -21,7 +21,7 @@ use Rattle.exchange.specs.Xfer.{xferBy, setUpPlan}
 use Rattle.core.specs.declared.plan.Value.the-variants as value
 use Rattle.core.specs.declared.reply.Reply.the-variants as reply
 use Rattle.state_store.specs.Places.{stateSize}
-use Rattle.layout.specs.Lent.{Made, made, Shown, shown, resultSize}
+use Rattle.layout.specs.Lent.{Made, made, Shown, shown, resultSize, messageSize}
 use Rattle.state_store.specs.Store.{soundOf, soundBytes, stateAfter}
 use Rattle.state_store.specs.Types.{Refusal, Track, Call, Counts, Value, Plan, Reply, StreamList, Opening, Says}
 use Rattle.state_store.specs.declared.calls.Opening.the-variants.{Open}
@@ -99,7 +99,7 @@ settingUp s stream m =
 
 unfoldable pub openIn : List ℕ → Track → ℕ → List ℕ → Opened
 openIn s t stream m =
-    xferBy (leb stateSize (length s) && leb 24 (length m)) (soundOf s) t stream (shut s m) (settingUp s stream m)
+    xferBy (leb stateSize (length s) && leb messageSize (length m)) (soundOf s) t stream (shut s m) (settingUp s stream m)
     (λ period. record { opening = Open period; state = s; message = m })
 
 -- ---- a new state, and the reads of the configured counts: 1 for a state that fails the consistency test

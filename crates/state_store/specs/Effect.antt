@@ -4,6 +4,8 @@ use mathlib.Core.List.{List}
 use Prim.Native.Nat.{ℕ, _+_, _*_}
 use lib.Dec.{ltb}
 use lib.Seq.{sets}
+use Rattle.records.specs.Records.{jackInfo, pcmInfo, channelMap}
+use Rattle.layout.specs.Layout.{size}
 use Rattle.layout.specs.Bytes.{bytesAt}
 use Rattle.codes.specs.Says.{pick}
 use Rattle.tables.specs.Tables.{fits}
@@ -17,7 +19,7 @@ copiedIn o size n page s = pick (fits page n size) (sets s o (bytesAt 4 (n * siz
 
 abbrev pub effectIn : Effect → List ℕ → List ℕ → List ℕ
 effectIn Nothing page s = s
-effectIn (FillJacks n) page s = copiedIn headSize 24 n page s
-effectIn (FillStreams n) page s = copiedIn pcmsPlace 32 n page s
-effectIn (FillMaps n) page s = copiedIn mapsPlace 24 n page s
+effectIn (FillJacks n) page s = copiedIn headSize (size jackInfo) n page s
+effectIn (FillStreams n) page s = copiedIn pcmsPlace (size pcmInfo) n page s
+effectIn (FillMaps n) page s = copiedIn mapsPlace (size channelMap) n page s
 effectIn (Store stream to) page s = pick (ltb stream 127) (sets s (paramsPlace + stream * 16) (paramsBytes to)) s

@@ -26,7 +26,7 @@ use Rattle.core.specs.declared.plan.Request.the-variants as request
 use Rattle.core.specs.declared.plan.Say.the-variants.{Refused}
 use Rattle.state_store.specs.Types.{BadLength, Track, Verdict, QueueFailed, Refused, Call, Core, Request, Say, Send, Done, Effect, Look, Plan}
 use Rattle.state_store.specs.Places.{stateSize}
-use Rattle.layout.specs.Lent.{resultSize}
+use Rattle.layout.specs.Lent.{resultSize, messageSize, pageSize}
 use Rattle.state_store.specs.Store.{headAt, coreOf, whole, soundOf, soundBytes}
 use Rattle.state_store.specs.Calls.{Told, left, told, tooShort, lengths, callIn, feedIn, failIn}
 use Rattle.state_store.specs.StoreLaws.{core-at}
@@ -55,7 +55,7 @@ reply-small (Done v) = omega arith
 reply-small (Refused r) = omega (arith, numbered r .small)
 
 -- what is told in a message that is long enough
-module _ (a : Say) (m : List ℕ) (l : 24 ≤ length m) where
+module _ (a : Say) (m : List ℕ) (l : messageSize ≤ length m) where
   pub tells : tellOf a (length m) ≡ replyOf a
   tells = tells-reply a (length m) l
 
@@ -67,8 +67,8 @@ module _ (a : Say) (m : List ℕ) (l : 24 ≤ length m) where
 pub long-state : (s r : List ℕ) → lengths s r ≡ true → stateSize ≤ length s
 long-state s r e = leb-true stateSize (length s) (both (leb stateSize (length s)) (leb resultSize (length r)) e .0)
 
-pub long-message : (page m : List ℕ) → (eqb (length page) 4096 && leb 24 (length m)) ≡ true → 24 ≤ length m
-long-message page m e = leb-true 24 (length m) (both (eqb (length page) 4096) (leb 24 (length m)) e .1)
+pub long-message : (page m : List ℕ) → (eqb (length page) pageSize && leb messageSize (length m)) ≡ true → messageSize ≤ length m
+long-message page m e = leb-true messageSize (length m) (both (eqb (length page) pageSize) (leb messageSize (length m)) e .1)
 
 -- ---- from the head to the plan
 
@@ -93,15 +93,15 @@ module _ (s m r : List ℕ) where
   short page b = ap (λ (t : List ℕ). left 10 t m r) (sym (state-kept s m r b (whole s) refl))
 
   module _ (l : lengths s r ≡ true) where
-    pub call-short : (t : Track) (call : Call) → Bytes s → leb 24 (length m) ≡ false → left 10 s m r ≡ callIn s t call m r
+    pub call-short : (t : Track) (call : Call) → Bytes s → leb messageSize (length m) ≡ false → left 10 s m r ≡ callIn s t call m r
     unfolding callIn callOf
     call-short t call b e = passes _ _ _ l (short [] b ∙ ap (λ (p : Plan). told s p [] m r) (stops _ _ _ e refl))
 
-    pub feed-short : (page : List ℕ) → Bytes s → (eqb (length page) 4096 && leb 24 (length m)) ≡ false → left 10 s m r ≡ feedIn s page m r
+    pub feed-short : (page : List ℕ) → Bytes s → (eqb (length page) pageSize && leb messageSize (length m)) ≡ false → left 10 s m r ≡ feedIn s page m r
     unfolding feedIn feedOf
     feed-short page b e = passes _ _ _ l (short page b ∙ ap (λ (p : Plan). told s p page m r) (stops _ _ _ e refl))
 
-    pub fail-short : Bytes s → leb 24 (length m) ≡ false → left 10 s m r ≡ failIn s m r
+    pub fail-short : Bytes s → leb messageSize (length m) ≡ false → left 10 s m r ≡ failIn s m r
     unfolding failIn failOf
     fail-short b e = passes _ _ _ l (short [] b ∙ ap (λ (p : Plan). told s p [] m r) (stops _ _ _ e refl))
 
@@ -112,11 +112,11 @@ module _ (s m r : List ℕ) where
       done : (page : List ℕ) {p q : Plan} → p ≡ q → finished w s p page m r ≡ told s q page m r
       done page e = λ i. finished (v i) s (e i) page m r
 
-      pub called : (t : Track) (call : Call) {k : Look} {p : Plan} → leb 24 (length m) ≡ true → k ≡ lookOf (soundOf s) call → p ≡ beginOf c t call k → finished w s p [] m r ≡ callIn s t call m r
+      pub called : (t : Track) (call : Call) {k : Look} {p : Plan} → leb messageSize (length m) ≡ true → k ≡ lookOf (soundOf s) call → p ≡ beginOf c t call k → finished w s p [] m r ≡ callIn s t call m r
       unfolding callIn callOf
       called t call e k p = passes _ _ _ l (done [] (passes _ _ _ e (p ∙ (λ i. beginOf (at-core i) t call (k i)))))
 
-      pub fed : (page : List ℕ) {x : Verdict} {k : Look} {p : Plan} → (eqb (length page) 4096 && leb 24 (length m)) ≡ true → x ≡ verdictBy (c .stage) (c .counts) page
+      pub fed : (page : List ℕ) {x : Verdict} {k : Look} {p : Plan} → (eqb (length page) pageSize && leb messageSize (length m)) ≡ true → x ≡ verdictBy (c .stage) (c .counts) page
           → k ≡ pendingLook (c .stage) (soundOf s) → p ≡ answerOf c x k → finished w s p page m r ≡ feedIn s page m r
       unfolding feedIn feedOf
       fed page e x k p =
@@ -124,7 +124,7 @@ module _ (s m r : List ℕ) where
           (done page (passes _ _ _ e (p ∙ (λ i. answerOf c (x i) (k i))
           ∙ ap (λ (z : Core). answerOf z (verdictBy (z .stage) (z .counts) page) (pendingLook (z .stage) (soundOf s))) at-core)))
 
-      pub failed : {k : Look} {p : Plan} → leb 24 (length m) ≡ true → k ≡ pendingLook (c .stage) (soundOf s) → p ≡ answerOf c (Refused QueueFailed) k → finished w s p [] m r ≡ failIn s m r
+      pub failed : {k : Look} {p : Plan} → leb messageSize (length m) ≡ true → k ≡ pendingLook (c .stage) (soundOf s) → p ≡ answerOf c (Refused QueueFailed) k → finished w s p [] m r ≡ failIn s m r
       unfolding failIn failOf
       failed e k p =
           passes _ _ _ l

@@ -7,6 +7,7 @@ use native.Mathlib.Nat.{zero-add}
 use native.Mathlib.Omega.{arith}
 use lib.ListN.{length}
 use lib.Seq.{sets}
+use Rattle.state_store.specs.Places.{flatPlace, reservedPlace}
 use Rattle.layout.specs.Bytes.{le}
 use Rattle.layout.specs.Layout.{write}
 use Rattle.layout.specs.LayoutLaws.{length-write}
@@ -24,14 +25,14 @@ write-more (w ∷ ws) [] us ts e = absurd (omega arith)
 write-more (w ∷ ws) (v ∷ vs) us ts e = append-assoc (le w v) (write ws vs) (write us ts) ∙ ap (λ (l : List ℕ). le w v ++ l) (write-more ws vs us ts (omega arith))
 
 pub core-runs : (s : List ℕ) (c : Core) {f : Flat} {l m n : List ℕ} → f ≡ flatOf (c .ready) (c .stage) → l ≡ sets s 0 (write countsRow (countsValues (c .counts) (c .read)))
-    → m ≡ sets l 24 (write flatRow (flatValues f)) → n ≡ sets m 48 (write reservedRow (0 ∷ 0 ∷ [])) → n ≡ sets s 0 (write headRow (headValues (headOf c)))
+    → m ≡ sets l flatPlace (write flatRow (flatValues f)) → n ≡ sets m reservedPlace (write reservedRow (0 ∷ 0 ∷ [])) → n ≡ sets s 0 (write headRow (headValues (headOf c)))
 core-runs s c {f} e p q r =
     let vs = countsValues (c .counts) (c .read) in
     let us = flatValues (flatOf (c .ready) (c .stage)) in
     let zs : List ℕ = 0 ∷ 0 ∷ [] in
     r
-    ∙ (λ i. sets ((q ∙ (λ j. sets (p j) 24 (write flatRow (flatValues (e j))))) i) 48 (write reservedRow zs))
-    ∙ sets-then (sets s 0 (write countsRow vs)) 24 48 (write flatRow us) (write reservedRow zs) (sym (ap (λ (k : ℕ). 24 + k) (length-write flatRow us)))
-    ∙ sets-then s 0 24 (write countsRow vs) (write flatRow us ++ write reservedRow zs) (sym (zero-add (length (write countsRow vs)) ∙ length-write countsRow vs))
+    ∙ (λ i. sets ((q ∙ (λ j. sets (p j) flatPlace (write flatRow (flatValues (e j))))) i) reservedPlace (write reservedRow zs))
+    ∙ sets-then (sets s 0 (write countsRow vs)) flatPlace reservedPlace (write flatRow us) (write reservedRow zs) (sym (ap (λ (k : ℕ). flatPlace + k) (length-write flatRow us)))
+    ∙ sets-then s 0 flatPlace (write countsRow vs) (write flatRow us ++ write reservedRow zs) (sym (zero-add (length (write countsRow vs)) ∙ length-write countsRow vs))
     ∙ ap (λ (l : List ℕ). sets s 0 (write countsRow vs ++ l)) (write-more flatRow us reservedRow zs refl)
     ∙ ap (sets s 0) (write-more countsRow vs (flatRow ++ reservedRow) (us ++ zs) refl)

@@ -40,7 +40,7 @@ use Rattle.exchange.specs.StepLaws.{startBy, started-by}
 use Rattle.state_store.specs.Types.{Refusal, JackInfo, PcmInfo, ChannelMap, Verdict, Track, Ring, Params, Call, SetParams, Command, Remap, Streams, Supported, Xfer, Sent, Core, Sound, Effect, Nothing, FillJacks, FillStreams, FillMaps, Store, Look, Plan, Gate, Shut, SetUp, Open, XferStep}
 use Rattle.state_store.specs.Places.{headSize, pcmsPlace, mapsPlace, paramsPlace, stateSize}
 use Rattle.state_store.specs.Store.{whole, paramsRow, paramsAt, soundOf, soundBytes, stateAfter, headRow, headValues, headOf, paramsBytes}
-use Rattle.layout.specs.Lent.{Made}
+use Rattle.layout.specs.Lent.{Made, messageSize}
 use Rattle.state_store.specs.Calls.{Told, told, tooShort, lengths, callIn, feedIn, failIn, Opened, openIn, newIn}
 use Rattle.state_store.specs.StoreLaws.{paramsValues, Fits, store-back}
 use Rattle.state_store.specs.OpenLaws.{gateIn, openBy, opens, opened-by}
@@ -265,7 +265,7 @@ module _ (s m : List ℕ) (b : Bytes s) (h : stateSize ≤ length s) (r : Ring) 
   pub open-holds : (len budget : ℕ) → soundOf (openIn s (r .track) stream m .state) ≡ startOf (soundOf s) r stream len budget (length m) .sound
   open-holds len budget =
       let g = gateIn s m t stream in
-      let e : g ≡ xferBy (leb 24 (length m)) x t stream Shut SetUp Open = ap (λ (a : Bool). xferBy (a && leb 24 (length m)) x t stream Shut SetUp Open) (le-leb stateSize (length s) h) in
+      let e : g ≡ xferBy (leb messageSize (length m)) x t stream Shut SetUp Open = ap (λ (a : Bool). xferBy (a && leb messageSize (length m)) x t stream Shut SetUp Open) (le-leb stateSize (length s) h) in
       ap (λ (o : Opened). soundOf (o .state)) (sym (opens s m t stream g refl))
       ∙ by len budget g refl
       ∙ ap (λ (y : XferStep). y .sound) (started-by x r stream len budget (length m) g e)

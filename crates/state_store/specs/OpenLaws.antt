@@ -8,6 +8,7 @@ use native.Mathlib.Omega.{arith}
 use lib.Dec.{leb}
 use lib.ListN.{length}
 use borrow.Author.Tests.{leb-true}
+use Rattle.layout.specs.Lent.{messageSize}
 use Rattle.codes.specs.SaysLaws.{stops}
 use Rattle.turns.specs.ConsistentLaws.{both}
 use Rattle.exchange.specs.State.{paramsOf}
@@ -24,7 +25,7 @@ use Rattle.state_store.specs.declared.calls.Opening.the-variants.{Open}
 
 module _ (s m : List ℕ) (t : Track) (stream : ℕ) where
   abbrev long : Bool
-  long = leb stateSize (length s) && leb 24 (length m)
+  long = leb stateSize (length s) && leb messageSize (length m)
 
   abbrev pub gateIn : Gate
   gateIn = xferBy long (soundOf s) t stream Shut SetUp gate.Open
@@ -37,13 +38,13 @@ module _ (s m : List ℕ) (t : Track) (stream : ℕ) where
   shut-short e = stops _ _ _ e refl
 
   pub long-head : long ≡ true → headSize ≤ length s
-  long-head e = omega (arith, leb-true stateSize (length s) (both (leb stateSize (length s)) (leb 24 (length m)) e .0))
+  long-head e = omega (arith, leb-true stateSize (length s) (both (leb stateSize (length s)) (leb messageSize (length m)) e .0))
 
   -- set-up is begun only where the lengths are right
-  pub set-up-long : SetUp ≡ gateIn → (stateSize ≤ length s) × (24 ≤ length m)
+  pub set-up-long : SetUp ≡ gateIn → (stateSize ≤ length s) × (messageSize ≤ length m)
   set-up-long e =
-      let h = both (leb stateSize (length s)) (leb 24 (length m)) (step.set-up-long long (soundOf s) t stream e) in
-      (leb-true stateSize (length s) (h .0), leb-true 24 (length m) (h .1))
+      let h = both (leb stateSize (length s)) (leb messageSize (length m)) (step.set-up-long long (soundOf s) t stream e) in
+      (leb-true stateSize (length s) (h .0), leb-true messageSize (length m) (h .1))
 
   abbrev pub openBy : Gate → Opened
   openBy (Shut x) = shut s m x

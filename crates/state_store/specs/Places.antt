@@ -2,7 +2,14 @@
 -- Assumes nothing.
 use Prim.Native.Nat.{ℕ}
 
--- the core and 16 bytes that are reserved; the jacks follow
+-- in the head: the counts, then what is kept of the stage, then 16 bytes that are reserved
+abbrev pub flatPlace : ℕ
+flatPlace = 24
+
+abbrev pub reservedPlace : ℕ
+reservedPlace = 48
+
+-- the jacks follow
 abbrev pub headSize : ℕ
 headSize = 64
 

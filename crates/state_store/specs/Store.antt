@@ -7,10 +7,10 @@ use lib.Dec.{eqb}
 use lib.ListN.{getD}
 use lib.Seq.{sets}
 use Rattle.layout.specs.Bytes.{numAt}
-use Rattle.layout.specs.Layout.{write, readAt}
+use Rattle.layout.specs.Layout.{write, readAt, size}
 use Rattle.layout.specs.Rows.{rowsAt, rowsBytes}
 use Rattle.codes.specs.Says.{pick}
-use Rattle.records.specs.Records.{jackBytes, pcmBytes, mapBytes}
+use Rattle.records.specs.Records.{jackBytes, pcmBytes, mapBytes, jackInfo, pcmInfo, channelMap}
 use Rattle.tables.specs.Tables.{jackAt, pcmAt, mapAt}
 use Rattle.state_store.specs.Places.{headSize, pcmsPlace, mapsPlace, paramsPlace}
 use Rattle.state_store.specs.Flat.{flatRow, flatValues, flatOf, flatStage, flatReady, wholeFlat}
@@ -100,9 +100,9 @@ unfoldable pub soundOf : List ℕ → Sound
 soundOf s =
     record {
       core = coreOf (headAt s);
-      jacks = rowsAt jackAt 24 headSize 170 s;
-      pcms = rowsAt pcmAt 32 pcmsPlace 127 s;
-      maps = rowsAt mapAt 24 mapsPlace 170 s;
+      jacks = rowsAt jackAt (size jackInfo) headSize 170 s;
+      pcms = rowsAt pcmAt (size pcmInfo) pcmsPlace 127 s;
+      maps = rowsAt mapAt (size channelMap) mapsPlace 170 s;
       params = rowsAt paramsAt 16 paramsPlace 127 s;
     }
 

@@ -4,6 +4,7 @@ ghost use mathlib.Core.Path.{_≡_};
 ghost use mathlib.Core.List.{[]};
 ghost use Prim.Native.Nat.{_≤_};
 ghost use lib.ListN.{length};
+ghost use Rattle.layout.specs.Lent.{messageSize};
 ghost use Rattle.core.specs.Reply.{saysReply};
 ghost use Rattle.core.specs.declared.plan.Effect.the-variants.{Nothing};
 ghost use Rattle.state_store.specs.Calls.{left, callIn, feedIn, failIn, opened, openIn};
@@ -100,7 +101,7 @@ fn finish(
     message: &mut [u8],
     result: &mut [u8],
 ) -> u64
-    requires { ⌜ (stateSize ≤ length (now state)) × (24 ≤ length (now message)) ⌝ }
+    requires { ⌜ (stateSize ≤ length (now state)) × (messageSize ≤ length (now message)) ⌝ }
     ensures { λ r. ⌜ left r (now (state .exit)) (now (message .exit)) (now (result .exit)) ≡ finished whole (now (state .entry)) plan (now (page .entry)) (now (message .entry)) (now (result .entry)) ⌝ }
 {
     let core = plan.core;
@@ -171,7 +172,7 @@ pub fn feed_failure(state: &mut [u8], message: &mut [u8], result: &mut [u8]) -> 
 
 // The transfer waits for set-up, and its first query goes out.
 fn set_up(state: &mut [u8], whole: bool, c: Core, stream: u32, message: &mut [u8]) -> Opening
-    requires { ⌜ (stateSize ≤ length (now state)) × (24 ≤ length (now message)) ⌝ }
+    requires { ⌜ (stateSize ≤ length (now state)) × (messageSize ≤ length (now message)) ⌝ }
     ensures { λ r. ⌜ opened r (now (state .exit)) (now (message .exit)) ≡ settingUpBy whole c (now (state .entry)) stream (now (message .entry)) ⌝ }
 {
     let plan = ask_jacks(c, Call::Xfer { stream });

@@ -9,6 +9,7 @@ ghost use Rattle.codes.specs.Says.{pick};
 ghost use Rattle.state_store.specs.Store.{paramsBytes};
 ghost use Rattle.state_store.specs.Effect.{copiedIn, effectIn};
 ghost use Rattle.state_store.specs.Places.{paramsPlace, stateSize};
+use crate::fields;
 use crate::place::JACKS;
 use crate::place::MAPS;
 use crate::place::PARAMS;
@@ -54,12 +55,12 @@ fn put_params(s: &mut [u8], stream: u32, to: Params)
     }
     let at = PARAMS + i * ROW;
     layout::put_u8(&mut *s, at, to.known);
-    layout::put_u8(&mut *s, at + 1, to.channels);
-    layout::put_u8(&mut *s, at + 2, to.format);
-    layout::put_u8(&mut *s, at + 3, to.rate);
-    layout::put_u32(&mut *s, at + 4, to.buffer);
-    layout::put_u32(&mut *s, at + 8, to.period);
-    layout::put_u32(&mut *s, at + 12, to.features);
+    layout::put_u8(&mut *s, at + fields::SET_CHANNELS, to.channels);
+    layout::put_u8(&mut *s, at + fields::SET_FORMAT, to.format);
+    layout::put_u8(&mut *s, at + fields::SET_RATE, to.rate);
+    layout::put_u32(&mut *s, at + fields::SET_BUFFER, to.buffer);
+    layout::put_u32(&mut *s, at + fields::SET_PERIOD, to.period);
+    layout::put_u32(&mut *s, at + fields::SET_FEATURES, to.features);
 }
 
 pub(crate) fn apply(s: &mut [u8], effect: Effect, page: &[u8])

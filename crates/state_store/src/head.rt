@@ -9,7 +9,8 @@ ghost use Rattle.layout.specs.Bytes.{le, numAt};
 ghost use Rattle.layout.specs.Layout.{write};
 ghost use Rattle.state_store.specs.Store.{headRow, headValues, headAt, headOf, coreOf, wholeHead, reservedRow};
 ghost use Rattle.state_store.specs.Steps.{countsRow, countsValues};
-ghost use Rattle.state_store.specs.Places.{headSize};
+ghost use Rattle.state_store.specs.Places.{flatPlace, reservedPlace, headSize};
+use crate::fields;
 use crate::flat::Flat;
 use crate::flat::Head;
 use crate::flat::flat_of;
@@ -92,31 +93,31 @@ pub(crate) fn get_head(s: &[u8]) -> Head
 {
     Head {
         counts: Counts {
-            jacks: half(s, 0),
-            streams: half(s, 4),
-            maps: half(s, 8),
+            jacks: half(s, fields::JACKS_COUNT),
+            streams: half(s, fields::STREAMS_COUNT),
+            maps: half(s, fields::MAPS_COUNT),
         },
         read: Counts {
-            jacks: half(s, 12),
-            streams: half(s, 16),
-            maps: half(s, 20),
+            jacks: half(s, fields::JACKS_READ),
+            streams: half(s, fields::STREAMS_READ),
+            maps: half(s, fields::MAPS_READ),
         },
         flat: Flat {
-            ready: byte(s, 24),
-            stage: byte(s, 25),
-            call: byte(s, 26),
-            part: byte(s, 27),
-            id: half(s, 28),
-            first: half(s, 32),
-            second: half(s, 36),
-            third: half(s, 40),
-            known: byte(s, 44),
-            channels: byte(s, 45),
-            format: byte(s, 46),
-            rate: byte(s, 47),
+            ready: byte(s, fields::READY),
+            stage: byte(s, fields::STAGE),
+            call: byte(s, fields::CALL),
+            part: byte(s, fields::PART),
+            id: half(s, fields::ID),
+            first: half(s, fields::FIRST),
+            second: half(s, fields::SECOND),
+            third: half(s, fields::THIRD),
+            known: byte(s, fields::KNOWN),
+            channels: byte(s, fields::CHANNELS),
+            format: byte(s, fields::FORMAT),
+            rate: byte(s, fields::RATE),
         },
-        reserved: word(s, 48),
-        spare: word(s, 56),
+        reserved: word(s, fields::RESERVED),
+        spare: word(s, fields::SPARE),
     }
 }
 
@@ -166,39 +167,39 @@ fn put_counts(s: &mut [u8], counts: Counts, read: Counts)
     requires { ⌜ headSize ≤ length (now s) ⌝ }
     ensures { λ _. ⌜ now (s .exit) ≡ sets (now (s .entry)) 0 (write countsRow (countsValues counts read)) ⌝ }
 {
-    put_half(s, 0, counts.jacks);
-    put_half(s, 4, counts.streams);
-    put_half(s, 8, counts.maps);
-    put_half(s, 12, read.jacks);
-    put_half(s, 16, read.streams);
-    put_half(s, 20, read.maps);
+    put_half(s, fields::JACKS_COUNT, counts.jacks);
+    put_half(s, fields::STREAMS_COUNT, counts.streams);
+    put_half(s, fields::MAPS_COUNT, counts.maps);
+    put_half(s, fields::JACKS_READ, read.jacks);
+    put_half(s, fields::STREAMS_READ, read.streams);
+    put_half(s, fields::MAPS_READ, read.maps);
 }
 
 fn put_flat(s: &mut [u8], f: Flat)
     requires { ⌜ headSize ≤ length (now s) ⌝ }
-    ensures { λ _. ⌜ now (s .exit) ≡ sets (now (s .entry)) 24 (write flatRow (flatValues f)) ⌝ }
+    ensures { λ _. ⌜ now (s .exit) ≡ sets (now (s .entry)) flatPlace (write flatRow (flatValues f)) ⌝ }
 {
-    put_byte(s, 24, f.ready);
-    put_byte(s, 25, f.stage);
-    put_byte(s, 26, f.call);
-    put_byte(s, 27, f.part);
-    put_half(s, 28, f.id);
-    put_half(s, 32, f.first);
-    put_half(s, 36, f.second);
-    put_half(s, 40, f.third);
-    put_byte(s, 44, f.known);
-    put_byte(s, 45, f.channels);
-    put_byte(s, 46, f.format);
-    put_byte(s, 47, f.rate);
+    put_byte(s, fields::READY, f.ready);
+    put_byte(s, fields::STAGE, f.stage);
+    put_byte(s, fields::CALL, f.call);
+    put_byte(s, fields::PART, f.part);
+    put_half(s, fields::ID, f.id);
+    put_half(s, fields::FIRST, f.first);
+    put_half(s, fields::SECOND, f.second);
+    put_half(s, fields::THIRD, f.third);
+    put_byte(s, fields::KNOWN, f.known);
+    put_byte(s, fields::CHANNELS, f.channels);
+    put_byte(s, fields::FORMAT, f.format);
+    put_byte(s, fields::RATE, f.rate);
 }
 
 // What is reserved is 0.
 fn put_reserved(s: &mut [u8])
     requires { ⌜ headSize ≤ length (now s) ⌝ }
-    ensures { λ _. ⌜ now (s .exit) ≡ sets (now (s .entry)) 48 (write reservedRow (0 ∷ 0 ∷ [])) ⌝ }
+    ensures { λ _. ⌜ now (s .exit) ≡ sets (now (s .entry)) reservedPlace (write reservedRow (0 ∷ 0 ∷ [])) ⌝ }
 {
-    put_word(s, 48, 0);
-    put_word(s, 56, 0);
+    put_word(s, fields::RESERVED, 0);
+    put_word(s, fields::SPARE, 0);
 }
 
 // The core over the one that stands there; no table is touched.

@@ -2,6 +2,7 @@
 mod calls;
 mod config;
 mod effect;
+mod fields;
 mod flat;
 mod head;
 mod place;

@@ -3,12 +3,14 @@
 ghost use mathlib.Core.Path.{_≡_};
 ghost use Prim.Native.Nat.{_+_, _≤_};
 ghost use mathlib.Core.List.{[]};
-ghost use Rattle.records.specs.Records.{pcmInfoOf};
+ghost use Rattle.layout.specs.Layout.{size};
+ghost use Rattle.records.specs.Records.{pcmInfoOf, pcmInfo};
 ghost use Rattle.tables.specs.Tables.{pcmAt};
 ghost use Rattle.exchange.specs.State.{jackOf, pcmOf, paramsOf};
 ghost use Rattle.exchange.specs.Tables.{fieldOf, lookOf, pendingLook};
 ghost use Rattle.state_store.specs.Store.{soundOf};
 ghost use Rattle.state_store.specs.Places.{stateSize};
+use crate::fields;
 use core::Call;
 use core::Field;
 use core::Look;
@@ -39,22 +41,22 @@ fn jack_features(s: &[u8], jack: u32) -> u32
     if 170 <= i {
         return 0;
     }
-    layout::get_u32(s, JACKS + i * JackInfo::SIZE + 4)
+    layout::get_u32(s, JACKS + i * JackInfo::SIZE + fields::JACK_FEATURES)
 }
 
 // The field of the stream's record at a place.
 fn field_at(s: &[u8], at: usize, field: Field) -> Value
-    requires { ⌜ at + 32 ≤ stateSize ⌝ }
+    requires { ⌜ at + size pcmInfo ≤ stateSize ⌝ }
     ensures { λ r. ⌜ r ≡ fieldOf field (pcmAt at (now (s .entry))) ⌝ }
 {
     match field {
-        Field::Rates => Value::Number(layout::get_u64(s, at + 16)),
-        Field::Formats => Value::Number(layout::get_u64(s, at + 8)),
+        Field::Rates => Value::Number(layout::get_u64(s, at + fields::STREAM_RATES)),
+        Field::Formats => Value::Number(layout::get_u64(s, at + fields::STREAM_FORMATS)),
         Field::Channels => Value::Range {
-            min: layout::get_u8(s, at + 25),
-            max: layout::get_u8(s, at + 26),
+            min: layout::get_u8(s, at + fields::STREAM_MIN),
+            max: layout::get_u8(s, at + fields::STREAM_MAX),
         },
-        Field::Features => Value::Number(layout::get_u32(s, at + 4) as u64),
+        Field::Features => Value::Number(layout::get_u32(s, at + fields::STREAM_FEATURES) as u64),
     }
 }
 
@@ -132,11 +134,11 @@ pub(crate) fn params_at(s: &[u8], stream: u32) -> Params
     let at = PARAMS + i * ROW;
     Params {
         known: layout::get_u8(s, at),
-        buffer: layout::get_u32(s, at + 4),
-        period: layout::get_u32(s, at + 8),
-        features: layout::get_u32(s, at + 12),
-        channels: layout::get_u8(s, at + 1),
-        format: layout::get_u8(s, at + 2),
-        rate: layout::get_u8(s, at + 3),
+        buffer: layout::get_u32(s, at + fields::SET_BUFFER),
+        period: layout::get_u32(s, at + fields::SET_PERIOD),
+        features: layout::get_u32(s, at + fields::SET_FEATURES),
+        channels: layout::get_u8(s, at + fields::SET_CHANNELS),
+        format: layout::get_u8(s, at + fields::SET_FORMAT),
+        rate: layout::get_u8(s, at + fields::SET_RATE),
     }
 }

@@ -10,6 +10,7 @@ ghost use Rattle.core.specs.declared.plan.Value.the-variants as value;
 ghost use Rattle.state_store.specs.Store.{soundOf};
 ghost use Rattle.state_store.specs.Calls.{valueBytes, resultBytes};
 ghost use Rattle.state_store.specs.Steps.{idsIn, Listed};
+use crate::fields;
 use crate::place::PCMS;
 use core::Say;
 use core::Value;
@@ -36,7 +37,7 @@ fn put_ids(s: &[u8], direction: u8, n: usize, result: &mut [u8]) -> usize
     let mut count: usize = 0;
     let mut i: usize = 0;
     while i < n {
-        let found = layout::get_u8(s, PCMS + i * PcmInfo::SIZE + 24);
+        let found = layout::get_u8(s, PCMS + i * PcmInfo::SIZE + fields::STREAM_DIRECTION);
         count = put_id(&mut *result, count, found == direction, i as u32);
         i += 1;
     }

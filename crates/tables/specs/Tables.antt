@@ -5,8 +5,9 @@ use mathlib.Core.List.{List, [], _++_}
 use Prim.Native.Nat.{ℕ, _+_, _*_}
 use lib.Dec.{leb, eqb}
 use lib.ListN.{length, drop, replicate}
+use Rattle.layout.specs.Lent.{pageSize}
 use Rattle.layout.specs.Bytes.{numAt}
-use Rattle.layout.specs.Layout.{readAt}
+use Rattle.layout.specs.Layout.{size, readAt}
 use Rattle.layout.specs.Rows.{rowsAt}
 use Rattle.codes.specs.Says.{Says, says, pick, guard}
 use Rattle.codes.specs.Answers.{saysRefusal}
@@ -20,12 +21,12 @@ use Rattle.tables.specs.declared.verdict.Verdict.the-variants.{Good, Sta
 
 -- ---- the verdict: "The header is judged before the count."
 
--- a page of n records of a size: 10 for its length, then its header, then 5 where the records do not fit
+-- a page of n records of so many bytes: 10 for its length, then its header, then 5 where the records do not fit
 unfoldable pub judged : List ℕ → ℕ → ℕ → Verdict
-judged page n size =
-    guard (eqb (length page) 4096) (Refused BadLength)
+judged page n bytes =
+    guard (eqb (length page) pageSize) (Refused BadLength)
     (guard (eqb (numAt 0 4 page) 0x8000) (Status (numAt 0 4 page))
-    (guard (leb (4 + n * size) 4096) (Refused TooMany)
+    (guard (leb (4 + n * bytes) pageSize) (Refused TooMany)
     Good))
 
 abbrev pub isGood : Verdict → Bool
@@ -45,7 +46,7 @@ saysVerdict Good = says 0 []
 saysVerdict (Status word) = says 2 []
 saysVerdict (Refused r) = saysRefusal r
 
--- ---- the records, at 4 + i × size, over what the table held; past its count a table is as it was, and is not looked at
+-- ---- the records, at 4 + i × their bytes, over what the table held; past its count a table is as it was, and is not looked at
 
 -- the record at a place of a page, by the layout of `records`
 unfoldable pub jackAt : ℕ → List ℕ → JackInfo
@@ -59,21 +60,21 @@ mapAt o s = channelMapOf (readAt o channelMap s)
 
 -- n records of a page over the first n of a table
 abbrev pub filled : {A : Type 0} → (ℕ → List ℕ → A) → ℕ → List ℕ → ℕ → List A → List A
-filled f size page n old = rowsAt f size 4 n page ++ drop n old
+filled f bytes page n old = rowsAt f bytes 4 n page ++ drop n old
 
--- a page that holds n records of a size
+-- a page that holds n records of so many bytes
 abbrev pub fits : List ℕ → ℕ → ℕ → Bool
-fits page n size = eqb (length page) 4096 && leb (4 + n * size) 4096
+fits page n bytes = eqb (length page) pageSize && leb (4 + n * bytes) pageSize
 
 -- n records of a page over a table; where the page does not hold them the table is as it was
 unfoldable pub jacksRead : List ℕ → ℕ → List JackInfo → List JackInfo
-jacksRead page n old = pick (fits page n 24) (filled jackAt 24 page n old) old
+jacksRead page n old = pick (fits page n (size jackInfo)) (filled jackAt (size jackInfo) page n old) old
 
 unfoldable pub streamsRead : List ℕ → ℕ → List PcmInfo → List PcmInfo
-streamsRead page n old = pick (fits page n 32) (filled pcmAt 32 page n old) old
+streamsRead page n old = pick (fits page n (size pcmInfo)) (filled pcmAt (size pcmInfo) page n old) old
 
 unfoldable pub mapsRead : List ℕ → ℕ → List ChannelMap → List ChannelMap
-mapsRead page n old = pick (fits page n 24) (filled mapAt 24 page n old) old
+mapsRead page n old = pick (fits page n (size channelMap)) (filled mapAt (size channelMap) page n old) old
 
 -- empty tables
 abbrev pub noJacks : List JackInfo

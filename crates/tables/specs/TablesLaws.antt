@@ -9,6 +9,7 @@ use lib.Dec.{leb, eqb}
 use lib.ListN.{length, set, take, drop, length-append, length-drop, take-append-drop}
 use lib.Seq.{take-at, drop-append-add, drop-set-lt, drop-drop}
 use borrow.Author.Tests.{eq-eqb, eqb-true, le-leb, leb-true}
+use Rattle.layout.specs.Lent.{pageSize}
 use Rattle.layout.specs.Bytes.{numAt}
 use Rattle.layout.specs.Layout.{size, readAt}
 use Rattle.layout.specs.Rows.{rowsAt}
@@ -22,9 +23,9 @@ use Rattle.tables.specs.declared.verdict.Verdict.the-variants.{Good, Sta
 
 -- a good verdict: the page is whole, its header ok, and it holds the records
 pub record Whole (page : List ℕ) (n size : ℕ) : Type 0 where
-  pub long : length page ≡ 4096
+  pub long : length page ≡ pageSize
   pub ok : numAt 0 4 page ≡ 0x8000
-  pub fits : 4 + n * size ≤ 4096
+  pub fits : 4 + n * size ≤ pageSize
 
 good-by : (l h f : Bool) (w : ℕ) → isGood (guard l (Refused BadLength) (guard h (Status w) (guard f (Refused TooMany) Good))) ≡ true → (l ≡ true) × (h ≡ true) × (f ≡ true)
 unfolding guard
@@ -36,7 +37,7 @@ good-by false h f w e = absurd (false≢true e)
 pub good-whole : (page : List ℕ) (n size : ℕ) → isGood (judged page n size) ≡ true → Whole page n size
 unfolding judged
 good-whole page n size e =
-    let b = good-by (eqb (length page) 4096) (eqb (numAt 0 4 page) 0x8000) (leb (4 + n * size) 4096) (numAt 0 4 page) e in
+    let b = good-by (eqb (length page) pageSize) (eqb (numAt 0 4 page) 0x8000) (leb (4 + n * size) pageSize) (numAt 0 4 page) e in
     record { long = eqb-true _ _ (b .0); ok = eqb-true _ _ (b .1); fits = leb-true _ _ (b .2) }
 
 -- a page that is good holds its records
@@ -47,7 +48,7 @@ fits-by : (a b : Bool) → (a && b) ≡ true → (a ≡ true) × (b ≡ true)
 fits-by true b e = (refl, e)
 fits-by false b e = absurd (false≢true e)
 
-pub fits-facts : (page : List ℕ) (n size : ℕ) → fits page n size ≡ true → (length page ≡ 4096) × (4 + n * size ≤ 4096)
+pub fits-facts : (page : List ℕ) (n size : ℕ) → fits page n size ≡ true → (length page ≡ pageSize) × (4 + n * size ≤ pageSize)
 fits-facts page n size e = let b = fits-by _ _ e in (eqb-true _ _ (b .0), leb-true _ _ (b .1))
 
 -- record i of a page that holds it: what the reader of `&page[a..]` says
@@ -84,3 +85,9 @@ module _ {A : Type 0} (f : ℕ → List ℕ → A) (size : ℕ) (page : List ℕ
       let n : i < length a = rw (length-filled i (omega arith)) h in
       sym (take-append-drop (i + 1) (set a i v))
       ∙ (λ k. rows-more f size 4 i page a v n (take-filled i) e k ++ (drop-set-lt (i + 1) a i v (omega arith) ∙ drop-filled i) k)
+
+-- record i of a page over a table that has the i before it, by what the reader of `&page[4 + i * size..]` says
+pub fill-row : {A : Type 0} (ws : List ℕ) (of : List ℕ → A) (page : List ℕ) (old : List A) (i : ℕ) (vs : List ℕ) → i < length old → 4 + i * size ws + size ws ≤ length page
+    → says 0 vs ≡ readSays ws (take (length page - (4 + i * size ws)) (drop (4 + i * size ws) page))
+    → set (filled (λ (o : ℕ) (s : List ℕ). of (readAt o ws s)) (size ws) page i old) i (of vs) ≡ filled (λ (o : ℕ) (s : List ℕ). of (readAt o ws s)) (size ws) page (i + 1) old
+fill-row ws of page old i vs h k e = fill-more (λ (o : ℕ) (s : List ℕ). of (readAt o ws s)) (size ws) page old i (of vs) h (ap of (row-is ws page (4 + i * size ws) k vs e))

@@ -2,6 +2,8 @@
 ghost use mathlib.Core.Path.{_≡_};
 ghost use Prim.Native.Nat.{_+_, _*_, _≤_};
 ghost use lib.ListN.{length};
+ghost use Rattle.records.specs.Records.{jackInfo};
+ghost use Rattle.layout.specs.Layout.{size};
 ghost use Rattle.tables.specs.Tables.{jackAt, filled, jacksRead, noJacks};
 use crate::verdict::holds;
 use records::JackInfo;
@@ -26,8 +28,8 @@ pub fn no_jacks() -> [JackInfo; 170]
 
 // The first `n` records of the page, over the first `n` of the table.
 fn fill_jacks(page: &[u8], n: usize, old: [JackInfo; 170]) -> [JackInfo; 170]
-    requires { ⌜ (n ≤ 170) × (4 + n * 24 ≤ length (now page)) ⌝ }
-    ensures { λ r. ⌜ r ≡ filled jackAt 24 (now (page .entry)) n old ⌝ }
+    requires { ⌜ (n ≤ 170) × (4 + n * (size jackInfo) ≤ length (now page)) ⌝ }
+    ensures { λ r. ⌜ r ≡ filled jackAt (size jackInfo) (now (page .entry)) n old ⌝ }
 {
     let mut at = old;
     let mut i: usize = 0;

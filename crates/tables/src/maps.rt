@@ -2,6 +2,8 @@
 ghost use mathlib.Core.Path.{_≡_};
 ghost use Prim.Native.Nat.{_+_, _*_, _≤_};
 ghost use lib.ListN.{length};
+ghost use Rattle.records.specs.Records.{channelMap};
+ghost use Rattle.layout.specs.Layout.{size};
 ghost use Rattle.tables.specs.Tables.{mapAt, filled, mapsRead, noMaps};
 use crate::verdict::holds;
 use records::ChannelMap;
@@ -24,8 +26,8 @@ pub fn no_maps() -> [ChannelMap; 170]
 
 // The first `n` records of the page, over the first `n` of the table.
 fn fill_maps(page: &[u8], n: usize, old: [ChannelMap; 170]) -> [ChannelMap; 170]
-    requires { ⌜ (n ≤ 170) × (4 + n * 24 ≤ length (now page)) ⌝ }
-    ensures { λ r. ⌜ r ≡ filled mapAt 24 (now (page .entry)) n old ⌝ }
+    requires { ⌜ (n ≤ 170) × (4 + n * (size channelMap) ≤ length (now page)) ⌝ }
+    ensures { λ r. ⌜ r ≡ filled mapAt (size channelMap) (now (page .entry)) n old ⌝ }
 {
     let mut at = old;
     let mut i: usize = 0;

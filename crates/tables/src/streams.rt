@@ -2,6 +2,8 @@
 ghost use mathlib.Core.Path.{_≡_};
 ghost use Prim.Native.Nat.{_+_, _*_, _≤_};
 ghost use lib.ListN.{length};
+ghost use Rattle.records.specs.Records.{pcmInfo};
+ghost use Rattle.layout.specs.Layout.{size};
 ghost use Rattle.tables.specs.Tables.{pcmAt, filled, streamsRead, noStreams};
 use crate::verdict::holds;
 use records::PcmInfo;
@@ -27,8 +29,8 @@ pub fn no_streams() -> [PcmInfo; 127]
 
 // The first `n` records of the page, over the first `n` of the table.
 fn fill_streams(page: &[u8], n: usize, old: [PcmInfo; 127]) -> [PcmInfo; 127]
-    requires { ⌜ (n ≤ 127) × (4 + n * 32 ≤ length (now page)) ⌝ }
-    ensures { λ r. ⌜ r ≡ filled pcmAt 32 (now (page .entry)) n old ⌝ }
+    requires { ⌜ (n ≤ 127) × (4 + n * (size pcmInfo) ≤ length (now page)) ⌝ }
+    ensures { λ r. ⌜ r ≡ filled pcmAt (size pcmInfo) (now (page .entry)) n old ⌝ }
 {
     let mut at = old;
     let mut i: usize = 0;

@@ -3,7 +3,7 @@ use mathlib.Core.Path.{refl, sym, _∙_}
 use borrow.Author.Needs.{needs}
 use borrow.Author.Tests.{eq-eqb, ne-eqb}
 use Rattle.codes.specs.SaysLaws.{passes, stops}
-use Rattle.model.specs.Device.{pageSize}
+use Rattle.layout.specs.Lent.{pageSize}
 use Rattle.model.specs.Control.{controlOf}
 use Rattle.model.proofs.control.control.Statement.{statement}
 use Rattle.model.proofs.control.control.Tie as tie

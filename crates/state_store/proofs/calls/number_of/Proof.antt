@@ -16,10 +16,7 @@ number-of-spec =
     (tie.spec
     (λ c. search needs)
     add-result
-    (λ c. search needs)
-    (λ c. search needs)
-    (λ c κs. tt)
-    (λ c. search needs)
+    (λ c. search needs) (λ c. search needs) (λ c κs. tt) (λ c. search needs)
     returns
     (λ c. search needs)
     (λ c. search needs))

@@ -81,12 +81,7 @@ open-spec =
     get-head-requires
     (λ c κs. tt)
     (λ c κs. c .is-whole .ensures)
-    (λ c κs. tt)
-    (λ c κs. tt)
-    (λ c. search needs)
-    (λ c κs. tt)
-    (λ c. search needs)
-    (λ c. search needs)
+    (λ c κs. tt) (λ c κs. tt) (λ c. search needs) (λ c κs. tt) (λ c. search needs) (λ c. search needs)
     set-up-requires
     (λ c. search needs)
     (λ c. search needs)

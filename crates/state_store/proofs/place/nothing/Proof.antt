@@ -19,10 +19,7 @@ pub nothing-spec : {M : Type 1} → statement M
 nothing-spec =
     tie.close
     (tie.spec
-    (λ c. search needs)
-    (λ c. search needs)
-    (λ c. search needs)
-    (λ c. search needs)
+    (λ c. search needs) (λ c. search needs) (λ c. search needs) (λ c. search needs)
     returns
     returns-2
     returns-3

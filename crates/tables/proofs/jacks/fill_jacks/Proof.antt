@@ -6,7 +6,7 @@ use lib.ListN.{length}
 use borrow.Author.Needs.{needs}
 use Rattle.records.specs.Records.{jackInfo, saysJackInfo, jackInfoOf}
 use Rattle.tables.specs.Tables.{jackAt, filled}
-use Rattle.tables.specs.TablesLaws.{row-is, row-never, fill-none, fill-more}
+use Rattle.tables.specs.TablesLaws.{row-never, fill-none, fill-row}
 use Rattle.tables.proofs.jacks.fill_jacks.Statement.{statement}
 use Rattle.tables.proofs.jacks.fill_jacks.Tie as tie
 
@@ -16,15 +16,10 @@ Inv-loop page n at₀ i₀ at i = (i ≤ n) × (at ≡ filled jackAt 24 page i a
 abbrev μ-loop : tie.MeasureT-loop
 μ-loop page n at₀ i₀ at i = n - i
 
-loop-holds : tie.Need-loop-holds Inv-loop μ-loop
-loop-holds c = (omega arith, fill-none jackAt 24 _ _)
-
 returns : tie.Need-returns Inv-loop μ-loop
 returns c =
     let l = c .before .before .before .before .before in
-    let page = l .before .before .args .page .now in
-    let h : 4 + l .loop .i * 24 + 24 ≤ length page = omega arith in
-    absurd (row-never jackInfo page (4 + l .loop .i * 24) h (sym (ap saysJackInfo (c .enum-told .given .1)) ∙ c .before .before .read .ensures))
+    absurd (row-never jackInfo (l .before .before .args .page .now) (4 + l .loop .i * 24) (omega arith) (sym (ap saysJackInfo (c .enum-told .given .1)) ∙ c .before .before .read .ensures))
 
 loop-again : tie.Need-loop-again Inv-loop μ-loop
 unfolding jackAt
@@ -32,13 +27,8 @@ loop-again c =
     let r = c .before .before .before in
     let l = r .before .before .before in
     let a = l .before .before .args in
-    let page = a .page .now in
-    let h : 4 + l .loop .i * 24 + 24 ≤ length page = omega arith in
-    let n : length (a .old) ≡ 170 = search needs in (
-      omega arith,
-      simp (l .loop .inv .1) (fill-more jackAt 24 page (a .old) (l .loop .i) _ (omega arith)
-          (ap jackInfoOf (row-is jackInfo page (4 + l .loop .i * 24) h _ (sym (ap saysJackInfo (c .before .jack .given .1)) ∙ r .read .ensures)))),
-    )
+    let n : length (a .old) ≡ 170 = search needs in
+    (omega arith, simp (l .loop .inv .1) (fill-row jackInfo jackInfoOf (a .page .now) (a .old) (l .loop .i) _ (omega arith) (omega arith) (sym (ap saysJackInfo (c .before .jack .given .1)) ∙ r .read .ensures)))
 
 returns-2 : tie.Need-returns-2 Inv-loop μ-loop
 returns-2 c =
@@ -48,22 +38,5 @@ returns-2 c =
 pub fill-jacks-spec : {M : Type 1} → statement M
 fill-jacks-spec =
     tie.close
-    (tie.spec
-    Inv-loop
-    μ-loop
-    loop-holds
-    (λ c. omega arith)
-    (λ c. omega arith)
-    (λ c. omega arith)
-    (λ c. omega arith)
-    (λ c. omega arith)
-    (λ c κs. search needs)
-    (λ c. search needs)
-    (λ c. search needs)
-    returns
-    (λ c. omega arith)
-    (λ c. omega arith)
-    (λ c. omega arith)
-    (λ c. omega arith)
-    loop-again
-    returns-2)
+    (tie.spec Inv-loop μ-loop (λ c. (omega arith, fill-none jackAt 24 _ _)) (λ c. omega arith) (λ c. omega arith) (λ c. omega arith) (λ c. omega arith) (λ c. omega arith) (λ c κs. search needs)
+    (λ c. search needs) (λ c. search needs) returns (λ c. omega arith) (λ c. omega arith) (λ c. omega arith) (λ c. omega arith) loop-again returns-2)

@@ -20,10 +20,7 @@ copy-spec =
     Inv-loop
     μ-loop
     (λ c. (omega arith, refl))
-    (λ c. omega arith)
-    (λ c κs. search needs)
-    (λ c. omega arith)
-    (λ c. omega arith)
+    (λ c. omega arith) (λ c κs. search needs) (λ c. omega arith) (λ c. omega arith)
     (λ c. (omega arith, omega arith))
     (λ c. omega arith)
     (λ c. search needs))

@@ -17,32 +17,11 @@ Inv-loop hz i₀ i = (i ≤ 14) × Came hz hzTable i
 abbrev μ-loop : tie.MeasureT-loop
 μ-loop hz i₀ i = 14 - i
 
-loop-holds : tie.Need-loop-holds Inv-loop μ-loop
-loop-holds c = search needs
-
-cast-at : tie.Need-cast-at Inv-loop μ-loop
-cast-at c = search needs
-
-mul-if1 : tie.Need-mul-if1 Inv-loop μ-loop
-mul-if1 c = search needs
-
-array-read-if1 : tie.Need-array-read-if1 Inv-loop μ-loop
-array-read-if1 c = search needs
-
-from-number-requires : tie.Need-from-number-requires Inv-loop μ-loop
-from-number-requires c κs = search needs
-
 returns : tie.Need-returns Inv-loop μ-loop
 returns c =
     let l = c .before .before .before .loop in
     let hz = c .before .before .before .before .args .hz in
     c .from-number .ensures ∙ sym (ap (λ (n : ℕ). numberSays 14 n n) (found-here hz hzTable (l .i) (l .inv .1) (c .before .before .loop-test .taken) (c .before .if1 .taken)))
-
-add-i : tie.Need-add-i Inv-loop μ-loop
-add-i c = search needs
-
-loop-less : tie.Need-loop-less Inv-loop μ-loop
-loop-less c = search needs
 
 loop-again : tie.Need-loop-again Inv-loop μ-loop
 loop-again c =
@@ -61,13 +40,9 @@ from-hz-spec =
     (tie.spec
     Inv-loop
     μ-loop
-    loop-holds
-    cast-at
-    mul-if1
-    array-read-if1
-    from-number-requires
+    (λ c. search needs) (λ c. search needs) (λ c. search needs) (λ c. search needs) (λ c κs. search needs)
     returns
-    add-i
-    loop-less
+    (λ c. search needs)
+    (λ c. search needs)
     loop-again
     returns-2)

@@ -1,0 +1,73 @@
+// Where the fields stand: the head's in a store, a record's in its record.
+
+// How many there are, and how many were read.
+pub(crate) const JACKS_COUNT: usize = 0;
+
+pub(crate) const STREAMS_COUNT: usize = 4;
+
+pub(crate) const MAPS_COUNT: usize = 8;
+
+pub(crate) const JACKS_READ: usize = 12;
+
+pub(crate) const STREAMS_READ: usize = 16;
+
+pub(crate) const MAPS_READ: usize = 20;
+
+// What is kept of the core's stage.
+pub(crate) const READY: usize = 24;
+
+pub(crate) const STAGE: usize = 25;
+
+pub(crate) const CALL: usize = 26;
+
+pub(crate) const PART: usize = 27;
+
+pub(crate) const ID: usize = 28;
+
+pub(crate) const FIRST: usize = 32;
+
+pub(crate) const SECOND: usize = 36;
+
+pub(crate) const THIRD: usize = 40;
+
+pub(crate) const KNOWN: usize = 44;
+
+pub(crate) const CHANNELS: usize = 45;
+
+pub(crate) const FORMAT: usize = 46;
+
+pub(crate) const RATE: usize = 47;
+
+// What is reserved.
+pub(crate) const RESERVED: usize = 48;
+
+pub(crate) const SPARE: usize = 56;
+
+// A jack's record.
+pub(crate) const JACK_FEATURES: usize = 4;
+
+// A stream's record.
+pub(crate) const STREAM_FEATURES: usize = 4;
+
+pub(crate) const STREAM_FORMATS: usize = 8;
+
+pub(crate) const STREAM_RATES: usize = 16;
+
+pub(crate) const STREAM_DIRECTION: usize = 24;
+
+pub(crate) const STREAM_MIN: usize = 25;
+
+pub(crate) const STREAM_MAX: usize = 26;
+
+// What a stream was set to; whether it was stands first.
+pub(crate) const SET_CHANNELS: usize = 1;
+
+pub(crate) const SET_FORMAT: usize = 2;
+
+pub(crate) const SET_RATE: usize = 3;
+
+pub(crate) const SET_BUFFER: usize = 4;
+
+pub(crate) const SET_PERIOD: usize = 8;
+
+pub(crate) const SET_FEATURES: usize = 12;
