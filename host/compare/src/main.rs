@@ -1,75 +1,48 @@
 //! Runs the comparison. With no options: what the gate runs. Exit status: 0 all agreed, 1 a difference, 77 all that could be run agreed
-//! but the Rust's text was not at hand, 2 a wrong option.
+//! but the Rust's text was not at hand, 2 an option that is not known or a run of no case.
+mod options;
+
 use compare::case::Case;
 use compare::entries::Entries;
 use compare::plain::Plain;
 use compare::port::Port;
 use compare::run::{Counts, With, report, run};
-use compare::{raw, record, rust, short, shown, stages, text};
+use compare::{raw, record, rust, short, shown, stages};
+use options::{Options, Run, Seeds, USAGE, options};
 use std::process::exit;
 use std::time::Instant;
 
-const USAGE: &str = "\
-compare                      short cases, random cases, single entries, the recorded list (the gate)
-compare --cases N --seed S   N random cases from seed S; case i has seed S + i, so that `--cases 1 --seed S+i` repeats it
-compare --short              the short cases alone
-compare --entries N --seed S N sequences of single entries, the port against the rules
-compare --case TEXT          one case (src/text.rs)
-compare --record FILE        writes the recorded list; --check FILE fails where it would be another; --replay FILE holds the port to it
-compare --differences        the smallest input of each intended difference, run
-Further: --no-port leaves the port out; --no-rust leaves the Rust out; --no-short leaves the short cases out";
-
 /// Random cases and sequences of entries that the gate runs.
-const CASES: u64 = 60_000;
-const ENTRIES: u64 = 8_000;
+const CASES: Seeds = 1..=60_000;
+const ENTRIES: Seeds = 1..=8_000;
 /// Entries in one sequence.
 const LENGTH: usize = 60;
 const RECORDED: &str = concat!(env!("CARGO_MANIFEST_DIR"), "/recorded.txt");
 
-struct Options {
-    with: With,
-    short: bool,
-    seed: u64,
-}
-
 fn main() {
+    let asked = options(std::env::args().skip(1), oracle::AT_HAND);
+    let Options { with, run } = asked.unwrap_or_else(|why| {
+        eprintln!("compare: {why}\n\n{USAGE}");
+        exit(2)
+    });
     rust::quiet_panics();
-    let args: Vec<String> = std::env::args().skip(1).collect();
-    let after = |name: &str| args.iter().position(|a| a == name).map(|at| args.get(at + 1).map(String::as_str));
-    let value = |name: &str| after(name).map(|value| value.unwrap_or_else(|| usage()));
-    let number = |name: &str| value(name).map(|n| n.parse().unwrap_or_else(|_| usage()));
-    let has = |name: &str| args.iter().any(|a| a == name);
     for (name, sha) in oracle::text() {
         println!("{name} sha256 {sha}");
     }
-    let with = With { rust: oracle::AT_HAND && !has("--no-rust"), port: !has("--no-port") };
-    let (cases, entries) = (number("--cases"), number("--entries"));
-    let options = Options { with, short: !has("--no-short"), seed: number("--seed").unwrap_or(1) };
-    if let Some(file) = value("--record") {
-        write(file);
-    } else if let Some(file) = value("--check") {
-        finish(check(file));
-    } else if let Some(file) = value("--replay") {
+    match run {
+        Run::Record(file) => write(&file),
+        Run::Check(file) => finish(check(&file)),
         // needs no text of the Rust's
-        exit(if replay(file) { 0 } else { 1 });
-    } else if let Some(case) = value("--case") {
-        finish(one(&text::case_of(case), with));
-    } else if has("--short") {
-        finish(short_cases(&options));
-    } else if has("--differences") {
-        finish(shown::print() == 0);
-    } else if cases.is_some() || entries.is_some() {
-        finish(random_cases(&options, cases.unwrap_or(0)) && random_entries(&options, entries.unwrap_or(0)));
-    } else if args.iter().all(|a| a.starts_with("--no-")) {
-        finish(gate(&options));
-    } else {
-        usage();
+        Run::Replay(file) => exit(if replay(&file) { 0 } else { 1 }),
+        Run::Case(case) => finish(one(&case, with)),
+        Run::Short => finish(short_cases(with)),
+        Run::Differences => finish(shown::print() == 0),
+        Run::Random { cases, entries } => {
+            let agreed = cases.is_none_or(|seeds| random_cases(with, seeds));
+            finish(agreed && entries.is_none_or(random_entries))
+        }
+        Run::Gate { short } => finish(gate(with, short)),
     }
-}
-
-fn usage() -> ! {
-    eprintln!("{USAGE}");
-    exit(2)
 }
 
 fn finish(agreed: bool) -> ! {
@@ -83,11 +56,11 @@ fn finish(agreed: bool) -> ! {
     exit(0)
 }
 
-fn gate(options: &Options) -> bool {
-    let short = !options.short || short_cases(options);
-    let random = random_cases(options, CASES);
-    let entries = entries_by_stage(options) && random_entries(options, ENTRIES);
-    let recorded = !options.with.port || replay(RECORDED);
+fn gate(with: With, short: bool) -> bool {
+    let short = !short || short_cases(with);
+    let random = random_cases(with, CASES);
+    let entries = !with.port || entries_by_stage() && random_entries(ENTRIES);
+    let recorded = !with.port || replay(RECORDED);
     short && random && entries && recorded
 }
 
@@ -111,10 +84,10 @@ fn agrees(case: &Case, with: With, counts: &mut Counts) -> bool {
     agreed
 }
 
-fn short_cases(options: &Options) -> bool {
+fn short_cases(with: With) -> bool {
     let (mut counts, since, mut agreed) = (Counts::default(), Instant::now(), true);
     for (_, group) in short::GROUPS {
-        group(&mut |case| agreed = agreed && agrees(&case, options.with, &mut counts));
+        group(&mut |case| agreed = agreed && agrees(&case, with, &mut counts));
     }
     told("short cases", &counts, since);
     agreed & masks()
@@ -130,26 +103,20 @@ fn masks() -> bool {
     same
 }
 
-fn random_cases(options: &Options, count: u64) -> bool {
-    let (mut counts, since) = (Counts::default(), Instant::now());
-    if count == 0 {
-        return true;
-    }
-    for seed in options.seed..options.seed.saturating_add(count) {
-        if !agrees(&compare::random::case(seed), options.with, &mut counts) {
+fn random_cases(with: With, seeds: Seeds) -> bool {
+    let (mut counts, since, first) = (Counts::default(), Instant::now(), *seeds.start());
+    for seed in seeds {
+        if !agrees(&compare::random::case(seed), with, &mut counts) {
             println!("repeat with --cases 1 --seed {seed}");
             return false;
         }
     }
-    told(&format!("random cases from seed {}", options.seed), &counts, since);
+    told(&format!("random cases from seed {first}"), &counts, since);
     true
 }
 
 /// The sizes handed out, and every entry at every stage.
-fn entries_by_stage(options: &Options) -> bool {
-    if !options.with.port {
-        return true;
-    }
+fn entries_by_stage() -> bool {
     if Port::sizes() != Plain::sizes() {
         println!("DIFFERENCE in the sizes handed out: port {:?}, rules {:?}", Port::sizes(), Plain::sizes());
         return false;
@@ -164,29 +131,24 @@ fn entries_by_stage(options: &Options) -> bool {
     agreed.is_ok()
 }
 
-fn random_entries(options: &Options, count: u64) -> bool {
-    if !options.with.port || count == 0 {
-        return true;
-    }
-    let (since, mut refused) = (Instant::now(), 0);
-    for seed in options.seed..options.seed + count {
+fn random_entries(seeds: Seeds) -> bool {
+    let (since, mut refused, mut entries, first) = (Instant::now(), 0, 0, *seeds.start());
+    for seed in seeds {
         if let Err((ops, _)) = raw::sequence(seed, LENGTH) {
             let (ops, text) = raw::shrink(ops);
             println!("DIFFERENCE\n{ops:#x?}\n{text}\nrepeat with --entries 1 --seed {seed}");
             return false;
         }
         match raw::damaged(seed, LENGTH) {
-            Ok(number) => refused += number,
+            Ok(number) => (refused, entries) = (refused + number, entries + LENGTH),
             Err(text) => {
                 println!("DIFFERENCE on damaged stores\n{text}\nrepeat with --entries 1 --seed {seed}");
                 return false;
             }
         }
     }
-    let entries = count * LENGTH as u64;
     println!(
-        "entries from seed {}: {entries} on good stores, {entries} on damaged ones ({refused} refused with 1)",
-        options.seed
+        "entries from seed {first}: {entries} on good stores, {entries} on damaged ones ({refused} refused with 1)"
     );
     println!("  {:.1} s", since.elapsed().as_secs_f64());
     true
@@ -211,6 +173,10 @@ fn check(file: &str) -> bool {
 
 fn replay(file: &str) -> bool {
     match record::replay(&recorded(file)) {
+        Ok((_, 0)) => {
+            println!("{file} has no step of the Rust's: there is nothing to replay");
+            false
+        }
         Ok((cases, steps)) => {
             println!("recorded list: {cases} cases, {steps} steps of the Rust replayed on the port");
             true

@@ -75,7 +75,7 @@ const HEAD: &str = "\
 /// Random cases that are recorded: the seeds below this.
 const SEEDS: u64 = 120;
 /// Of the short cases of a group every so many-th is recorded.
-const SHORT: [(&str, usize); 12] = [
+const SHORT: [(&str, usize); 13] = [
     ("numbers", 97),
     ("periods", 61),
     ("statuses", 211),
@@ -85,6 +85,7 @@ const SHORT: [(&str, usize); 12] = [
     ("events", 1),
     ("short scripts", 251),
     ("lengths", 67),
+    ("budgets", 19),
     ("drains", 97),
     ("model", 7),
     ("announcements", 13),

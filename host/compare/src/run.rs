@@ -166,18 +166,18 @@ fn smaller_steps(step: &Step) -> Vec<Step> {
     let mut push = |frames, budget, readings| {
         all.push(Step::Transfer { stream, frames, budget, readings, answers: answers.clone() })
     };
-    // a budget that a run cannot use up is made small first, else a shorter script would not end
+    // a budget that a run cannot use up is made small first; while it shows the difference the script stays, since a shorter one would not end
     if *budget > 10_000 {
         push(*frames, 500, readings.clone());
-        return all;
-    }
-    if !readings.is_empty() {
-        push(*frames, *budget, readings[..readings.len() / 2].to_vec());
-        push(*frames, *budget, readings[..readings.len() - 1].to_vec());
-    }
-    if *budget > 0 {
-        push(*frames, budget / 2, readings.clone());
-        push(*frames, budget - 1, readings.clone());
+    } else {
+        if !readings.is_empty() {
+            push(*frames, *budget, readings[..readings.len() / 2].to_vec());
+            push(*frames, *budget, readings[..readings.len() - 1].to_vec());
+        }
+        if *budget > 0 {
+            push(*frames, budget / 2, readings.clone());
+            push(*frames, budget - 1, readings.clone());
+        }
     }
     if frames.len > 0 {
         push(crate::case::Frames { len: frames.len / 2, ..*frames }, *budget, readings.clone());

@@ -227,6 +227,19 @@ pub fn lengths(sink: Sink) {
     }
 }
 
+/// Budgets at a power of two and just above, completed every turn: kept in fewer bits, each would be too small for its transfer and end it
+/// with 9, at the start or in the midst.
+pub fn budgets(sink: Sink) {
+    for bits in [8, 16, 32, 48, 63] {
+        for more in 0..=4u32 {
+            for periods in [more, more + 1, 12] {
+                let readings = vec![Reading::DONE; periods as usize];
+                sink(transfers(vec![transfer(2 * periods, (1 << bits) + u64::from(more), readings)]));
+            }
+        }
+    }
+}
+
 /// Drain turns of every kind after each way a transfer can end with slots owed.
 pub fn drains(sink: Sink) {
     let kinds = [
@@ -307,7 +320,7 @@ pub fn announcements(sink: Sink) {
 
 /// Every group, by name.
 #[allow(clippy::type_complexity)]
-pub const GROUPS: [(&str, fn(Sink)); 12] = [
+pub const GROUPS: [(&str, fn(Sink)); 13] = [
     ("numbers", numbers),
     ("periods", periods),
     ("statuses", statuses),
@@ -317,6 +330,7 @@ pub const GROUPS: [(&str, fn(Sink)); 12] = [
     ("events", events),
     ("short scripts", scripts),
     ("lengths", lengths),
+    ("budgets", budgets),
     ("drains", drains),
     ("model", model),
     ("announcements", announcements),

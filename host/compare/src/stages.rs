@@ -76,7 +76,7 @@ fn rings() -> Vec<What> {
     {
         all.push(What::Read(asked));
     }
-    for (stream, budget) in [(0, 0), (0, 1), (0, u64::MAX), (1, 5), (2, 5)] {
+    for (stream, budget) in [(0, 0), (0, 1), (0, 1 << 32), (0, u64::MAX), (1, 5), (2, 5)] {
         all.push(What::Start { stream, frames: 10, budget });
     }
     all

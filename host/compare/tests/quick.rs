@@ -24,6 +24,7 @@ fn drivers_agree() {
     short::events(&mut agrees);
     short::counts(&mut agrees);
     short::announcements(&mut agrees);
+    short::budgets(&mut agrees);
     (0..300).for_each(|seed| agrees(random::case(seed)));
 }
 
