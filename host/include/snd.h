@@ -10,6 +10,10 @@
  * was, but for what document 01 names: 2, 6 and 9 end a transfer, and a feed ends its exchange.
  * Numbers in results are least byte first.
  *
+ * The caller's duties, which no entry can test: as many bytes as a length says are there, at most
+ * PTRDIFF_MAX; a store, and a buffer that is written, is used by one call at a time, whether of a
+ * thread or of an interrupt. Calls on different stores may run at the same time.
+ *
  * In a guest: nothing below the stack pointer is in use (no red zone), so interrupts may run on the
  * stack that they meet. On x86-64 SSE must be on, and an interrupt that uses its registers saves
  * them; tools/staticlib --no-sse makes an archive that uses none. */
@@ -22,6 +26,13 @@
 #ifdef __cplusplus
 extern "C" {
 #endif
+
+/* The version of this header and of the archive beside it: docs/BOUNDARY.md says when it changes.
+ * As one number it can be compared by #if. */
+#define SND_VERSION_MAJOR 0u
+#define SND_VERSION_MINOR 1u
+#define SND_VERSION_PATCH 0u
+#define SND_VERSION (SND_VERSION_MAJOR * 1000000u + SND_VERSION_MINOR * 1000u + SND_VERSION_PATCH)
 
 #define SND_OK 0u
 #define SND_INVALID_PARAM 1u
@@ -101,7 +112,13 @@ uint64_t snd_feed_failure(uint8_t *state, size_t state_len,
 
 /* A transfer: its start (SND_GOING, a request of set-up, or a refusal); what the next turn submits
  * (result: there 8, slot 8, offset 8, length 8); a turn; a drain turn. Kind 0 is a quiet reading,
- * any other a completed slot with its status. */
+ * any other a completed slot with its status.
+ *
+ * A submission is 4 bytes of stream id, least first, and the period, both for the device to read,
+ * then 8 bytes for it to write: the status to pass on, 4, and a latency, 4, least first. They stay
+ * where they are until the slot is freed. Submit before the turn, which takes it as submitted: where
+ * the queue did not take it, run no turn. The queue's token is not the slot; one that is not known
+ * is passed on as slot UINT32_MAX. docs/BOUNDARY.md and docs/HOST.md say more. */
 uint64_t snd_pcm_xfer_start(uint8_t *state, size_t state_len, uint8_t *ring, size_t ring_len, uint32_t stream,
                             const uint8_t *frames, size_t frames_len, uint64_t budget,
                             uint8_t *message, size_t message_len);
