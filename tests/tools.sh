@@ -1,5 +1,6 @@
 # Each tool of tools/ tells how it is used and stands in tools/README.md; those that cost little are run: repeats, wrap and rests on the tree, rests on a crate
-# of three small files, skel and paths on a crate of one function.
+# of three small files, skel and paths on a crate of one function. staticlib, the gate and the host's build script, which prove for minutes, are run over a
+# stand-in for rt that proves nothing and writes down what it was asked.
 cd "$(dirname "$0")/.." || exit 2
 made=$(mktemp -d) || exit 2
 trap 'rm -rf "$made"' EXIT
@@ -90,6 +91,110 @@ done
 for tool in skel paths; do
     tools/$tool no_such_crate f >/dev/null 2>&1 && fault "tools/$tool takes a crate that is not there"
 done
+
+# A repository of three crates, a kit of empty files, and an rt that says what the files beside it tell it to.
+stand=$made/stand
+machine=$(uname -m)
+mkdir -p "$stand/bin" "$stand/kit/on/$machine/bin" "$stand/kit/on/$machine/toolchain/bin" "$stand/repo/.ci" "$stand/repo/tools" "$stand/repo/tests" "$stand/repo/host/snd"
+echo stand-in-1 | tee "$stand/kit/KIT-ID" >"$stand/repo/.ci/kit"
+for part in bin/rattle toolchain/bin/clang toolchain/bin/llvm-ar; do
+    : >"$stand/kit/on/$machine/$part"
+    chmod +x "$stand/kit/on/$machine/$part"
+done
+cp tools/staticlib "$stand/repo/tools"
+cp .ci/run "$stand/repo/.ci"
+printf '%s\n' '# two stores: and what is on them' 'base:' 'one: base io' 'other: base' 'alone: io' 'console: base one other' >"$stand/repo/crates.txt"
+cat >"$stand/bin/rt" <<'RT'
+#!/usr/bin/env bash
+[ "$1" = version ] && cat "$RATTLE_HOME/KIT-ID" && exit
+echo "$*" >>"$STAND/asked"
+case $1 in
+check) echo "rt: base proved (1 s)" && exit "$(cat "$STAND/check")" ;;
+staticlib) mkdir -p target/staticlib && echo an archive >"target/staticlib/lib$2.a" && echo "fn f: proved" ;;
+ci) rm -rf target && echo "3 passed, 0 failed" ;;
+esac
+RT
+# The kit's folder is named as a user's is, and SND_LIB as one's who has an archive from elsewhere.
+beside() { env PATH="$stand/bin:$PATH" STAND="$stand" RATTLE_HOME="$stand/kit" SND_LIB=/elsewhere.a "$@" 2>&1; }
+afresh() {
+    rm -rf "$stand/repo/target" "$stand/asked"
+    echo 0 >"$stand/check"
+    echo stand-in-1 >"$stand/kit/KIT-ID"
+}
+chmod +x "$stand/bin/rt"
+
+# staticlib tells what it is about to do, then has the crates proved below the one that it is for, together, then makes the archive.
+afresh
+said=$(beside "$stand/repo/tools/staticlib") || fault "tools/staticlib fails over a stand-in for rt: $said"
+[ "$(cat "$stand/asked")" = $'check base one other\nstaticlib console' ] || fault "tools/staticlib asks rt for other than the crates below, then the archive: $(cat "$stand/asked")"
+[ "$(head -n 1 <<<"$said")" = "tools/staticlib: proves 4 crates, console last; one that has not changed since it was proved here is not proved again" ] ||
+    fault "tools/staticlib does not say first how many crates it proves: $said"
+takes=$(sed -nE 's/^tools\/staticlib: from nothing that takes (about [0-9]+ minutes on two cores) .*/\1/p' <<<"$said")
+[ -n "$takes" ] && grep -q "$takes" docs/BENCH.md || fault "tools/staticlib does not say how long it takes, in words of docs/BENCH.md: $said"
+afresh
+said=$(beside "$stand/repo/tools/staticlib" alone) || fault "tools/staticlib fails of a crate with none below it: $said"
+[ "$(cat "$stand/asked")" = "staticlib alone" ] || fault "tools/staticlib asks rt to check crates that are not below: $(cat "$stand/asked")"
+afresh
+echo 3 >"$stand/check"
+beside "$stand/repo/tools/staticlib" >/dev/null
+[ $? -eq 3 ] && [ "$(wc -l <"$stand/asked")" -eq 1 ] || fault "tools/staticlib goes on where a crate below is not proved"
+
+# What costs nothing is refused before anything is proved.
+early() { # WHAT SENTENCE
+    said=$(beside "$stand/repo/tools/staticlib") && fault "tools/staticlib goes on with $1"
+    grep -q "^tools/staticlib: $2" <<<"$said" || fault "tools/staticlib does not say of $1 '$2': $said"
+    [ ! -e "$stand/asked" ] || fault "tools/staticlib has something proved before it sees $1"
+}
+afresh
+echo stand-in-2 >"$stand/kit/KIT-ID"
+early "another kit" "the kit at hand is 'stand-in-2'; this repository is proved with 'stand-in-1'"
+afresh
+chmod -x "$stand/kit/on/$machine/toolchain/bin/clang"
+early "a clang that cannot be run" "the kit's on/$machine/toolchain/bin/clang cannot be run"
+mv "$stand/kit/on/$machine/toolchain/bin/clang" "$stand/clang"
+early "no clang" "the kit at .* lacks on/$machine/toolchain/bin/clang"
+mv "$stand/clang" "$stand/kit/on/$machine/toolchain/bin/clang"
+chmod +x "$stand/kit/on/$machine/toolchain/bin/clang"
+printf '%s\n' '#!/bin/sh' 'echo Filesystem' 'echo x 9 9 20480 9 /' >"$stand/bin/df"
+chmod +x "$stand/bin/df"
+early "a full disk" "20 MB are free where target/ stands: proving may take 1000 MB more"
+rm "$stand/bin/df"
+
+# The gate is of this tree and of this kit: no archive from elsewhere, and a kit of another name is one failure more.
+printf '%s\n' '#!/bin/sh' 'echo "test result: ok. 2 passed; 0 failed; 0 ignored; SND_LIB=${SND_LIB-none}"' >"$stand/bin/cargo"
+chmod +x "$stand/bin/cargo"
+echo 'echo "a test sees SND_LIB=${SND_LIB-none}"' >"$stand/repo/tests/sees.sh"
+afresh
+said=$(beside bash "$stand/repo/.ci/run") || fault "the gate fails over a stand-in for rt: $said"
+[ "$(tail -n 1 <<<"$said")" = "6 passed, 0 failed" ] || fault "the gate counts otherwise over a stand-in for rt: $said"
+[ "$(grep -c 'SND_LIB=none$' <<<"$said")" -eq 2 ] || fault "the gate's tests see SND_LIB: $said"
+sum=$(sha256sum <"$stand/repo/target/staticlib/libconsole.a" | cut -d' ' -f1)
+grep -qx "archive sha256 $sum  target/staticlib/libconsole.a" <<<"$said" || fault "the gate does not tell the archive's sha256, $sum: $said"
+afresh
+echo stand-in-2 >"$stand/kit/KIT-ID"
+said=$(beside bash "$stand/repo/.ci/run") && fault "the gate passes with another kit"
+grep -qx "the kit at hand is 'stand-in-2'; this repository is proved with 'stand-in-1' (.ci/kit)" <<<"$said" || fault "the gate does not name both kits: $said"
+[ "$(tail -n 1 <<<"$said")" = "4 passed, 2 failed" ] || fault "the gate with another kit counts otherwise (the kit; the static library): $said"
+
+# The host's build script shows how far the proof is, on the terminal if there is one, else by two warnings of cargo's.
+if command -v rustc >/dev/null; then
+    rustc --edition 2024 -o "$stand/build" host/snd/build.rs || fault "host/snd/build.rs does not compile by itself"
+    mkdir -p "$stand/out" "$stand/repo/crates"
+    echo x >"$stand/repo/crates/x"
+    build=(env -u SND_LIB "CARGO_MANIFEST_DIR=$stand/repo/host/snd" "OUT_DIR=$stand/out" "$stand/build")
+    afresh
+    said=$(beside setsid -w "${build[@]}") || fault "the build script fails over a stand-in for rt: $said"
+    [ "$(grep -c '^cargo:warning=' <<<"$said")" -eq 2 ] && grep -q '^cargo:warning=proved and made in [0-9]* s$' <<<"$said" || fault "the build script leaves no two warnings where there is no terminal: $said"
+    afresh
+    said=$(beside python3 -c 'import pty, sys; sys.exit(pty.spawn(sys.argv[1:]))' bash -c '"$@" >"$0"' "$stand/said" "${build[@]}") || fault "the build script fails on a terminal: $said"
+    grep -q 'rt: base proved (1 s)' <<<"$said" && grep -q 'tools/staticlib: proves 4 crates' <<<"$said" || fault "the build script shows no progress on the terminal: $said"
+    grep -q 'fn f: proved' <<<"$said" && fault "the build script shows each function on the terminal: $said"
+    grep -q '^cargo:warning=' "$stand/said" && fault "the build script warns though there is a terminal: $(cat "$stand/said")"
+    afresh
+    echo 1 >"$stand/check"
+    said=$(beside setsid -w "${build[@]}") && fault "the build script goes on where a crate is not proved"
+    grep -q '^no archive was made' <<<"$said" && grep -q '^rt: base proved (1 s)$' <<<"$said" || fault "the build script does not tell what was said where no archive was made: $said"
+fi
 
 if command -v rt >/dev/null; then
     mkdir -p "$made/tools" "$made/crates/small/src"

@@ -1,8 +1,10 @@
 //! Links the driver's archive: the one that SND_LIB names, or target/staticlib/libconsole.a of this repository. The latter is made by
 //! tools/staticlib where it is missing or older than the proved sources, since making it proves all of them again.
+use std::fs::{File, OpenOptions};
+use std::io::{BufRead, BufReader, Write};
 use std::path::{Path, PathBuf};
-use std::process::Command;
-use std::time::SystemTime;
+use std::process::{Command, Stdio};
+use std::time::{Instant, SystemTime};
 use std::{env, fs};
 
 fn main() {
@@ -38,14 +40,55 @@ fn own_archive() -> PathBuf {
 
 fn make(repository: &Path) {
     let script = repository.join("tools/staticlib");
-    let made = Command::new("bash").arg(&script).output();
-    let made = made.unwrap_or_else(|why| stop(&format!("bash {}: {why}", script.display())));
-    if !made.status.success() {
-        let said = [made.stdout, made.stderr].concat();
-        stop(&format!(
-            "no archive was made (SND_LIB may name one):\n{}",
-            String::from_utf8_lossy(&said)
-        ));
+    let (began, mut shown) = (Instant::now(), Shown::begin());
+    let made = run(&script, |line| shown.line(line));
+    let (done, said) = made.unwrap_or_else(|why| stop(&format!("bash {}: {why}", script.display())));
+    if !done {
+        stop(&format!("no archive was made (SND_LIB may name one):\n{said}"));
+    }
+    shown.tell(&format!("proved and made in {} s", began.elapsed().as_secs()));
+}
+
+/// Runs a script, and hands on each line as it comes: whether it succeeded, and all that it said.
+fn run(script: &Path, mut hand_on: impl FnMut(&str)) -> std::io::Result<(bool, String)> {
+    let both = "exec bash \"$0\" 2>&1";
+    let mut command = Command::new("bash");
+    let mut child = command.args(["-c", both]).arg(script).stdout(Stdio::piped()).spawn()?;
+    let mut said = String::new();
+    for line in BufReader::new(child.stdout.take().expect("it is piped")).split(b'\n') {
+        let line = String::from_utf8_lossy(&line?).into_owned();
+        hand_on(&line);
+        said = said + &line + "\n";
+    }
+    Ok((child.wait()?.success(), said))
+}
+
+/// Where the proof shows how far it is. Cargo keeps what a build script says to itself, so it goes to the terminal. Where there is none, two
+/// warnings are left, which cargo prints when the script has ended.
+struct Shown(Option<File>);
+
+impl Shown {
+    fn begin() -> Self {
+        let mut shown = Self(OpenOptions::new().write(true).open("/dev/tty").ok());
+        shown.tell("there is no archive, or one older than the proved sources: they are proved, which takes minutes");
+        shown
+    }
+
+    /// Of what the script says only what is about a whole crate.
+    fn line(&mut self, line: &str) {
+        let whole = line.starts_with("rt: ") || line.starts_with("tools/staticlib: ");
+        if let (Some(terminal), true) = (&mut self.0, whole) {
+            // over the line that cargo draws; that nobody sees it is no reason to stop
+            let _ = writeln!(terminal, "\r\x1b[K{line}");
+        }
+    }
+
+    /// The first line, or the last.
+    fn tell(&mut self, line: &str) {
+        match self.0 {
+            Some(_) => self.line(&format!("tools/staticlib: {line}")),
+            None => println!("cargo:warning={line}"),
+        }
     }
 }
 
