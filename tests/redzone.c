@@ -1,13 +1,15 @@
 /* Does the archive keep anything below its stack pointer? A guest's interrupt that runs on the stack that it meets
- * overwrites what stands there. This program makes a session of calls twice in a child process and compares what each
+ * overwrites what stands there. This program makes a session of calls in child processes and compares what each
  * call left: first undisturbed; then one instruction at a time, and at each instruction of the archive the bytes below
- * the stack pointer are overwritten, as an interrupt there would do.
+ * the stack pointer are overwritten, as an interrupt there would do. That is done with two noises, each bit of which is 1 in
+ * one of them and 0 in the other. tests/sweep.c does it with interrupts, in QEMU.
  *
  * The archive's code stands in the section `driver` (tests/redzone.sh renames its own), so that its bounds are known.
  * With the argument `self` a function that does use the bytes below its stack pointer joins the session: it must be seen.
  * Status 0: no call came out otherwise; 1: one did; 2: could not be tried. */
 #define _GNU_SOURCE
 #include <signal.h>
+#include <stdint.h>
 #include <stdio.h>
 #include <stdlib.h>
 #include <string.h>
@@ -18,18 +20,14 @@
 #include <sys/wait.h>
 #include <unistd.h>
 
-#include "snd.h"
+enum { CALLS = 400, BELOW = 256 };
 
-enum { CALLS = 400, BELOW = 256, JACKS = 3, STREAMS = 2, MAPS = 1, FRAMES = 40000 };
+static uint64_t left(const char *name, uint64_t answer), marked(uint64_t answer);
+static void mark(void);
+#define CALL(name, ...) (mark(), left(#name, marked(name(__VA_ARGS__))))
+#include "session.h"
 
 extern char __start_driver[], __stop_driver[];
-
-/* Everything that a call may change. */
-struct stores {
-    uint64_t answer;
-    uint8_t state[SND_STATE_SIZE], ring[SND_RING_SIZE], message[SND_MESSAGE_SIZE], result[SND_RESULT_SIZE];
-    uint8_t page[SND_PAGE_SIZE], model[SND_MODEL_SIZE];
-};
 
 /* What each call left, in memory that parent and child share. */
 struct log {
@@ -40,10 +38,8 @@ struct log {
     } call[CALLS];
 };
 
-static struct stores s;
 static struct log *book;
 static int stepped; /* this child is stepped */
-static uint8_t frames[FRAMES];
 
 static uint64_t left(const char *name, uint64_t answer) {
     if (book->calls == CALLS)
@@ -55,12 +51,6 @@ static uint64_t left(const char *name, uint64_t answer) {
     return answer;
 }
 
-#define STATE s.state, sizeof s.state
-#define RING s.ring, sizeof s.ring
-#define MESSAGE s.message, sizeof s.message
-#define RESULT s.result, sizeof s.result
-#define PAGE s.page, sizeof s.page
-#define MODEL s.model, sizeof s.model
 /* The parent steps the child from one breakpoint to the next: through the call, and not through the book-keeping. */
 static void mark(void) {
     if (stepped)
@@ -70,116 +60,12 @@ static uint64_t marked(uint64_t answer) {
     mark();
     return answer;
 }
-#define CALL(name, ...) (mark(), left(#name, marked(name(__VA_ARGS__))))
-
-/* Hands each request to the model device and feeds its answer, until the call says something else. */
-static uint64_t answered(uint64_t said) {
-    while (said >= SND_SEND && said < SND_GOING) {
-        CALL(snd_model_control, MODEL, s.message, said - SND_SEND, PAGE, RESULT);
-        said = CALL(snd_feed, STATE, PAGE, MESSAGE, RESULT);
-    }
-    return said;
-}
-
-static void make(void) {
-    uint8_t jacks[JACKS * 24] = {0}, pcms[STREAMS * 32] = {0}, maps[MAPS * 24] = {0};
-    jacks[4] = 1; /* the first jack has REMAP */
-    for (int i = 0; i < STREAMS; i++) {
-        memset(pcms + 32 * i + 8, 0xff, 2);  /* formats */
-        memset(pcms + 32 * i + 16, 0xff, 2); /* rates */
-        pcms[32 * i + 24] = i;               /* direction */
-        pcms[32 * i + 25] = 1;
-        pcms[32 * i + 26] = 2;
-    }
-    CALL(snd_model_new, MODEL, jacks, sizeof jacks, pcms, sizeof pcms, maps, sizeof maps);
-    CALL(snd_new, STATE, JACKS, STREAMS, MAPS);
-    CALL(snd_ring_new, RING);
-}
-
-static void control(void) {
-    answered(CALL(snd_output_streams, STATE, RING, MESSAGE, RESULT));
-    answered(CALL(snd_input_streams, STATE, RING, MESSAGE, RESULT));
-    answered(CALL(snd_rates_supported, STATE, RING, 1, MESSAGE, RESULT));
-    answered(CALL(snd_formats_supported, STATE, RING, 1, MESSAGE, RESULT));
-    answered(CALL(snd_channel_range_supported, STATE, RING, 0, MESSAGE, RESULT));
-    answered(CALL(snd_features_supported, STATE, RING, 0, MESSAGE, RESULT));
-    answered(CALL(snd_features_supported, STATE, RING, STREAMS, MESSAGE, RESULT));
-    answered(CALL(snd_jack_remap, STATE, RING, 0, 1, 2, MESSAGE, RESULT));
-    answered(CALL(snd_jack_remap, STATE, RING, 1, 1, 2, MESSAGE, RESULT));
-    answered(CALL(snd_pcm_set_params, STATE, RING, 0, 8192, 2048, 0, 2, 5, 7, MESSAGE, RESULT));
-    answered(CALL(snd_pcm_set_params, STATE, RING, 0, 8192, 3000, 0, 2, 5, 7, MESSAGE, RESULT));
-    answered(CALL(snd_pcm_prepare, STATE, RING, 0, MESSAGE, RESULT));
-    CALL(snd_pcm_start, STATE, RING, 0, MESSAGE, RESULT);
-    CALL(snd_pcm_start, STATE, RING, 0, MESSAGE, RESULT); /* Busy */
-    CALL(snd_feed_failure, STATE, MESSAGE, RESULT);
-    answered(CALL(snd_pcm_start, STATE, RING, 0, MESSAGE, RESULT));
-    CALL(snd_jacks, STATE, RESULT);
-    CALL(snd_streams, STATE, RESULT);
-    CALL(snd_chmaps, STATE, RESULT);
-    CALL(snd_model_params, MODEL, 0, RESULT);
-}
-
-/* One transfer: what is offered goes to the model device, the oldest comes back, quietly every third turn. */
-static void transfer(uint64_t budget, uint32_t failing) {
-    static uint8_t request[4 + FRAMES];
-    uint8_t status[8] = {0};
-    uint64_t said = CALL(snd_pcm_xfer_start, STATE, RING, 0, frames, sizeof frames, budget, MESSAGE);
-    for (uint32_t turn = 0, back = 0; said == SND_GOING; turn++) {
-        CALL(snd_offered, RING, frames, sizeof frames, RESULT);
-        uint64_t there, at, length;
-        memcpy(&there, s.result, 8);
-        memcpy(&at, s.result + 16, 8);
-        memcpy(&length, s.result + 24, 8);
-        if (there) {
-            memcpy(request + 4, frames + at, length);
-            CALL(snd_model_payload, MODEL, request, 4 + length, RESULT);
-            CALL(snd_model_transfer, MODEL, request, 4 + length, status, sizeof status);
-        }
-        int quiet = turn % 3 == 2;
-        said = CALL(snd_turn, RING, frames, sizeof frames, !quiet, back % 32, back == failing ? 0x8003 : 0x8000);
-        back += !quiet;
-    }
-    CALL(snd_ring_running, RING, RESULT);
-    CALL(snd_ring_in_flight, RING, RESULT);
-    CALL(snd_ring_free_descriptors, RING, RESULT);
-    CALL(snd_ring_turns_run, RING, RESULT);
-    CALL(snd_ring_stream, RING, RESULT);
-    CALL(snd_ring_carried, RING, 1, RESULT);
-    CALL(snd_ring_oldest, RING, RESULT);
-    for (int i = 0; i < 10; i++) {
-        uint64_t oldest;
-        CALL(snd_ring_oldest, RING, RESULT);
-        memcpy(&oldest, s.result + 8, 8);
-        CALL(snd_drain_turn, RING, 1, oldest, 0x8000);
-    }
-}
-
-static void others(void) {
-    uint8_t event[8] = {0, 0x10, 0, 0, 7, 0, 0, 0};
-    CALL(snd_latest_notification, event, sizeof event, RESULT);
-    event[0] = 2;
-    CALL(snd_latest_notification, event, sizeof event, RESULT);
-    CALL(snd_model_played, MODEL, 0, RESULT);
-    answered(CALL(snd_pcm_stop, STATE, RING, 0, MESSAGE, RESULT));
-    answered(CALL(snd_pcm_release, STATE, RING, 0, MESSAGE, RESULT));
-}
 
 /* Keeps a number below its stack pointer for two instructions. */
 __attribute__((section("driver"), noinline)) static uint64_t keeps_below(uint64_t number) {
     uint64_t read;
     __asm__ volatile("movq %1, -64(%%rsp)\n\tnop\n\tmovq -64(%%rsp), %0" : "=r"(read) : "r"(number) : "memory");
     return read;
-}
-
-static void session(int self) {
-    if (self)
-        CALL(keeps_below, 7);
-    make();
-    control();
-    transfer(100, ~0u);
-    transfer(100, 7);
-    transfer(5, ~0u);
-    others();
 }
 
 /* A child that makes the session; where it is to be stepped, the first breakpoint stops it. */
@@ -189,7 +75,9 @@ static pid_t child(int self, int step) {
         stepped = step;
         if (step && ptrace(PTRACE_TRACEME, 0, 0, 0) != 0)
             _exit(4);
-        session(self);
+        if (self)
+            CALL(keeps_below, 7);
+        session();
         _exit(0);
     }
     return pid;
@@ -199,9 +87,9 @@ static int within(uint64_t at) { return at >= (uintptr_t)__start_driver && at < 
 
 /* Steps the child to its end; gives the number of instructions of the archive at which the bytes below were overwritten, or -1.
  * A stop at a breakpoint comes from the kernel, one after a step from the trace. */
-static long step(pid_t pid, int *status) {
+static long step(pid_t pid, int byte, int *status) {
     static uint8_t noise[BELOW];
-    memset(noise, 0xa5, sizeof noise);
+    memset(noise, byte, sizeof noise);
     long points = 0;
     int inside = 0;
     for (waitpid(pid, status, 0); WIFSTOPPED(*status); waitpid(pid, status, 0)) {
@@ -244,26 +132,32 @@ static int wrong(const struct log *calm, const struct log *stepped) {
     return count;
 }
 
+/* The session, stepped, with this noise: how many calls came out otherwise; -1: it could not be tried. */
+static int tried(int self, int byte, const struct log *calm) {
+    int status;
+    book = shared();
+    long points = book ? step(child(self, 1), byte, &status) : 0;
+    if (points <= 0) {
+        printf("the session could not be stepped\n");
+        return -1;
+    }
+    int count = wrong(calm, book) + (!WIFEXITED(status) || WEXITSTATUS(status) != 0);
+    printf("%ld instructions of the archive in %d calls, the bytes below the stack pointer overwritten with %#x at each: %d calls came out otherwise\n", points, calm->calls, byte, count);
+    return count;
+}
+
 int main(int argc, char **argv) {
     int self = argc > 1 && strcmp(argv[1], "self") == 0, status;
-    for (size_t i = 0; i < sizeof frames; i++)
-        frames[i] = i * 7;
-    struct log *calm = shared(), *stepped = shared();
-    if (!calm || !stepped)
+    struct log *calm = book = shared();
+    if (!calm)
         return 2;
-    book = calm;
     waitpid(child(self, 0), &status, 0);
     if (!WIFEXITED(status) || WEXITSTATUS(status) != 0) {
         printf("the session itself failed: status %#x after %d calls\n", status, calm->calls);
         return 2;
     }
-    book = stepped;
-    long points = step(child(self, 1), &status);
-    if (points <= 0) {
-        printf("the session could not be stepped\n");
+    int first = tried(self, 0xa5, calm), second = tried(self, 0x5a, calm);
+    if (first < 0 || second < 0)
         return 2;
-    }
-    int count = wrong(calm, stepped) + (!WIFEXITED(status) || WEXITSTATUS(status) != 0);
-    printf("%ld instructions of the archive in %d calls, the bytes below the stack pointer overwritten at each: %d calls came out otherwise\n", points, calm->calls, count);
-    return count != 0;
+    return first != 0 || second != 0;
 }

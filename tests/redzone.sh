@@ -1,5 +1,5 @@
 # An interrupt on the stack that it meets does no harm: a session of calls comes out the same where the bytes below the stack pointer are overwritten at
-# every single instruction of the archive (tests/redzone.c); one function that does keep a number there is seen.
+# every single instruction of the archive (tests/redzone.c); one function that does keep a number there is seen. tests/sweep.sh does it with interrupts, in QEMU.
 cd "$(dirname "$0")/.." || exit 2
 [ "$(uname -m)" = x86_64 ] || { echo "the red zone is x86-64's: nothing to try on $(uname -m)"; exit 77; }
 for tool in gcc objcopy objdump; do

@@ -1,0 +1,144 @@
+/* A session of calls of all entries of snd.h, as a console makes them: every kind of answer is among them. Who includes it brings memcpy, memset and CALL,
+ * which makes a call and gives its answer; all that calls may change stands in `s`. A call's arguments may be evaluated more than once. */
+#include "snd.h"
+
+enum { JACKS = 3, STREAMS = 2, MAPS = 1, FRAMES = 40000 };
+
+/* Everything that a call may change. */
+struct stores {
+    uint64_t answer;
+    uint8_t state[SND_STATE_SIZE], ring[SND_RING_SIZE], message[SND_MESSAGE_SIZE], result[SND_RESULT_SIZE];
+    uint8_t page[SND_PAGE_SIZE], model[SND_MODEL_SIZE], status[8];
+};
+
+static struct stores s;
+static uint8_t frames[FRAMES];
+
+#define STATE s.state, sizeof s.state
+#define RING s.ring, sizeof s.ring
+#define MESSAGE s.message, sizeof s.message
+#define RESULT s.result, sizeof s.result
+#define PAGE s.page, sizeof s.page
+#define MODEL s.model, sizeof s.model
+
+/* Hands each request to the model device and feeds its answer, until the call says something else. */
+static uint64_t answered(uint64_t said) {
+    while (said >= SND_SEND && said < SND_GOING) {
+        CALL(snd_model_control, MODEL, s.message, said - SND_SEND, PAGE, RESULT);
+        said = CALL(snd_feed, STATE, PAGE, MESSAGE, RESULT);
+    }
+    return said;
+}
+
+static void sizes(void) {
+    CALL(snd_state_size);
+    CALL(snd_ring_size);
+    CALL(snd_message_size);
+    CALL(snd_result_size);
+    CALL(snd_page_size);
+    CALL(snd_model_size);
+}
+
+static void make(void) {
+    uint8_t jacks[JACKS * 24] = {0}, pcms[STREAMS * 32] = {0}, maps[MAPS * 24] = {0};
+    jacks[4] = 1; /* the first jack has REMAP */
+    for (int i = 0; i < STREAMS; i++) {
+        memset(pcms + 32 * i + 8, 0xff, 2);  /* formats */
+        memset(pcms + 32 * i + 16, 0xff, 2); /* rates */
+        pcms[32 * i + 24] = i;               /* direction */
+        pcms[32 * i + 25] = 1;
+        pcms[32 * i + 26] = 2;
+    }
+    CALL(snd_model_new, MODEL, jacks, sizeof jacks, pcms, sizeof pcms, maps, sizeof maps);
+    CALL(snd_new, STATE, JACKS, STREAMS, MAPS);
+    CALL(snd_ring_new, RING);
+}
+
+static void control(void) {
+    answered(CALL(snd_output_streams, STATE, RING, MESSAGE, RESULT));
+    answered(CALL(snd_input_streams, STATE, RING, MESSAGE, RESULT));
+    answered(CALL(snd_rates_supported, STATE, RING, 1, MESSAGE, RESULT));
+    answered(CALL(snd_formats_supported, STATE, RING, 1, MESSAGE, RESULT));
+    answered(CALL(snd_channel_range_supported, STATE, RING, 0, MESSAGE, RESULT));
+    answered(CALL(snd_features_supported, STATE, RING, 0, MESSAGE, RESULT));
+    answered(CALL(snd_features_supported, STATE, RING, STREAMS, MESSAGE, RESULT));
+    answered(CALL(snd_jack_remap, STATE, RING, 0, 1, 2, MESSAGE, RESULT));
+    answered(CALL(snd_jack_remap, STATE, RING, 1, 1, 2, MESSAGE, RESULT));
+    answered(CALL(snd_pcm_set_params, STATE, RING, 0, 8192, 2048, 0, 2, 5, 7, MESSAGE, RESULT));
+    answered(CALL(snd_pcm_set_params, STATE, RING, 0, 8192, 3000, 0, 2, 5, 7, MESSAGE, RESULT));
+    answered(CALL(snd_pcm_prepare, STATE, RING, 0, MESSAGE, RESULT));
+    CALL(snd_pcm_start, STATE, RING, 0, MESSAGE, RESULT);
+    CALL(snd_pcm_start, STATE, RING, 0, MESSAGE, RESULT); /* Busy */
+    CALL(snd_feed_failure, STATE, MESSAGE, RESULT);
+    answered(CALL(snd_pcm_start, STATE, RING, 0, MESSAGE, RESULT));
+    CALL(snd_jacks, STATE, RESULT);
+    CALL(snd_streams, STATE, RESULT);
+    CALL(snd_chmaps, STATE, RESULT);
+    CALL(snd_model_params, MODEL, 0, RESULT);
+}
+
+/* One transfer: what is offered goes to the model device, the oldest comes back, quietly every third turn. */
+static void transfer(uint64_t budget, uint32_t failing) {
+    static uint8_t request[4 + FRAMES];
+    uint64_t said = CALL(snd_pcm_xfer_start, STATE, RING, 0, frames, sizeof frames, budget, MESSAGE);
+    for (uint32_t turn = 0, back = 0; said == SND_GOING; turn++) {
+        CALL(snd_offered, RING, frames, sizeof frames, RESULT);
+        uint64_t there, at, length;
+        memcpy(&there, s.result, 8);
+        memcpy(&at, s.result + 16, 8);
+        memcpy(&length, s.result + 24, 8);
+        if (there) {
+            memcpy(request + 4, frames + at, length);
+            CALL(snd_model_payload, MODEL, request, 4 + length, RESULT);
+            CALL(snd_model_transfer, MODEL, request, 4 + length, s.status, sizeof s.status);
+        }
+        int quiet = turn % 3 == 2;
+        said = CALL(snd_turn, RING, frames, sizeof frames, !quiet, back % 32, back == failing ? 0x8003 : 0x8000);
+        back += !quiet;
+    }
+    CALL(snd_ring_running, RING, RESULT);
+    CALL(snd_ring_in_flight, RING, RESULT);
+    CALL(snd_ring_free_descriptors, RING, RESULT);
+    CALL(snd_ring_turns_run, RING, RESULT);
+    CALL(snd_ring_stream, RING, RESULT);
+    CALL(snd_ring_carried, RING, 1, RESULT);
+    CALL(snd_ring_oldest, RING, RESULT);
+    for (int i = 0; i < 10; i++) {
+        uint64_t oldest;
+        CALL(snd_ring_oldest, RING, RESULT);
+        memcpy(&oldest, s.result + 8, 8);
+        CALL(snd_drain_turn, RING, 1, oldest, 0x8000);
+    }
+}
+
+static void refusals(void) {
+    CALL(snd_feed, STATE, PAGE, MESSAGE, RESULT);                      /* nothing is open */
+    CALL(snd_turn, RING, frames, sizeof frames, 0, 0, 0);              /* nothing runs */
+    CALL(snd_jacks, MODEL, RESULT);                                    /* no state */
+    CALL(snd_pcm_stop, s.state, 9, RING, 0, MESSAGE, RESULT);          /* too short */
+    CALL(snd_pcm_xfer_start, STATE, RING, 0, frames, 9, 1, MESSAGE);
+    CALL(snd_turn, RING, frames, 9, 1, 32, 0x8000);                    /* no such slot */
+}
+
+static void others(void) {
+    uint8_t event[8] = {0, 0x10, 0, 0, 7, 0, 0, 0};
+    CALL(snd_latest_notification, event, sizeof event, RESULT);
+    event[0] = 2;
+    CALL(snd_latest_notification, event, sizeof event, RESULT);
+    CALL(snd_model_played, MODEL, 0, RESULT);
+    answered(CALL(snd_pcm_stop, STATE, RING, 0, MESSAGE, RESULT));
+    answered(CALL(snd_pcm_release, STATE, RING, 0, MESSAGE, RESULT));
+}
+
+static void session(void) {
+    for (size_t i = 0; i < sizeof frames; i++)
+        frames[i] = i * 7;
+    sizes();
+    make();
+    control();
+    transfer(100, ~0u);
+    transfer(100, 7);
+    transfer(5, ~0u);
+    others();
+    refusals();
+}
