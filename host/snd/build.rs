@@ -10,17 +10,43 @@ use std::{env, fs};
 fn main() {
     println!("cargo:rerun-if-env-changed=SND_LIB");
     println!("cargo:rerun-if-changed=build.rs");
-    let archive = match env::var_os("SND_LIB") {
-        Some(path) => PathBuf::from(path),
-        None => own_archive(),
+    let (archive, name) = match env::var_os("SND_LIB") {
+        Some(path) => (PathBuf::from(path), "SND_LIB"),
+        None => (own_archive(), "the archive of this repository"),
     };
-    let Ok(archive) = archive.canonicalize() else {
-        stop(&format!("{}: no such archive", archive.display()))
-    };
+    if let Err(why) = look(&archive) {
+        stop(&format!("{name}: {}: {why}", archive.display()));
+    }
+    let archive = archive.canonicalize().unwrap_or(archive);
     println!("cargo:rerun-if-changed={}", archive.display());
     // for the test that links a host in C
     println!("cargo:rustc-env=SND_ARCHIVE={}", archive.display());
     link(&archive);
+}
+
+/// Says in words what is wrong with an archive, before the linker does so in others.
+fn look(archive: &Path) -> Result<(), String> {
+    if archive.as_os_str().is_empty() {
+        return Err("it is set and names nothing; unset it, or name the archive".into());
+    }
+    if archive.is_dir() {
+        return Err("a directory; name the archive in it, as in DIRECTORY/libconsole.a".into());
+    }
+    // a relative path begins at the manifest, not where cargo was called
+    let from = if archive.is_relative() {
+        ", seen from host/snd"
+    } else {
+        ""
+    };
+    let bytes = fs::read(archive).map_err(|why| format!("no archive can be read there{from}: {why}"))?;
+    if !bytes.starts_with(b"!<arch>\n") {
+        return Err("no archive: its first bytes are not '!<arch>'".into());
+    }
+    // a symbol's name ends in a zero byte, in the archive's table as in those of its objects
+    if !bytes.windows(8).any(|name| name == b"snd_new\0") {
+        return Err("an archive, but not the driver's: it has no snd_new; tools/staticlib makes it".into());
+    }
+    Ok(())
 }
 
 /// The archive of this repository, made anew where it is stale.
