@@ -1,6 +1,8 @@
 //! The port through the safe crate, as a Rust console writes it.
 use crate::ways::{BUDGET, EVENT, FULL, Way, full_pages, page};
-use snd::{Format, PAGE_SIZE, Page, Params, PcmInfo, Rate, Reading, Ring, STATUS_OK, Sound, Step, StreamList, Turn};
+use snd::{
+    Format, PAGE_SIZE, Page, Params, PcmInfo, Rate, Reading, Refusal, Ring, STATUS_OK, Sound, Step, StreamList, Turn,
+};
 use std::hint::black_box;
 
 pub struct Safe {
@@ -20,7 +22,10 @@ fn of(bytes: [u8; PAGE_SIZE]) -> Page {
 fn listed(sound: &mut Sound, ring: &Ring, answers: &[Page]) -> StreamList {
     let mut step = sound.output_streams(ring).expect("it is idle");
     for answer in answers {
-        step = sound.feed(answer).expect("the answers are good");
+        step = match step {
+            Step::Send(exchange) => sound.feed(exchange, answer).expect("the answers are good"),
+            done => done,
+        };
     }
     match step {
         Step::Done(list) => list,
@@ -41,6 +46,14 @@ impl Safe {
         }
     }
 
+    /// Feeds ok to the one request of a call.
+    fn answered(&mut self, step: Result<Step<()>, Refusal>) {
+        let Ok(Step::Send(exchange)) = step else {
+            unreachable!("set-up is done")
+        };
+        assert_eq!(self.sound.feed(exchange, black_box(&self.ok)), Ok(Step::Done(())));
+    }
+
     fn start(&mut self, frames: &[u8]) {
         let started = self.sound.pcm_xfer_start(&mut self.ring, 0, frames, BUDGET);
         assert_eq!(started, Ok(Step::Done(())));
@@ -58,13 +71,13 @@ impl Way for Safe {
             format,
             rate,
         };
-        assert!(self.sound.pcm_set_params(&self.ring, 0, to).is_ok());
-        assert_eq!(self.sound.feed(&self.ok), Ok(Step::Done(())));
+        let step = self.sound.pcm_set_params(&self.ring, 0, to);
+        self.answered(step);
     }
 
     fn control(&mut self) {
-        assert!(matches!(self.sound.pcm_prepare(&self.ring, 0), Ok(Step::Send(_))));
-        assert_eq!(self.sound.feed(black_box(&self.ok)), Ok(Step::Done(())));
+        let step = self.sound.pcm_prepare(&self.ring, 0);
+        self.answered(step);
     }
 
     fn set_up(&mut self) {
@@ -77,11 +90,10 @@ impl Way for Safe {
         self.start(frames);
         for turns in 1.. {
             let offer = self.ring.offered(frames).expect("it runs");
-            let completed = |slot: usize| Reading::Completed {
-                slot: slot as u32,
+            let reading = offer.map_or(Reading::Quiet, |offer| Reading::Completed {
+                slot: offer.slot,
                 status: STATUS_OK,
-            };
-            let reading = offer.map_or(Reading::Quiet, |offer| completed(offer.slot));
+            });
             if self.ring.turn(frames, reading).expect("the device is good") == Turn::Done {
                 return turns;
             }

@@ -2,8 +2,8 @@
 //! this only has to look whether that function is asked for.
 #![no_std]
 use snd::{
-    Bits, Format, Message, Model, Page, Params, Rate, Reading, Refusal, Ring, Sound, Step, StreamList, Value,
-    latest_notification,
+    Features, Format, Formats, Model, Page, Params, Rate, Rates, Reading, Refusal, Ring, Sound, Started, Step,
+    StreamList, Value, latest_notification,
 };
 
 unsafe extern "C" {
@@ -30,14 +30,18 @@ pub struct Console {
 /// What comes of it; the sum keeps the compiler from leaving a call out.
 #[unsafe(no_mangle)]
 pub extern "C" fn guest_main(console: &mut Console) -> u64 {
-    [calls, lists, transfer, reads, device, values]
+    [calls, supported, feeds, lists, turns, transfer, reads, device, values]
         .iter()
         .fold(0, |sum, part| part(console).wrapping_add(sum))
 }
 
+fn sum(bytes: &[u8]) -> u64 {
+    bytes.iter().map(|&byte| u64::from(byte)).sum()
+}
+
 fn length<T: Value>(step: Result<Step<T>, Refusal>) -> u64 {
     match step {
-        Ok(Step::Send(request)) => Message::bytes(&request).iter().map(|&byte| u64::from(byte)).sum(),
+        Ok(Step::Send(exchange)) => sum(exchange.bytes()) ^ sum(exchange.message().bytes()),
         Ok(Step::Done(_)) => 0,
         Err(refusal) => refusal.number().into(),
     }
@@ -45,13 +49,10 @@ fn length<T: Value>(step: Result<Step<T>, Refusal>) -> u64 {
 
 fn calls(console: &mut Console) -> u64 {
     let Console {
-        sound,
-        ring,
-        page,
-        number,
-        ..
+        sound, ring, number, ..
     } = console;
-    let (format, rate) = (Format::S16, Rate::Hz48000);
+    let format = Format::from_number(*number as u8).unwrap_or(Format::S16);
+    let rate = Rate::from_number(*number as u8).unwrap_or(Rate::Hz48000);
     let to = Params {
         buffer: *number,
         period: *number,
@@ -67,38 +68,61 @@ fn calls(console: &mut Console) -> u64 {
         length(sound.pcm_release(ring, *number)),
         length(sound.pcm_start(ring, *number)),
         length(sound.pcm_stop(ring, *number)),
-        length(sound.rates_supported(ring, *number)),
-        length(sound.formats_supported(ring, *number)),
-        length(sound.channel_range_supported(ring, *number)),
-        length(sound.features_supported(ring, *number)),
-        length(sound.feed::<()>(page)),
-        length(sound.feed::<StreamList>(page)),
-        length(sound.feed_failure::<Bits>()),
     ];
     said.iter().fold(0, |sum, said| said.wrapping_add(sum))
 }
 
-fn lists(console: &mut Console) -> u64 {
+fn supported(console: &mut Console) -> u64 {
     let Console {
         sound, ring, number, ..
     } = console;
+    let said = [
+        length(sound.rates_supported(ring, *number)),
+        length(sound.formats_supported(ring, *number)),
+        length(sound.channel_range_supported(ring, *number)),
+        length(sound.features_supported(ring, *number)),
+    ];
+    let bits = u64::from(*number);
+    let has = [
+        Rates::from_bits(bits).has(Rate::Hz48000),
+        Formats::from_bits(bits).has(Format::S16),
+        Features::from_bits(*number).has(Features::MSG_POLLING | Features::EVT_XRUNS),
+    ];
+    said.iter().fold(0, |sum, said| said.wrapping_add(sum)) ^ has.map(u64::from).iter().sum::<u64>()
+}
+
+fn feeds(console: &mut Console) -> u64 {
+    let Console { sound, ring, page, .. } = console;
+    let fed = match sound.output_streams(ring) {
+        Ok(Step::Send(exchange)) => length(sound.feed(exchange, page)),
+        _ => 0,
+    };
+    let failed = match sound.pcm_stop(ring, 0) {
+        Ok(Step::Send(exchange)) => length(sound.feed_failure(exchange)),
+        _ => 0,
+    };
+    fed ^ failed ^ u64::from(sound.abandon().is_ok())
+}
+
+fn lists(console: &mut Console) -> u64 {
+    let Console { sound, ring, .. } = console;
     let lists = [sound.output_streams(ring), sound.input_streams(ring)];
     let sum = |list: &StreamList| list.ids().iter().map(|&id| u64::from(id)).sum();
     let ids = lists.iter().map(|list| match list {
         Ok(Step::Done(list)) => sum(list),
-        _ => u64::from(Bits(u64::from(*number)).has(*number as u8)),
+        _ => 0,
     });
     ids.fold(0, u64::wrapping_add)
 }
 
-fn transfer(console: &mut Console) -> u64 {
+fn turns(console: &mut Console) -> u64 {
     let frames = console.bytes.get(..console.length).unwrap_or_default();
     let Console {
         sound, ring, number, ..
     } = console;
     let started = length(sound.pcm_xfer_start(ring, *number, frames, u64::MAX));
     let offered = match ring.offered(frames) {
-        Ok(Some(offer)) => (offer.slot ^ offer.offset ^ offer.period.len()) as u64,
+        Ok(Some(offer)) => u64::from(offer.slot) ^ (offer.offset ^ offer.period.len()) as u64,
         Ok(None) => 0,
         Err(refusal) => refusal.number().into(),
     };
@@ -115,21 +139,47 @@ fn transfer(console: &mut Console) -> u64 {
     started ^ offered ^ u64::from(turned) ^ u64::from(drained)
 }
 
+fn transfer(console: &mut Console) -> u64 {
+    static FRAMES: [u8; 64] = [7; 64];
+    let Console {
+        sound, ring, number, ..
+    } = console;
+    let reading = Reading::Completed {
+        slot: *number,
+        status: *number,
+    };
+    let mut transfer = match sound.transfer(ring, *number, &FRAMES, u64::MAX) {
+        Started::Runs(transfer) => transfer,
+        Started::SetUp(exchange, frames) => return length(sound.feed_failure(exchange)) ^ sum(frames),
+        Started::Refused(refusal, frames) => return u64::from(refusal.number()) ^ sum(frames),
+    };
+    let offered = match transfer.offered() {
+        Ok(Some(offer)) => u64::from(offer.slot) ^ sum(offer.period),
+        Ok(None) => 0,
+        Err(refusal) => refusal.number().into(),
+    };
+    let turned = transfer.turn(reading).is_ok();
+    let drained = transfer.drain_turn(reading).is_ok();
+    let kept = sum(transfer.frames()) ^ transfer.ring().turns_run().unwrap_or(0);
+    let ended = transfer.end().map_or(0, |frames| sum(frames));
+    offered ^ u64::from(turned) ^ u64::from(drained) ^ kept ^ ended
+}
+
 fn reads(console: &mut Console) -> u64 {
     let Console {
-        sound, ring, length, ..
+        sound, ring, number, ..
     } = console;
     let counts = [sound.jacks(), sound.streams(), sound.chmaps()];
     let reads = [
         ring.in_flight(),
         ring.free_descriptors(),
         ring.turns_run(),
-        ring.stream(),
+        ring.stream().map(u64::from),
     ];
     let carried = ring
-        .carried(*length)
+        .carried(*number)
         .map_or(0, |part| (part.offset ^ part.length) as u64);
-    let oldest = ring.oldest().map_or(0, |slot| slot.unwrap_or(0) as u64);
+    let oldest = ring.oldest().map_or(0, |slot| u64::from(slot.unwrap_or(0)));
     let counts = counts.iter().fold(0, |sum, count| sum ^ u64::from(count.unwrap_or(0)));
     let reads = reads.iter().fold(0, |sum, read| sum ^ read.unwrap_or(0));
     counts ^ reads ^ carried ^ oldest ^ u64::from(ring.running().is_ok())

@@ -1,11 +1,11 @@
 //! The audio loop of docs/HOST.md, tried on the model device: `cargo run -p snd --example audio_loop`.
 
-use snd::{Page, Reading, Refusal, Ring, Sound, Step, Turn};
+use snd::{Page, Reading, Refusal, Ring, Sound, Started, Step, Turn};
 
 /// What the host's queues do. None of the three may wait for long.
 trait Queues {
     fn control(&mut self, request: &[u8], page: &mut Page) -> bool; // send, and wait for the answer; false: the queue failed
-    fn submit(&mut self, slot: usize, stream: u32, period: &[u8]); // put a period on the transmit queue, under this slot
+    fn submit(&mut self, slot: u32, stream: u32, period: &[u8]); // put a period on the transmit queue, under this slot
     fn poll(&mut self) -> Reading; // look at the transmit queue once; a completion of nothing that is out has slot u32::MAX
 }
 
@@ -14,41 +14,46 @@ trait Queues {
 type Early = [Option<Reading>; 32];
 
 fn keep(early: &mut Early, reading: Reading) {
-    if let Reading::Completed { slot, .. } = reading
-        && let Some(place) = early.get_mut(slot as usize)
-    {
-        *place = Some(reading);
+    if let Reading::Completed { slot, .. } = reading {
+        if let Some(place) = early.get_mut(slot as usize) {
+            *place = Some(reading);
+        }
     }
 }
 
-/// Speaks one announcement, in at most `budget` turns.
+/// Speaks one announcement, in at most `budget` turns. A refusal drops the transfer: its frames then stay where they are, and the ring knows
+/// what is owed.
 fn speak(
     sound: &mut Sound,
     ring: &mut Ring,
     queues: &mut impl Queues,
     early: &mut Early,
     stream: u32,
-    frames: &[u8],
+    frames: &'static [u8],
     budget: u64,
 ) -> Result<(), Refusal> {
     let mut page = Page::new();
     let mut step = sound.pcm_start(ring, stream)?;
-    while let Step::Send(request) = step {
-        let answered = queues.control(request.bytes(), &mut page);
+    while let Step::Send(exchange) = step {
+        let answered = queues.control(exchange.bytes(), &mut page);
         step = if answered {
-            sound.feed(&page)?
+            sound.feed(exchange, &page)?
         } else {
-            sound.feed_failure()?
+            sound.feed_failure(exchange)?
         };
     }
-    sound.pcm_xfer_start(ring, stream, frames, budget)?; // not Busy: nothing was in flight
+    let mut transfer = match sound.transfer(ring, stream, frames, budget) {
+        Started::Runs(transfer) => transfer,
+        Started::Refused(refusal, _frames) => return Err(refusal), // not Busy: nothing was in flight
+        Started::SetUp(..) => return Err(Refusal::Unknown),        // the start of the stream had set-up done
+    };
     *early = [None; 32];
     loop {
-        if let Some(offer) = ring.offered(frames)? {
+        if let Some(offer) = transfer.offered()? {
             queues.submit(offer.slot, stream, offer.period);
         }
         let reading = queues.poll();
-        let said = ring.turn(frames, reading);
+        let said = transfer.turn(reading);
         if said.inspect_err(|_| keep(early, reading))? == Turn::Done {
             return Ok(()); // the device has accepted every byte of the frames, in order; what it has not played yet is its own
         }
@@ -61,7 +66,7 @@ fn drain(ring: &mut Ring, queues: &mut impl Queues, early: &mut Early, turns: u6
         let Some(oldest) = ring.oldest()? else {
             return Ok(true);
         };
-        let kept = early.get_mut(oldest).and_then(Option::take);
+        let kept = early.get_mut(oldest as usize).and_then(Option::take);
         let reading = kept.unwrap_or_else(|| queues.poll());
         match ring.drain_turn(reading) {
             Ok(()) => {}
@@ -89,14 +94,11 @@ impl Queues for Prompt {
         self.device.control(request, page).is_ok()
     }
 
-    fn submit(&mut self, slot: usize, stream: u32, period: &[u8]) {
+    fn submit(&mut self, slot: u32, stream: u32, period: &[u8]) {
         let request = [&stream.to_le_bytes(), period].concat();
         let status = self.device.transfer(&request).map_or(0, |answer| answer.status);
         self.heard.extend(self.device.payload(&request).unwrap_or_default());
-        self.completed.push_back(Reading::Completed {
-            slot: slot as u32,
-            status,
-        });
+        self.completed.push_back(Reading::Completed { slot, status });
     }
 
     fn poll(&mut self) -> Reading {
@@ -131,9 +133,9 @@ pub fn main() -> Result<(), Refusal> {
         rate: Rate::Hz48000,
     };
     let mut step = sound.pcm_set_params(&ring, 0, to)?;
-    while let Step::Send(request) = step {
-        queues.control(request.bytes(), &mut page);
-        step = sound.feed(&page)?;
+    while let Step::Send(exchange) = step {
+        queues.control(exchange.bytes(), &mut page);
+        step = sound.feed(exchange, &page)?;
     }
     let words = b"feeder one four";
     speak(&mut sound, &mut ring, &mut queues, &mut early, 0, words, 5)?;

@@ -18,9 +18,9 @@ pub(crate) fn u64_at(bytes: &[u8], at: usize) -> u64 {
     u64::from_le_bytes(run(bytes, at))
 }
 
-/// An offset or a length: the entries made it from a `usize`, so it fits one.
+/// An offset or a length; a `usize` has 64 bits on every target that the crate takes.
 pub(crate) fn size_at(bytes: &[u8], at: usize) -> usize {
-    usize::try_from(u64_at(bytes, at)).unwrap_or(usize::MAX)
+    u64_at(bytes, at) as usize
 }
 
 /// The part of `whole` that a result names by offset and length at a place; `None` if it is no part of it.

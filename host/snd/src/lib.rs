@@ -16,9 +16,9 @@
 //! let streams = loop {
 //!     match step {
 //!         Step::Done(streams) => break streams,
-//!         Step::Send(request) => {
-//!             device.control(request.bytes(), &mut page)?;
-//!             step = sound.feed(&page)?;
+//!         Step::Send(exchange) => {
+//!             device.control(exchange.bytes(), &mut page)?;
+//!             step = sound.feed(exchange, &page)?;
 //!         }
 //!     }
 //! };
@@ -26,7 +26,9 @@
 //! # Ok::<(), snd::Refusal>(())
 //! ```
 //!
-//! A transfer goes turn by turn; see [`Ring::turn`].
+//! A transfer goes turn by turn, and keeps its frames until no device reads them: see [`Transfer`].
+//!
+//! With the feature `alloc` frames may be a `Vec<u8>` or a `Box<[u8]>`; else the crate needs no allocator.
 #![no_std]
 #![deny(unsafe_code)]
 #![deny(
@@ -39,16 +41,24 @@
     clippy::unreachable
 )]
 
+#[cfg(target_endian = "big")]
+compile_error!("snd is for little-endian targets: the driver's archive is made for no other");
+#[cfg(not(target_pointer_width = "64"))]
+compile_error!("snd is for targets of 64 bits: a length has 64 bits in the driver's entries");
+
 mod answer;
 mod bytes;
 mod event;
 pub mod ffi;
+mod layout;
 mod model;
 mod params;
 mod records;
 mod ring;
 mod sound;
 mod step;
+mod supported;
+mod transfer;
 
 pub use answer::{Answer, Refusal};
 pub use event::{Event, EventKind, latest_notification};
@@ -57,7 +67,9 @@ pub use params::{Format, Params, Rate};
 pub use records::{ChannelMap, JackInfo, PcmInfo};
 pub use ring::{Carried, Offer, Reading, Ring, Turn};
 pub use sound::Sound;
-pub use step::{Bits, ChannelRange, Message, Page, Step, StreamList, Value};
+pub use step::{Exchange, Message, Page, Step, StreamList, Value};
+pub use supported::{ChannelRange, Features, Formats, Rates};
+pub use transfer::{Frames, Started, Transfer};
 
 /// The size of a state's store.
 pub const STATE_SIZE: usize = 14_320;
@@ -74,5 +86,5 @@ pub const MODEL_SIZE: usize = 16_427;
 
 /// The status by which a device says that all is well.
 pub const STATUS_OK: u32 = 0x8000;
-/// How many slots a ring has.
+/// How many slots a ring has: the length of an array by slot.
 pub const SLOTS: usize = 32;

@@ -1,9 +1,11 @@
 //! The model device: one request, one answer. For tests and demonstrations.
 use crate::answer::Said;
 use crate::bytes::{part_at, run, size_at, u32_at, u64_at};
+use crate::layout::model_counts;
 use crate::step::{Page, told};
-use crate::{MODEL_SIZE, Refusal, ffi};
+use crate::{MODEL_SIZE, PAGE_SIZE, Refusal, ffi};
 use core::borrow::{Borrow, BorrowMut};
+use core::fmt;
 
 /// What the model says to a transfer request.
 #[derive(Clone, Copy, PartialEq, Eq, Debug)]
@@ -30,6 +32,7 @@ pub struct TransferStatus {
 /// assert_eq!(device.transfer(&request)?.status, STATUS_OK);
 /// assert_eq!(device.payload(&request)?, b"one");
 /// assert_eq!(device.played(0)?, 3);
+/// assert_eq!(format!("{device:?}"), "Model { jacks: 0, streams: 1, chmaps: 0 }");
 /// # Ok::<(), snd::Refusal>(())
 /// ```
 #[derive(Clone, PartialEq, Eq)]
@@ -53,10 +56,14 @@ impl<M: BorrowMut<[u8; MODEL_SIZE]>> Model<M> {
     /// Answers a control request into a page, and says how many of its bytes are the answer.
     pub fn control(&mut self, request: &[u8], page: &mut Page) -> Result<usize, Refusal> {
         let store = self.0.borrow_mut();
-        told(
+        let length = told(
             |result| ffi::snd_model_control(store, request, page.bytes_mut(), result),
             |result| size_at(result, 0),
-        )
+        )?;
+        if length > PAGE_SIZE {
+            return Err(Refusal::Unknown);
+        }
+        Ok(length)
     }
 
     /// Takes a transfer request: the stream's id, 4 bytes, then the payload.
@@ -67,6 +74,22 @@ impl<M: BorrowMut<[u8; MODEL_SIZE]>> Model<M> {
             status: u32_at(&answer, 0),
             latency: u32_at(&answer, 4),
         })
+    }
+}
+
+/// Short: the counts, or that the store is inconsistent.
+impl<M: Borrow<[u8; MODEL_SIZE]>> fmt::Debug for Model<M> {
+    fn fmt(&self, f: &mut fmt::Formatter<'_>) -> fmt::Result {
+        // no other read tells an inconsistent store apart from a stream too high
+        if self.payload(&[]).is_err() {
+            return f.write_str("Model(inconsistent)");
+        }
+        let [jacks, streams, chmaps] = model_counts(self.store());
+        let mut said = f.debug_struct("Model");
+        said.field("jacks", &jacks)
+            .field("streams", &streams)
+            .field("chmaps", &chmaps)
+            .finish()
     }
 }
 

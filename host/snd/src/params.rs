@@ -1,10 +1,40 @@
 //! What a stream is set to.
 
-/// A sample format, by VirtIO's numbers.
-#[derive(Clone, Copy, PartialEq, Eq, Debug, Hash)]
-#[repr(u8)]
-#[allow(missing_docs)]
-pub enum Format {
+/// Makes the formats from one table: name, number.
+macro_rules! formats {
+    ($($name:ident = $number:literal,)*) => {
+        /// A sample format, by VirtIO's numbers.
+        ///
+        /// ```
+        /// use snd::Format;
+        /// assert_eq!(Format::from_number(5), Some(Format::S16));
+        /// assert_eq!(Format::S16 as u8, 5);
+        /// assert_eq!(Format::from_number(25), None);
+        /// ```
+        #[derive(Clone, Copy, PartialEq, Eq, Debug, Hash)]
+        #[repr(u8)]
+        #[allow(missing_docs)]
+        pub enum Format {
+            $($name = $number,)*
+        }
+
+        impl Format {
+            /// Every format, by number.
+            pub const ALL: &'static [Self] = &[$(Self::$name,)*];
+
+            /// The format of a number.
+            #[must_use]
+            pub const fn from_number(number: u8) -> Option<Self> {
+                match number {
+                    $($number => Some(Self::$name),)*
+                    _ => None,
+                }
+            }
+        }
+    };
+}
+
+formats! {
     ImaAdpcm = 0,
     MuLaw = 1,
     ALaw = 2,
@@ -42,6 +72,7 @@ macro_rules! rates {
         /// assert_eq!(Rate::from_hz(48_000), Some(Rate::Hz48000));
         /// assert_eq!((Rate::Hz48000 as u8, Rate::Hz48000.hz()), (7, 48_000));
         /// assert_eq!(Rate::from_hz(47_999), None);
+        /// assert_eq!((Rate::from_number(7), Rate::from_number(14)), (Some(Rate::Hz48000), None));
         /// ```
         #[derive(Clone, Copy, PartialEq, Eq, Debug, Hash)]
         #[repr(u8)]
@@ -53,6 +84,15 @@ macro_rules! rates {
         impl Rate {
             /// Every rate, ascending.
             pub const ALL: &'static [Self] = &[$(Self::$name,)*];
+
+            /// The rate of a number.
+            #[must_use]
+            pub const fn from_number(number: u8) -> Option<Self> {
+                match number {
+                    $($number => Some(Self::$name),)*
+                    _ => None,
+                }
+            }
 
             /// Frames a second.
             #[must_use]
@@ -98,7 +138,7 @@ pub struct Params {
     pub buffer: u32,
     /// Bytes of a period: what one submission carries.
     pub period: u32,
-    /// Feature bits.
+    /// Feature bits: see [`crate::Features`].
     pub features: u32,
     /// Channels of a frame.
     pub channels: u8,

@@ -1,9 +1,11 @@
 //! A transfer, turn by turn.
 use crate::answer::Said;
-use crate::bytes::{part_at, size_at, u64_at};
-use crate::step::{slot_if_there, told};
+use crate::bytes::{Results, part_at, size_at, u64_at};
+use crate::layout::new_ring;
+use crate::step::{narrow, slot_if_there, told};
 use crate::{RING_SIZE, Refusal, ffi};
 use core::borrow::{Borrow, BorrowMut};
+use core::fmt;
 
 /// What the host saw on the queue in a turn.
 #[derive(Clone, Copy, PartialEq, Eq, Debug)]
@@ -32,6 +34,7 @@ impl Reading {
 
 /// How a turn left the transfer, if it was not refused.
 #[derive(Clone, Copy, PartialEq, Eq, Debug)]
+#[must_use = "it says whether the transfer is over"]
 pub enum Turn {
     /// It runs: another turn.
     Going,
@@ -41,9 +44,10 @@ pub enum Turn {
 
 /// The period that the next turn submits.
 #[derive(Clone, Copy, PartialEq, Eq, Debug)]
+#[must_use = "the next turn takes it as submitted: hand it to the device first"]
 pub struct Offer<'f> {
     /// The slot to submit it in.
-    pub slot: usize,
+    pub slot: u32,
     /// Where it begins in the frames.
     pub offset: usize,
     /// That part of the frames itself.
@@ -67,6 +71,10 @@ pub struct Carried {
 /// let ring = Ring::new_in(&mut store);
 /// assert!(!ring.running()?);
 /// assert_eq!(ring.free_descriptors()?, 32);
+/// assert_eq!(format!("{ring:?}"), "Ring { running: false, in_flight: 0, stream: 0, turns_run: 0 }");
+///
+/// // one that is there from the start
+/// static RING: std::sync::Mutex<Ring> = std::sync::Mutex::new(Ring::new());
 /// # Ok::<(), snd::Refusal>(())
 /// ```
 #[derive(Clone, PartialEq, Eq)]
@@ -76,8 +84,8 @@ impl Ring {
     /// A ring with nothing in flight. For a device that held periods, a reset and a new ring are not enough: see "After a reset" in
     /// docs/HOST.md.
     #[must_use]
-    pub fn new() -> Self {
-        Self::new_in([0; RING_SIZE])
+    pub const fn new() -> Self {
+        Self(new_ring())
     }
 }
 
@@ -101,8 +109,26 @@ impl<R: Borrow<[u8; RING_SIZE]>> Ring<R> {
     }
 }
 
-/// Turns. The host asks what is offered, submits it to the device, polls the queue once, and runs the turn with what it saw. The order
-/// matters: a turn takes the offered period as submitted, also where it ends the transfer.
+/// Short: what runs and what is in flight, or that the store is inconsistent.
+impl<R: Borrow<[u8; RING_SIZE]>> fmt::Debug for Ring<R> {
+    fn fmt(&self, f: &mut fmt::Formatter<'_>) -> fmt::Result {
+        let reads = (self.running(), self.in_flight(), self.stream(), self.turns_run());
+        let (Ok(running), Ok(in_flight), Ok(stream), Ok(turns_run)) = reads else {
+            return f.write_str("Ring(inconsistent)");
+        };
+        let mut said = f.debug_struct("Ring");
+        said.field("running", &running).field("in_flight", &in_flight);
+        said.field("stream", &stream).field("turns_run", &turns_run).finish()
+    }
+}
+
+/// Turns, for hosts that keep the frames themselves; [`crate::Transfer`] keeps them for you. The host asks what is offered, submits it to
+/// the device, polls the queue once, and runs the turn with what it saw. The order matters: a turn takes the offered period as submitted,
+/// also where it ends the transfer.
+///
+/// **Keep the frames.** A turn borrows them for the call alone, and the device reads a period from its submission until its slot is freed.
+/// Until no transfer runs and nothing is in flight ([`Ring::running`], [`Ring::in_flight`]), drain turns included, they must be neither
+/// freed nor changed, and nothing here sees to it.
 ///
 /// ```
 /// use snd::{Model, Page, Reading, Refusal, Ring, Sound, Step, Turn, STATUS_OK};
@@ -111,9 +137,9 @@ impl<R: Borrow<[u8; RING_SIZE]>> Ring<R> {
 /// # let (mut sound, mut ring, mut page) = (Sound::new(0, 1, 0), Ring::new(), Page::new());
 /// # let to = Params { buffer: 8, period: 4, features: 0, channels: 2, format: Format::S16, rate: Rate::Hz48000 };
 /// # let mut step = sound.pcm_set_params(&ring, 0, to)?;
-/// # while let Step::Send(request) = step {
-/// #     device.control(request.bytes(), &mut page)?;
-/// #     step = sound.feed(&page)?;
+/// # while let Step::Send(exchange) = step {
+/// #     device.control(exchange.bytes(), &mut page)?;
+/// #     step = sound.feed(exchange, &page)?;
 /// # }
 /// // stream 0 has a period of 4 bytes; this device completes each period at once
 /// let frames = b"ten bytes.";
@@ -123,7 +149,7 @@ impl<R: Borrow<[u8; RING_SIZE]>> Ring<R> {
 ///     let mut reading = Reading::Quiet;
 ///     if let Some(offer) = ring.offered(frames)? {
 ///         lengths.push(offer.period.len());
-///         reading = Reading::Completed { slot: offer.slot as u32, status: STATUS_OK };
+///         reading = Reading::Completed { slot: offer.slot, status: STATUS_OK };
 ///     }
 ///     if ring.turn(frames, reading)? == Turn::Done {
 ///         break;
@@ -145,9 +171,10 @@ impl<R: BorrowMut<[u8; RING_SIZE]>> Ring<R> {
         self.0.borrow_mut()
     }
 
-    /// One turn. `frames` are those of the start, unchanged. [`Refusal::IoError`], [`Refusal::WrongToken`] and [`Refusal::OutOfTurns`] end
-    /// the transfer, and what is then in flight is owed: see [`Ring::drain_turn`]. A reading that is refused with `WrongToken` frees
-    /// nothing, and is to be kept for the drain.
+    /// One turn. `frames` are those of the start, unchanged and in the same place: the device reads them until their slots are freed.
+    ///
+    /// [`Refusal::IoError`], [`Refusal::WrongToken`] and [`Refusal::OutOfTurns`] end the transfer, and what is then in flight is owed: see
+    /// [`Ring::drain_turn`]. A reading that is refused with `WrongToken` frees nothing, and is to be kept for the drain.
     pub fn turn(&mut self, frames: &[u8], reading: Reading) -> Result<Turn, Refusal> {
         let (kind, slot, status) = reading.numbers();
         match Said::of(ffi::snd_turn(self.store_mut(), frames, kind, slot, status)) {
@@ -159,26 +186,26 @@ impl<R: BorrowMut<[u8; RING_SIZE]>> Ring<R> {
     }
 
     /// After a transfer that failed: frees the oldest slot in flight, whatever its status, once the device has completed it. Another slot
-    /// is [`Refusal::WrongToken`] and frees none.
+    /// is [`Refusal::WrongToken`] and frees none. The frames are to be kept until [`Ring::in_flight`] is 0.
     ///
     /// A completion out of order is consumed by the turn or drain turn that refuses it. Its slot is owed for good, and every call is
     /// [`Refusal::Busy`], unless you pass that completion again when its slot is [`Ring::oldest`]:
     ///
     /// ```
-    /// # use snd::{Format, Model, Page, Params, PcmInfo, Rate, Reading, Refusal, Ring, STATUS_OK, Sound, Step};
+    /// # use snd::{Format, Model, Page, Params, PcmInfo, Rate, Reading, Refusal, Ring, STATUS_OK, Sound, Step, Turn};
     /// # let mut device = Model::new(&[], &[PcmInfo::output(1, 2).to_bytes()], &[])?;
     /// # let (mut sound, mut ring, mut page) = (Sound::new(0, 1, 0), Ring::new(), Page::new());
     /// # let to = Params { buffer: 8, period: 4, features: 0, channels: 2, format: Format::S16, rate: Rate::Hz48000 };
     /// # let mut step = sound.pcm_set_params(&ring, 0, to)?;
-    /// # while let Step::Send(request) = step {
-    /// #     device.control(request.bytes(), &mut page)?;
-    /// #     step = sound.feed(&page)?;
+    /// # while let Step::Send(exchange) = step {
+    /// #     device.control(exchange.bytes(), &mut page)?;
+    /// #     step = sound.feed(exchange, &page)?;
     /// # }
     /// // periods of 4 bytes; the second comes back before the first
     /// let frames = b"8 bytes.";
     /// let (first, second) = (Reading::Completed { slot: 0, status: STATUS_OK }, Reading::Completed { slot: 1, status: STATUS_OK });
-    /// sound.pcm_xfer_start(&mut ring, 0, frames, 9)?;
-    /// ring.turn(frames, Reading::Quiet)?;
+    /// assert_eq!(sound.pcm_xfer_start(&mut ring, 0, frames, 9)?, Step::Done(()));
+    /// assert_eq!(ring.turn(frames, Reading::Quiet)?, Turn::Going);
     /// assert_eq!(ring.turn(frames, second), Err(Refusal::WrongToken));
     /// ring.drain_turn(first)?;
     /// assert_eq!(ring.oldest()?, Some(1)); // the device has no period left, and this slot is owed
@@ -199,17 +226,14 @@ impl<R: Borrow<[u8; RING_SIZE]>> Ring<R> {
     }
 
     /// The period that the next turn submits, or `None` if it submits none. Refuses what the turn would refuse.
+    ///
+    /// The borrow ends with your use of the offer, the device's reading later: once submitted, the period must stay as it is and where it is
+    /// until its slot is freed.
     pub fn offered<'f>(&self, frames: &'f [u8]) -> Result<Option<Offer<'f>>, Refusal> {
-        let shown = told(
+        told(
             |result| ffi::snd_offered(self.store(), frames, result),
-            |result| slot_if_there(result).map(|slot| (slot, size_at(result, 16), part_at(frames, result, 16))),
-        );
-        match shown? {
-            None => Ok(None),
-            Some((slot, offset, Some(period))) => Ok(Some(Offer { slot, offset, period })),
-            // what is offered is always a part of the frames
-            Some((_, _, None)) => Err(Refusal::Unknown),
-        }
+            |result| offer_in(frames, result),
+        )?
     }
 
     /// Whether a transfer runs.
@@ -233,14 +257,14 @@ impl<R: Borrow<[u8; RING_SIZE]>> Ring<R> {
     }
 
     /// The stream of the transfer, or of the last one.
-    pub fn stream(&self) -> Result<u64, Refusal> {
-        self.read(ffi::snd_ring_stream)
+    pub fn stream(&self) -> Result<u32, Refusal> {
+        told(|result| ffi::snd_ring_stream(self.store(), result), narrow)?
     }
 
     /// What a slot carries, or carried last. A slot of 32 or more is [`Refusal::InvalidParam`].
-    pub fn carried(&self, slot: usize) -> Result<Carried, Refusal> {
+    pub fn carried(&self, slot: u32) -> Result<Carried, Refusal> {
         told(
-            |result| ffi::snd_ring_carried(self.store(), slot, result),
+            |result| ffi::snd_ring_carried(self.store(), slot as usize, result),
             |result| Carried {
                 offset: size_at(result, 0),
                 length: size_at(result, 8),
@@ -249,7 +273,17 @@ impl<R: Borrow<[u8; RING_SIZE]>> Ring<R> {
     }
 
     /// The oldest slot in flight: the one whose completion is due.
-    pub fn oldest(&self) -> Result<Option<usize>, Refusal> {
-        told(|result| ffi::snd_ring_oldest(self.store(), result), slot_if_there)
+    pub fn oldest(&self) -> Result<Option<u32>, Refusal> {
+        told(|result| ffi::snd_ring_oldest(self.store(), result), slot_if_there)?
     }
+}
+
+/// What a result offers of the frames. A period that is no part of them is no answer.
+fn offer_in<'f>(frames: &'f [u8], result: &Results) -> Result<Option<Offer<'f>>, Refusal> {
+    let Some(slot) = slot_if_there(result)? else {
+        return Ok(None);
+    };
+    let offset = size_at(result, 16);
+    let period = part_at(frames, result, 16).ok_or(Refusal::Unknown)?;
+    Ok(Some(Offer { slot, offset, period }))
 }

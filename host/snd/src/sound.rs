@@ -1,9 +1,14 @@
 //! The driver's state and its calls.
 use crate::answer::Said;
-use crate::bytes::{Results, u32_at};
-use crate::step::{Message, Page, Step, Value, told};
-use crate::{Bits, ChannelRange, Params, RESULT_SIZE, RING_SIZE, Refusal, Ring, STATE_SIZE, StreamList, ffi};
+use crate::bytes::Results;
+use crate::layout::{new_state, open, set_up};
+use crate::step::{Exchange, Page, Step, Value, narrow, told};
+use crate::{
+    ChannelRange, Features, Formats, Frames, Params, Rates, Refusal, Ring, Started, StreamList, Transfer, ffi,
+};
+use crate::{MESSAGE_SIZE, RESULT_SIZE, RING_SIZE, STATE_SIZE};
 use core::borrow::{Borrow, BorrowMut};
+use core::fmt;
 
 /// The driver's state in a byte store, owned (`Sound`) or lent (`Sound<&mut [u8; STATE_SIZE]>`).
 ///
@@ -19,6 +24,10 @@ use core::borrow::{Borrow, BorrowMut};
 /// // the same bytes, found again later
 /// let found = Sound::over(&mut store);
 /// assert_eq!(found.jacks()?, 2);
+/// assert_eq!(format!("{found:?}"), "Sound { jacks: 2, streams: 1, chmaps: 0, set_up: false, open: nothing }");
+///
+/// // one that is there from the start
+/// static SOUND: std::sync::Mutex<Sound> = std::sync::Mutex::new(Sound::new(2, 1, 0));
 /// # Ok::<(), snd::Refusal>(())
 /// ```
 #[derive(Clone, PartialEq, Eq)]
@@ -27,8 +36,8 @@ pub struct Sound<S = [u8; STATE_SIZE]>(S);
 impl Sound {
     /// A new state, from the counts that the device's configuration names.
     #[must_use]
-    pub fn new(jacks: u32, streams: u32, chmaps: u32) -> Self {
-        Self::new_in([0; STATE_SIZE], jacks, streams, chmaps)
+    pub const fn new(jacks: u32, streams: u32, chmaps: u32) -> Self {
+        Self(new_state(jacks, streams, chmaps))
     }
 }
 
@@ -41,6 +50,12 @@ impl<S: BorrowMut<[u8; STATE_SIZE]>> Sound<S> {
         Self(store)
     }
 
+    fn state(&mut self) -> &mut [u8] {
+        self.0.borrow_mut()
+    }
+}
+
+impl<S: Borrow<[u8; STATE_SIZE]>> Sound<S> {
     /// The state that stands in your store. Any bytes are safe: every call refuses an inconsistent state with 1.
     #[must_use]
     pub fn over(store: S) -> Self {
@@ -53,12 +68,8 @@ impl<S: BorrowMut<[u8; STATE_SIZE]>> Sound<S> {
         self.0.borrow()
     }
 
-    fn state(&mut self) -> &mut [u8] {
-        self.0.borrow_mut()
-    }
-
     fn count(&self, entry: fn(&[u8], &mut [u8]) -> u64) -> Result<u32, Refusal> {
-        told(|result| entry(self.store(), result), |result| u32_at(result, 0))
+        told(|result| entry(self.store(), result), narrow)?
     }
 
     /// The configured number of jacks. Needs no set-up and is never Busy.
@@ -77,6 +88,22 @@ impl<S: BorrowMut<[u8; STATE_SIZE]>> Sound<S> {
     }
 }
 
+/// Short: the counts and what is open, or that the store is inconsistent.
+impl<S: Borrow<[u8; STATE_SIZE]>> fmt::Debug for Sound<S> {
+    fn fmt(&self, f: &mut fmt::Formatter<'_>) -> fmt::Result {
+        let (Ok(jacks), Ok(streams), Ok(chmaps)) = (self.jacks(), self.streams(), self.chmaps()) else {
+            return f.write_str("Sound(inconsistent)");
+        };
+        let mut said = f.debug_struct("Sound");
+        said.field("jacks", &jacks).field("streams", &streams);
+        said.field("chmaps", &chmaps).field("set_up", &set_up(self.store()));
+        match open(self.store()) {
+            None => said.field("open", &format_args!("nothing")).finish(),
+            Some((answer, call)) => said.field("open", &format_args!("{answer}, for {call}")).finish(),
+        }
+    }
+}
+
 /// An entry that takes state, ring and stream.
 type OfStream = fn(&mut [u8], &[u8], u32, &mut [u8], &mut [u8]) -> u64;
 
@@ -92,9 +119,9 @@ type OfStream = fn(&mut [u8], &[u8], u32, &mut [u8], &mut [u8]) -> u64;
 ///
 /// let mut step = sound.pcm_set_params(&ring, 0, params)?;
 /// assert_eq!(sound.pcm_prepare(&ring, 0), Err(Refusal::Busy));
-/// while let Step::Send(request) = step {
-///     device.control(request.bytes(), &mut page)?;
-///     step = sound.feed(&page)?;
+/// while let Step::Send(exchange) = step {
+///     device.control(exchange.bytes(), &mut page)?;
+///     step = sound.feed(exchange, &page)?;
 /// }
 /// assert_eq!(device.params(0)?.map(|set| set[8..16].to_vec()), Some(vec![0, 32, 0, 0, 0, 8, 0, 0]));
 /// # Ok::<(), Refusal>(())
@@ -105,9 +132,9 @@ impl<S: BorrowMut<[u8; STATE_SIZE]>> Sound<S> {
         &mut self,
         entry: impl FnOnce(&mut [u8], &mut [u8], &mut Results) -> u64,
     ) -> Result<Step<T>, Refusal> {
-        let (mut message, mut result) = (Message::EMPTY, [0; RESULT_SIZE]);
-        let answer = entry(self.state(), message.buffer(), &mut result);
-        Step::of(answer, message, &result)
+        let (mut message, mut result) = ([0; MESSAGE_SIZE], [0; RESULT_SIZE]);
+        let answer = entry(self.state(), &mut message, &mut result);
+        Step::of(answer, message, self.store(), &result)
     }
 
     fn of_stream<T: Value>(
@@ -193,7 +220,7 @@ impl<S: BorrowMut<[u8; STATE_SIZE]>> Sound<S> {
         &mut self,
         ring: &Ring<impl Borrow<[u8; RING_SIZE]>>,
         stream: u32,
-    ) -> Result<Step<Bits>, Refusal> {
+    ) -> Result<Step<Rates>, Refusal> {
         self.of_stream(ffi::snd_rates_supported, ring, stream)
     }
 
@@ -202,7 +229,7 @@ impl<S: BorrowMut<[u8; STATE_SIZE]>> Sound<S> {
         &mut self,
         ring: &Ring<impl Borrow<[u8; RING_SIZE]>>,
         stream: u32,
-    ) -> Result<Step<Bits>, Refusal> {
+    ) -> Result<Step<Formats>, Refusal> {
         self.of_stream(ffi::snd_formats_supported, ring, stream)
     }
 
@@ -220,42 +247,126 @@ impl<S: BorrowMut<[u8; STATE_SIZE]>> Sound<S> {
         &mut self,
         ring: &Ring<impl Borrow<[u8; RING_SIZE]>>,
         stream: u32,
-    ) -> Result<Step<Bits>, Refusal> {
+    ) -> Result<Step<Features>, Refusal> {
         self.of_stream(ffi::snd_features_supported, ring, stream)
     }
 }
 
-/// Feeds, and the start of a transfer.
+/// Feeds.
 ///
 /// ```
 /// use snd::{Refusal, Ring, Sound, Step};
-/// let (mut sound, mut ring) = (Sound::new(0, 1, 0), Ring::new());
+/// let (mut sound, ring) = (Sound::new(0, 1, 0), Ring::new());
 ///
-/// // a transfer before set-up begins set-up, and cannot run: no parameters can have been set
-/// let Step::Send(_jacks) = sound.pcm_xfer_start(&mut ring, 0, b"frames", 10)? else { unreachable!() };
-/// let Step::Send(_streams) = sound.feed_failure::<()>()? else { unreachable!() };
-/// assert_eq!(sound.feed_failure::<()>(), Err(Refusal::QueueFailed));
+/// // the queue fails the queries of jacks and of streams: no jacks are fine, no streams end the call
+/// let Step::Send(jacks) = sound.pcm_prepare(&ring, 0)? else { unreachable!() };
+/// let Step::Send(streams) = sound.feed_failure(jacks)? else { unreachable!() };
+/// assert_eq!(sound.feed_failure(streams), Err(Refusal::QueueFailed));
 /// # Ok::<(), Refusal>(())
 /// ```
 impl<S: BorrowMut<[u8; STATE_SIZE]>> Sound<S> {
-    /// Feeds the answer page of the request that is out. `T` is the type of the result of the call that waits.
-    pub fn feed<T: Value>(&mut self, page: &Page) -> Result<Step<T>, Refusal> {
-        self.step(|state, message, result| ffi::snd_feed(state, page.bytes(), message, result))
+    /// Feeds the answer page of the request that is out. An exchange that is not this state's open one is [`Refusal::InvalidParam`].
+    pub fn feed<T: Value>(&mut self, exchange: Exchange<T>, page: &Page) -> Result<Step<T>, Refusal> {
+        self.fed(exchange, |state, message, result| {
+            ffi::snd_feed(state, page.bytes(), message, result)
+        })
     }
 
-    /// Says that the queue failed the request that is out.
-    pub fn feed_failure<T: Value>(&mut self) -> Result<Step<T>, Refusal> {
-        self.step(|state, message, result| ffi::snd_feed_failure(state, message, result))
+    /// Says that the queue failed the request that is out. An exchange that is not this state's open one is [`Refusal::InvalidParam`].
+    pub fn feed_failure<T: Value>(&mut self, exchange: Exchange<T>) -> Result<Step<T>, Refusal> {
+        self.fed(exchange, queue_failure)
     }
 
-    /// Starts a transfer: `Done` says that it runs, and [`Ring::turn`] is next. `Send` says that set-up had to begin; the
-    /// call then ends with a refusal at a feed.
+    fn fed<T: Value>(
+        &mut self,
+        exchange: Exchange<T>,
+        entry: impl FnOnce(&mut [u8], &mut [u8], &mut Results) -> u64,
+    ) -> Result<Step<T>, Refusal> {
+        if !exchange.is_open_in(self.store()) {
+            return Err(Refusal::InvalidParam);
+        }
+        self.step(entry)
+    }
+
+    /// Ends the open exchange, if there is one, as if the queue had failed its requests: for a host that lost it, and found the state
+    /// again in its store. What the call says in the end is dropped. Nothing open is Ok; an inconsistent store is
+    /// [`Refusal::InvalidParam`] and left as it is, since no exchange can be told in it: make a new state.
+    ///
+    /// A device may still answer the request. Take that answer off the queue before the next call, whose own it would seem to be.
+    ///
+    /// ```
+    /// use snd::{Refusal, Ring, STATE_SIZE, Sound, Step};
+    /// let (mut store, ring) = ([0; STATE_SIZE], Ring::new());
+    /// let Ok(Step::Send(_lost)) = Sound::new_in(&mut store, 0, 1, 0).pcm_prepare(&ring, 0) else { unreachable!() };
+    ///
+    /// let mut found = Sound::over(&mut store);
+    /// assert_eq!(found.pcm_prepare(&ring, 0), Err(Refusal::Busy));
+    /// found.abandon()?;
+    /// assert!(matches!(found.pcm_prepare(&ring, 0), Ok(Step::Send(_))));
+    /// # Ok::<(), Refusal>(())
+    /// ```
+    pub fn abandon(&mut self) -> Result<(), Refusal> {
+        // any read tells an inconsistent store
+        self.jacks()?;
+        for _ in 0..MOST_FEEDS {
+            match self.step::<()>(queue_failure) {
+                Ok(Step::Send(_next)) => {}
+                Err(Refusal::Unknown) => return Err(Refusal::Unknown),
+                // the call's own end, or nothing was open
+                Ok(Step::Done(())) | Err(_) => return Ok(()),
+            }
+        }
+        Err(Refusal::Unknown)
+    }
+}
+
+/// Feeds that close any exchange: three of set-up and the call's own (theorem `closed-in-four`, crates/exchange/specs/Ends.antt).
+const MOST_FEEDS: usize = 4;
+
+fn queue_failure(state: &mut [u8], message: &mut [u8], result: &mut Results) -> u64 {
+    ffi::snd_feed_failure(state, message, result)
+}
+
+/// The start of a transfer.
+///
+/// ```
+/// use snd::{Refusal, Ring, Sound, Started, Step};
+/// let (mut sound, mut ring) = (Sound::new(0, 1, 0), Ring::new());
+///
+/// // a transfer before set-up begins set-up, and cannot run: no parameters can have been set
+/// let Started::SetUp(jacks, frames) = sound.transfer(&mut ring, 0, b"frames", 10) else { unreachable!() };
+/// let Step::Send(streams) = sound.feed_failure(jacks)? else { unreachable!() };
+/// assert_eq!(sound.feed_failure(streams), Err(Refusal::QueueFailed));
+/// # Ok::<(), Refusal>(())
+/// ```
+impl<S: BorrowMut<[u8; STATE_SIZE]>> Sound<S> {
+    /// Starts a transfer that takes the frames, and keeps them until no device reads them: see [`Transfer`]. Where it does not run the
+    /// frames come back.
     ///
     /// n periods need no more than n·g + 1 turns from a device that completes one within any g turns.
     ///
     /// Start the stream first. Nothing here checks it, and a device may complete nothing of a stream that is only prepared: the budget is
     /// then used up, ten slots are owed, and [`Sound::pcm_start`] and [`Sound::pcm_release`] are Busy. Let `frames` be whole frames of the
     /// format: a device may never give back a last period that is none.
+    pub fn transfer<'r, F: Frames, R: BorrowMut<[u8; RING_SIZE]>>(
+        &mut self,
+        ring: &'r mut Ring<R>,
+        stream: u32,
+        frames: F,
+        budget: u64,
+    ) -> Started<'r, F, R> {
+        match self.pcm_xfer_start(ring, stream, frames.stable(), budget) {
+            Ok(Step::Done(())) => Started::Runs(Transfer::new(ring, frames)),
+            Ok(Step::Send(exchange)) => Started::SetUp(exchange, frames),
+            Err(refusal) => Started::Refused(refusal, frames),
+        }
+    }
+
+    /// Starts a transfer of frames that you keep yourself: `Done` says that it runs, and [`Ring::turn`] is next. `Send` says that set-up had
+    /// to begin; the call then ends with a refusal at a feed. What [`Sound::transfer`] says of stream and budget holds here.
+    ///
+    /// The frames are borrowed for this call alone, and the device reads them later. Until no transfer runs and nothing is in flight, drain
+    /// turns included, they must be neither freed nor changed, and nothing here sees to it.
     pub fn pcm_xfer_start(
         &mut self,
         ring: &mut Ring<impl BorrowMut<[u8; RING_SIZE]>>,
@@ -263,13 +374,13 @@ impl<S: BorrowMut<[u8; STATE_SIZE]>> Sound<S> {
         frames: &[u8],
         budget: u64,
     ) -> Result<Step<()>, Refusal> {
-        let mut message = Message::EMPTY;
-        let answer = ffi::snd_pcm_xfer_start(self.state(), ring.store_mut(), stream, frames, budget, message.buffer());
+        let mut message = [0; MESSAGE_SIZE];
+        let answer = ffi::snd_pcm_xfer_start(self.state(), ring.store_mut(), stream, frames, budget, &mut message);
         match Said::of(answer) {
             Said::Going => Ok(Step::Done(())),
             // a transfer that started never answers Ok at once
             Said::Ok => Err(Refusal::Unknown),
-            _ => Step::of(answer, message, &[0; RESULT_SIZE]),
+            _ => Step::of(answer, message, self.store(), &[0; RESULT_SIZE]),
         }
     }
 }

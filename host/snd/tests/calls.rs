@@ -2,8 +2,8 @@
 mod common;
 use common::{Desk, PARAMS};
 use snd::{
-    Bits, Carried, ChannelMap, ChannelRange, Event, EventKind, JackInfo, MODEL_SIZE, Model, Offer, PcmInfo, RING_SIZE,
-    Reading, Ring, STATE_SIZE, STATUS_OK, Sound, Step, Turn,
+    Carried, ChannelMap, ChannelRange, Event, EventKind, Features, Formats, JackInfo, MODEL_SIZE, Model, Offer,
+    PcmInfo, RING_SIZE, Rates, Reading, Ring, STATE_SIZE, STATUS_OK, Sound, Step, Turn,
 };
 
 #[test]
@@ -20,10 +20,10 @@ fn set_up_asks_for_jacks_then_streams_then_maps() {
     let mut desk = Desk::new();
     let mut codes = vec![];
     let mut step = desk.sound.pcm_prepare(&desk.ring, 0).unwrap();
-    while let Step::Send(request) = step {
-        codes.push(u32::from_le_bytes(request.bytes()[..4].try_into().unwrap()));
-        desk.device.control(request.bytes(), &mut desk.page).unwrap();
-        step = desk.sound.feed(&desk.page).unwrap();
+    while let Step::Send(exchange) = step {
+        codes.push(u32::from_le_bytes(exchange.bytes()[..4].try_into().unwrap()));
+        desk.device.control(exchange.bytes(), &mut desk.page).unwrap();
+        step = desk.sound.feed(exchange, &desk.page).unwrap();
     }
     assert_eq!(codes, [1, 0x0100, 0x0200, 0x0102]);
 }
@@ -36,12 +36,12 @@ fn set_parameters_has_the_bytes_of_the_worked_number() {
         period: 2048,
         ..PARAMS
     };
-    let Ok(Step::Send(request)) = desk.sound.pcm_set_params(&desk.ring, 1, to) else {
+    let Ok(Step::Send(exchange)) = desk.sound.pcm_set_params(&desk.ring, 1, to) else {
         panic!("set-up is done")
     };
     let wanted = [1, 1, 0, 0, 1, 0, 0, 0, 0, 32, 0, 0, 0, 8, 0, 0, 0, 0, 0, 0, 2, 5, 7, 0];
-    assert_eq!(request.bytes(), wanted);
-    assert_eq!(desk.finish(Ok(Step::<()>::Send(request))), Ok(()));
+    assert_eq!(exchange.bytes(), wanted);
+    assert_eq!(desk.finish(Ok(Step::Send(exchange))), Ok(()));
     assert_eq!(desk.device.params(1), Ok(Some(wanted)));
 }
 
@@ -55,26 +55,23 @@ fn the_four_commands_reach_the_device() {
         Sound::pcm_release,
     ];
     for (call, code) in calls.iter().zip([2, 4, 5, 3]) {
-        let Ok(Step::Send(request)) = call(&mut desk.sound, &desk.ring, 1) else {
+        let Ok(Step::Send(exchange)) = call(&mut desk.sound, &desk.ring, 1) else {
             panic!("set-up is done")
         };
-        assert_eq!(request.bytes(), [code, 1, 0, 0, 1, 0, 0, 0]);
-        assert_eq!(desk.finish(Ok(Step::<()>::Send(request))), Ok(()));
+        assert_eq!(exchange.bytes(), [code, 1, 0, 0, 1, 0, 0, 0]);
+        assert_eq!(desk.finish(Ok(Step::Send(exchange))), Ok(()));
     }
 }
 
 #[test]
 fn a_jack_is_remapped() {
     let mut desk = Desk::with_params();
-    let Ok(Step::Send(request)) = desk.sound.jack_remap(&desk.ring, 0, 7, 9) else {
+    let Ok(Step::Send(exchange)) = desk.sound.jack_remap(&desk.ring, 0, 7, 9) else {
         panic!("set-up is done")
     };
-    assert_eq!(request.bytes(), [2, 0, 0, 0, 0, 0, 0, 0, 7, 0, 0, 0, 9, 0, 0, 0]);
+    assert_eq!(exchange.bytes(), [2, 0, 0, 0, 0, 0, 0, 0, 7, 0, 0, 0, 9, 0, 0, 0]);
     // the model does not know remaps; a device that does answers ok
-    assert_eq!(
-        desk.finish_with_status::<()>(Ok(Step::Send(request)), STATUS_OK),
-        Ok(())
-    );
+    assert_eq!(desk.finish_with_status(Ok(Step::Send(exchange)), STATUS_OK), Ok(()));
 }
 
 #[test]
@@ -116,13 +113,13 @@ fn what_a_stream_supports_is_as_the_device_said() {
         ..Desk::new()
     };
     let step = desk.sound.rates_supported(&desk.ring, 0);
-    assert_eq!(desk.finish(step), Ok(Bits(1 << 63)));
+    assert_eq!(desk.finish(step), Ok(Rates::from_bits(1 << 63)));
     let step = desk.sound.formats_supported(&desk.ring, 0);
-    assert_eq!(desk.finish(step), Ok(Bits(u64::MAX)));
+    assert_eq!(desk.finish(step), Ok(Formats::from_bits(u64::MAX)));
     let step = desk.sound.channel_range_supported(&desk.ring, 0);
     assert_eq!(desk.finish(step), Ok(ChannelRange { min: 3, max: 250 }));
     let step = desk.sound.features_supported(&desk.ring, 0);
-    assert_eq!(desk.finish(step), Ok(Bits(0x8000_0011)));
+    assert_eq!(desk.finish(step), Ok(Features::from_bits(0x8000_0011)));
     // neither an output nor an input
     let step = desk.sound.output_streams(&desk.ring);
     assert_eq!(desk.finish(step).unwrap().ids(), []);
@@ -134,7 +131,7 @@ fn what_a_stream_supports_is_as_the_device_said() {
 fn ten_bytes_go_in_three_periods_and_four_turns() {
     let frames = b"ten bytes.";
     let mut desk = Desk::with_transfer(frames, 4);
-    for (slot, part) in [0..4, 4..8, 8..10].into_iter().enumerate() {
+    for (slot, part) in (0..).zip([0..4, 4..8, 8..10]) {
         let offer = desk.ring.offered(frames).unwrap().unwrap();
         assert_eq!(
             offer,
@@ -145,7 +142,7 @@ fn ten_bytes_go_in_three_periods_and_four_turns() {
             }
         );
         let reading = Reading::Completed {
-            slot: offer.slot as u32,
+            slot: offer.slot,
             status: STATUS_OK,
         };
         assert_eq!(desk.ring.turn(frames, reading), Ok(Turn::Going));
@@ -184,8 +181,8 @@ fn the_ring_tells_what_is_in_flight() {
             period: b"ten "
         }
     );
-    desk.ring.turn(frames, Reading::Quiet).unwrap();
-    desk.ring.turn(frames, Reading::Quiet).unwrap();
+    assert_eq!(desk.ring.turn(frames, Reading::Quiet), Ok(Turn::Going));
+    assert_eq!(desk.ring.turn(frames, Reading::Quiet), Ok(Turn::Going));
     assert_eq!((desk.ring.in_flight(), desk.ring.free_descriptors()), (Ok(2), Ok(26)));
     assert_eq!(desk.ring.oldest(), Ok(Some(first.slot)));
     assert_eq!(desk.ring.carried(first.slot), Ok(Carried { offset: 0, length: 4 }));
@@ -241,9 +238,9 @@ fn stores_may_be_lent() {
     let mut page = snd::Page::default();
     let ring = Ring::new_in(&mut ring);
     let mut step = Sound::new_in(&mut state, 0, 0, 0).output_streams(&ring).unwrap();
-    while let Step::Send(request) = step {
-        device.control(request.bytes(), &mut page).unwrap();
-        step = Sound::over(&mut state).feed(&page).unwrap();
+    while let Step::Send(exchange) = step {
+        device.control(exchange.bytes(), &mut page).unwrap();
+        step = Sound::over(&mut state).feed(exchange, &page).unwrap();
     }
     let Step::Done(streams) = step else { unreachable!() };
     assert_eq!(streams.ids(), []);

@@ -1,6 +1,6 @@
 //! Every refusal of document 01 but 10, each way to it.
 mod common;
-use common::{Desk, PARAMS};
+use common::{Desk, PARAMS, sent};
 use snd::{Model, Page, Params, PcmInfo, Reading, Refusal, Ring, STATUS_OK, Sound, Step};
 
 const OK: Reading = Reading::Completed {
@@ -58,8 +58,9 @@ fn invalid_param_1_for_format_and_rate_before_anything_is_sent() {
 #[test]
 fn invalid_param_1_where_nothing_is_open() {
     let mut desk = Desk::with_params();
-    assert_eq!(desk.sound.feed::<()>(&desk.page), Err(Refusal::InvalidParam));
-    assert_eq!(desk.sound.feed_failure::<()>(), Err(Refusal::InvalidParam));
+    let mut asking = common::lent::Lent::idle();
+    assert_eq!((common::entries::entry("snd_feed").call)(&mut asking), 1);
+    assert_eq!((common::entries::entry("snd_feed_failure").call)(&mut asking), 1);
     assert_eq!(desk.ring.turn(b"", Reading::Quiet), Err(Refusal::InvalidParam));
     assert_eq!(desk.ring.offered(b""), Err(Refusal::InvalidParam));
     let mut desk = Desk::with_transfer(b"frames", 9);
@@ -71,7 +72,9 @@ fn invalid_param_1_for_garbage() {
     let (mut sound, mut ring) = (Sound::over([0xff; snd::STATE_SIZE]), Ring::over([0xff; snd::RING_SIZE]));
     let good = Ring::new();
     assert_eq!(sound.pcm_prepare(&good, 0), Err(Refusal::InvalidParam));
-    assert_eq!(sound.feed::<()>(&Page::new()), Err(Refusal::InvalidParam));
+    assert_eq!(sound.abandon(), Err(Refusal::InvalidParam));
+    let elsewhere = sent(Sound::new(0, 0, 0).pcm_prepare(&good, 0));
+    assert_eq!(sound.feed(elsewhere, &Page::new()), Err(Refusal::InvalidParam));
     assert_eq!(sound.store(), &[0xff; snd::STATE_SIZE]);
     assert_eq!(Sound::new(0, 0, 0).pcm_prepare(&ring, 0), Err(Refusal::InvalidParam));
     // lengths come first: these bytes say that a transfer of other frames runs
@@ -131,7 +134,7 @@ fn io_error_2() {
 #[test]
 fn io_error_2_ends_a_transfer_and_frees_the_slot() {
     let mut desk = Desk::with_transfer(b"frames", 9);
-    let slot = desk.ring.offered(b"frames").unwrap().unwrap().slot as u32;
+    let slot = desk.ring.offered(b"frames").unwrap().unwrap().slot;
     let failed = Reading::Completed { slot, status: 0x8003 };
     assert_eq!(desk.ring.turn(b"frames", failed), Err(Refusal::IoError));
     assert_eq!((desk.ring.running(), desk.ring.in_flight()), (Ok(false), Ok(0)));
@@ -148,10 +151,8 @@ fn unsupported_3() {
 #[test]
 fn no_info_4() {
     let mut desk = Desk::new();
-    let Ok(Step::Send(_jacks)) = desk.sound.jack_remap(&desk.ring, 0, 0, 0) else {
-        panic!("set-up begins")
-    };
-    let step = desk.sound.feed_failure::<()>();
+    let jacks = sent(desk.sound.jack_remap(&desk.ring, 0, 0, 0));
+    let step = desk.sound.feed_failure(jacks);
     assert_eq!(desk.finish(step), Err(Refusal::NoInfo));
 }
 
@@ -160,21 +161,19 @@ fn too_many_5() {
     let mut sound = Sound::new(0, 128, 0);
     let (ring, mut page) = (Ring::new(), Page::new());
     page.bytes_mut()[1] = 0x80;
-    sound.pcm_prepare(&ring, 0).unwrap();
-    let Ok(Step::Send(_streams)) = sound.feed::<()>(&page) else {
-        panic!("no jacks are fine")
-    };
-    assert_eq!(sound.feed::<()>(&page), Err(Refusal::TooMany));
+    let jacks = sent(sound.pcm_prepare(&ring, 0));
+    let streams = sent(sound.feed(jacks, &page));
+    assert_eq!(sound.feed(streams, &page), Err(Refusal::TooMany));
     // a refused query of as many jacks is an empty table
     let mut sound = Sound::new(171, 0, 0);
-    sound.pcm_prepare(&ring, 0).unwrap();
-    assert!(matches!(sound.feed::<()>(&Page::new()), Ok(Step::Send(_))));
+    let jacks = sent(sound.pcm_prepare(&ring, 0));
+    assert!(matches!(sound.feed(jacks, &Page::new()), Ok(Step::Send(_))));
 }
 
 #[test]
 fn wrong_token_6() {
     let mut desk = Desk::with_transfer(b"frames", 9);
-    let slot = desk.ring.offered(b"frames").unwrap().unwrap().slot as u32;
+    let slot = desk.ring.offered(b"frames").unwrap().unwrap().slot;
     let wrong = Reading::Completed {
         slot: slot + 1,
         status: STATUS_OK,
@@ -194,8 +193,8 @@ fn wrong_token_6() {
 #[test]
 fn queue_failed_7() {
     let mut desk = Desk::with_params();
-    assert!(matches!(desk.sound.pcm_prepare(&desk.ring, 0), Ok(Step::Send(_))));
-    assert_eq!(desk.sound.feed_failure::<()>(), Err(Refusal::QueueFailed));
+    let prepare = sent(desk.sound.pcm_prepare(&desk.ring, 0));
+    assert_eq!(desk.sound.feed_failure(prepare), Err(Refusal::QueueFailed));
 }
 
 #[test]
@@ -212,7 +211,7 @@ fn busy_8_while_an_exchange_is_open() {
 fn busy_8_while_a_transfer_runs_or_a_slot_is_owed() {
     let mut desk = Desk::with_transfer(b"frames", 1);
     assert_eq!(desk.sound.pcm_stop(&desk.ring, 0), Err(Refusal::Busy));
-    let slot = desk.ring.offered(b"frames").unwrap().unwrap().slot as u32;
+    let slot = desk.ring.offered(b"frames").unwrap().unwrap().slot;
     assert_eq!(desk.ring.turn(b"frames", Reading::Quiet), Err(Refusal::OutOfTurns));
     assert_eq!(desk.sound.pcm_stop(&desk.ring, 0), Err(Refusal::Busy));
     assert_eq!(desk.sound.pcm_xfer_start(&mut desk.ring, 0, b"", 1), Err(Refusal::Busy));

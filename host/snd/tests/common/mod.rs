@@ -1,6 +1,6 @@
 //! What the tests share: a console's desk, everything that can be lent to an entry, and random numbers that repeat.
 #![allow(dead_code)]
-use snd::{Format, JackInfo, Model, Page, Params, PcmInfo, Rate, Refusal, Ring, Sound, Step, Value};
+use snd::{Exchange, Format, JackInfo, Model, Page, Params, PcmInfo, Rate, Refusal, Ring, Sound, Step, Value};
 
 pub mod entries;
 pub mod lent;
@@ -61,9 +61,9 @@ impl Desk {
         loop {
             match step {
                 Step::Done(value) => return Ok(value),
-                Step::Send(request) => {
-                    self.device.control(request.bytes(), &mut self.page).unwrap();
-                    step = self.sound.feed(&self.page)?;
+                Step::Send(exchange) => {
+                    self.device.control(exchange.bytes(), &mut self.page).unwrap();
+                    step = self.sound.feed(exchange, &self.page)?;
                 }
             }
         }
@@ -76,9 +76,18 @@ impl Desk {
         loop {
             match step {
                 Step::Done(value) => return Ok(value),
-                Step::Send(_) => step = self.sound.feed(&self.page)?,
+                Step::Send(exchange) => step = self.sound.feed(exchange, &self.page)?,
             }
         }
+    }
+}
+
+/// The exchange of a call that has a request to send.
+pub fn sent<T>(step: Result<Step<T>, Refusal>) -> Exchange<T> {
+    match step {
+        Ok(Step::Send(exchange)) => exchange,
+        Ok(Step::Done(_)) => panic!("the call is done"),
+        Err(refusal) => panic!("refused: {refusal}"),
     }
 }
 

@@ -1,0 +1,78 @@
+//! The places in stores that this crate itself reads or writes. docs/STATE.md has them all; tests/stores.rs holds these to the archive.
+use crate::bytes::{run, u32_at};
+use crate::{MODEL_SIZE, RING_SIZE, STATE_SIZE};
+
+/// Where a state's store says what its open exchange waits for: the stage, the call and all its numbers.
+const WAITS: usize = 24;
+/// Descriptors of a submission.
+const DESCRIPTORS: u8 = 3;
+
+/// What a state's store says of its open exchange: no two of them that differ in stage, call or numbers have the same bytes here.
+pub(crate) type Waits = [u8; 24];
+
+pub(crate) fn waits(state: &[u8; STATE_SIZE]) -> Waits {
+    run(state, WAITS)
+}
+
+/// A new state: the configured counts, and zeros.
+pub(crate) const fn new_state(jacks: u32, streams: u32, chmaps: u32) -> [u8; STATE_SIZE] {
+    let mut store = [0; STATE_SIZE];
+    let [j0, j1, j2, j3] = jacks.to_le_bytes();
+    let [s0, s1, s2, s3] = streams.to_le_bytes();
+    let [m0, m1, m2, m3] = chmaps.to_le_bytes();
+    if let Some(counts) = store.first_chunk_mut() {
+        *counts = [j0, j1, j2, j3, s0, s1, s2, s3, m0, m1, m2, m3];
+    }
+    store
+}
+
+/// A new ring: the descriptors of a submission, and zeros.
+pub(crate) const fn new_ring() -> [u8; RING_SIZE] {
+    let mut store = [0; RING_SIZE];
+    if let Some(descriptors) = store.first_mut() {
+        *descriptors = DESCRIPTORS;
+    }
+    store
+}
+
+/// How many jacks, streams and channel maps a model device has.
+pub(crate) fn model_counts(model: &[u8; MODEL_SIZE]) -> [u32; 3] {
+    [0, 4, 8].map(|at| u32_at(model, at))
+}
+
+/// Whether set-up is done.
+pub(crate) fn set_up(state: &[u8; STATE_SIZE]) -> bool {
+    let [done, ..] = waits(state);
+    done != 0
+}
+
+/// Which answer a consistent state waits for, and which call waits for it; `None` with no exchange open.
+pub(crate) fn open(state: &[u8; STATE_SIZE]) -> Option<(&'static str, &'static str)> {
+    let [_, stage, call, part, ..] = waits(state);
+    let answer = match stage {
+        0 => return None,
+        1 => "query of jacks",
+        2 => "query of streams",
+        3 => "query of channel maps",
+        _ => "its own request",
+    };
+    Some((answer, call_name(call, part)))
+}
+
+fn call_name(call: u8, part: u8) -> &'static str {
+    match (call, part) {
+        (1, _) => "set parameters",
+        (2, 0) => "prepare",
+        (2, 1) => "release",
+        (2, 2) => "start",
+        (2, _) => "stop",
+        (3, _) => "remap",
+        (4, 0) => "output streams",
+        (4, _) => "input streams",
+        (5, 0) => "rates",
+        (5, 1) => "formats",
+        (5, 2) => "channel range",
+        (5, _) => "features",
+        _ => "transfer",
+    }
+}
