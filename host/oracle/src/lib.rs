@@ -6,7 +6,6 @@
 #![allow(unexpected_cfgs)]
 
 mod api;
-pub mod sha256;
 pub use api::*;
 
 /// Whether the Rust driver's text was at hand when this was built.
