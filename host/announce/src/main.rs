@@ -1,18 +1,36 @@
-//! Speaks an announcement through the proved driver to the model device, and prints what an auditor wants to see.
+//! Speaks announcements through the proved driver to the model device, and prints what an auditor wants to see.
 #![forbid(unsafe_code)]
 #![deny(clippy::unwrap_used, clippy::expect_used, clippy::panic, clippy::indexing_slicing)]
 
+mod account;
+mod clock;
 mod device;
+mod help;
+mod json;
+mod log;
 mod options;
+mod overwrite;
 mod page;
+mod picture;
+mod progress;
+mod recording;
+mod report;
+mod sizes;
 mod speak;
+mod svg;
+mod timeline;
+mod told;
 mod tone;
 
 use options::{Asked, Options};
+use report::{Built, Report};
 use std::io::Write;
+use std::path::Path;
 use std::process::ExitCode;
 
-/// Exit status where the announcement was not given whole.
+/// Exit status where every announcement was given whole.
+const GIVEN: u8 = 0;
+/// Exit status where one was not.
 const NOT_GIVEN: u8 = 1;
 /// Exit status where the options or the files are at fault.
 const NOT_RUN: u8 = 2;
@@ -20,34 +38,62 @@ const NOT_RUN: u8 = 2;
 fn main() -> ExitCode {
     let words: Vec<_> = std::env::args_os().skip(1).collect();
     let outcome = match options::parse(&words) {
-        Ok(Asked::Help) => say(options::HELP).map(|()| ExitCode::SUCCESS),
+        Ok(Asked::Help(text)) => say(text).map(|()| GIVEN),
         Ok(Asked::Run(options)) => run(&options),
         Err(why) => Err(why),
     };
-    outcome.unwrap_or_else(|why| {
+    let status = outcome.unwrap_or_else(|why| {
         eprintln!("announce: {why}");
-        ExitCode::from(NOT_RUN)
-    })
+        NOT_RUN
+    });
+    ExitCode::from(status)
 }
 
-/// Speaks, writes what was accepted, prints the page.
-fn run(options: &Options) -> Result<ExitCode, String> {
-    let frames = match &options.file {
-        Some(file) => std::fs::read(file).map_err(|why| format!("cannot read {}: {why}", file.display()))?,
-        None => tone::of(options.seconds, options.rate, options.channels),
-    };
-    let told = speak::announce(options, &frames);
-    if let Some(file) = &options.accepted {
-        let written = std::fs::write(file, told.accepted());
-        written.map_err(|why| format!("cannot write {}: {why}", file.display()))?;
-    }
-    say(&page::of(options, &frames, &told))?;
-    let given = told.answer() == snd::Answer::Ok && told.accepted() == frames;
-    Ok(if given {
-        ExitCode::SUCCESS
+/// Reads all, speaks all, writes the outputs, prints the pages.
+fn run(options: &Options) -> Result<u8, String> {
+    overwrite::refuse(options)?;
+    let built = Built::now();
+    let recordings = recording::all(options)?;
+    let told = speak::all(options, &recordings);
+    let pairs = recordings.iter().zip(told);
+    let reports: Vec<_> = pairs
+        .map(|(recording, told)| Report::new(options, recording, told))
+        .collect();
+    let status = if reports.iter().all(Report::given) {
+        GIVEN
     } else {
-        ExitCode::from(NOT_GIVEN)
-    })
+        NOT_GIVEN
+    };
+    write_outputs(options, &reports, &built, status)?;
+    say(&pages(&reports, &built))?;
+    Ok(status)
+}
+
+fn write_outputs(options: &Options, reports: &[Report], built: &Built, status: u8) -> Result<(), String> {
+    if let Some(file) = &options.accepted {
+        let accepted: Vec<u8> = reports.iter().flat_map(Report::accepted).copied().collect();
+        write(file, &accepted)?;
+    }
+    if let Some(file) = &options.log {
+        write(file, log::of(reports, built, status).as_bytes())?;
+    }
+    if let Some(file) = &options.picture {
+        write(file, picture::of(reports).as_bytes())?;
+    }
+    Ok(())
+}
+
+fn write(file: &Path, bytes: &[u8]) -> Result<(), String> {
+    std::fs::write(file, bytes).map_err(|why| format!("cannot write {}: {why}", file.display()))
+}
+
+/// A page for each, with an empty line between, and a closing line where there are several.
+fn pages(reports: &[Report], built: &Built) -> String {
+    let pages: Vec<_> = reports.iter().map(|report| page::of(report, built)).collect();
+    match pages.len() {
+        1 => pages.concat(),
+        _ => pages.join("\n") + &page::closing(reports),
+    }
 }
 
 fn say(text: &str) -> Result<(), String> {

@@ -1,42 +1,41 @@
 //! The command line.
+use crate::help::HELP;
+use crate::sizes;
 use snd::Rate;
 use std::ffi::{OsStr, OsString};
+use std::os::unix::ffi::OsStrExt;
 use std::path::PathBuf;
-
-pub const HELP: &str = "\
-announce: speak an announcement through the proved driver to the model device
-
-usage: announce [OPTIONS] [FILE]
-
-FILE has raw frames (signed 16 bits, little-endian); without it a tone is made.
-
-  --seconds S        length of the tone (3)
-  --rate HZ          frames a second, one of VirtIO's 14 (48000)
-  --channels N       channels of a frame, 1 to 255 (2)
-  --period BYTES     bytes of a period (4096)
-  --buffer BYTES     bytes of the device's buffer (4 periods)
-  --slow G           the device completes a period only every G turns (1)
-  --fail-at N        the device fails period N (the first is 1)
-  --wrong-slot-at N  the device names a wrong slot at its completion N
-  --budget N         turns allowed (periods * G + 1)
-  --accepted FILE    write the bytes that the device had accepted when the
-                     transfer answered: compare FILE with the frames
-  --help             this text
-
-Exit status: 0 the device accepted the whole announcement; 1 it did not, and
-the page says why; 2 bad options, or a file that cannot be read or written.
-";
 
 /// What the words ask for.
 #[derive(Debug)]
 pub enum Asked {
-    Help,
+    /// This text.
+    Help(&'static str),
     Run(Options),
+}
+
+/// Where frames come from.
+#[derive(Debug, PartialEq, Eq)]
+pub enum Source {
+    Tone,
+    Input,
+    File(PathBuf),
+}
+
+impl Source {
+    /// As a sentence names it.
+    pub fn shown(&self) -> String {
+        match self {
+            Self::Tone => "tone".into(),
+            Self::Input => "-".into(),
+            Self::File(file) => file.display().to_string(),
+        }
+    }
 }
 
 #[derive(Debug)]
 pub struct Options {
-    pub file: Option<PathBuf>,
+    pub sources: Vec<Source>,
     pub seconds: u32,
     pub rate: Rate,
     pub channels: u8,
@@ -47,12 +46,14 @@ pub struct Options {
     pub wrong_slot_at: Option<u64>,
     pub budget: Option<u64>,
     pub accepted: Option<PathBuf>,
+    pub log: Option<PathBuf>,
+    pub picture: Option<PathBuf>,
 }
 
 impl Options {
     const fn new() -> Self {
         Self {
-            file: None,
+            sources: Vec::new(),
             seconds: 3,
             rate: Rate::Hz48000,
             channels: 2,
@@ -63,7 +64,30 @@ impl Options {
             wrong_slot_at: None,
             budget: None,
             accepted: None,
+            log: None,
+            picture: None,
         }
+    }
+
+    /// Bytes of a frame.
+    pub fn frame(&self) -> usize {
+        usize::from(self.channels) * 2
+    }
+
+    /// Where a byte of the frames is heard, in seconds.
+    pub fn second(&self, byte: usize) -> f64 {
+        byte as f64 / (self.frame() as f64 * f64::from(self.rate.hz()))
+    }
+
+    /// What is written, by the options that name it.
+    pub fn outputs(&self) -> impl Iterator<Item = (&'static str, &PathBuf)> {
+        let all = [
+            ("--accepted", &self.accepted),
+            ("--log", &self.log),
+            ("--picture", &self.picture),
+        ];
+        all.into_iter()
+            .filter_map(|(name, path)| path.as_ref().map(|path| (name, path)))
     }
 }
 
@@ -71,41 +95,85 @@ impl Options {
 pub fn parse(words: &[OsString]) -> Result<Asked, String> {
     let mut options = Options::new();
     let mut buffer = None;
-    let mut words = words.iter();
+    let mut words = words.iter().map(OsString::as_os_str);
     while let Some(word) = words.next() {
-        let text = word.to_str().unwrap_or_default();
-        if !text.starts_with("--") {
-            take_file(&mut options, word)?;
-            continue;
-        }
-        let mut value = || words.next().ok_or(format!("{text} needs a value; see --help"));
-        match text {
-            "--help" => return Ok(Asked::Help),
-            "--seconds" => options.seconds = number(text, value()?, 0, 3600)? as u32,
-            "--rate" => options.rate = rate(value()?)?,
-            "--channels" => options.channels = number(text, value()?, 1, 255)? as u8,
-            "--period" => options.period = number(text, value()?, 0, u32::MAX.into())? as u32,
-            "--buffer" => buffer = Some(number(text, value()?, 0, u32::MAX.into())? as u32),
-            "--slow" => options.slow = number(text, value()?, 1, 1_000_000)?,
-            "--fail-at" => options.fail_at = Some(number(text, value()?, 1, u64::MAX)?),
-            "--wrong-slot-at" => options.wrong_slot_at = Some(number(text, value()?, 1, u64::MAX)?),
-            "--budget" => options.budget = Some(number(text, value()?, 0, u64::MAX)?),
-            "--accepted" => options.accepted = Some(value()?.into()),
-            _ => return Err(format!("unknown option {text}; see --help")),
+        let (name, value) = parted(word);
+        match name {
+            "--help" | "-h" if value.is_none() => return Ok(Asked::Help(HELP)),
+            "--help" | "-h" => return Err(format!("{name} takes no value")),
+            "--" if value.is_none() => words.by_ref().try_for_each(|word| take_file(&mut options, word))?,
+            name if name.len() > 1 && name.starts_with('-') => {
+                let value = || {
+                    value
+                        .or_else(|| words.next())
+                        .ok_or(format!("{name} needs a value; see --help"))
+                };
+                take(&mut options, &mut buffer, name, value)?;
+            }
+            _ => take_file(&mut options, word)?,
         }
     }
-    options.buffer = buffer.unwrap_or(options.period.saturating_mul(4));
+    options.buffer = sizes::buffer(buffer, options.period)?;
+    if options.sources.is_empty() {
+        sizes::tone(&options)?;
+        options.sources.push(Source::Tone);
+    }
     Ok(Asked::Run(options))
 }
 
+/// An option's name, and the value that stands behind its `=`. A word whose name cannot be read is no option.
+fn parted(word: &OsStr) -> (&str, Option<&OsStr>) {
+    let bytes = word.as_bytes();
+    let is_option = bytes.starts_with(b"--");
+    let end = bytes.iter().position(|byte| *byte == b'=' && is_option);
+    let (name, value) = bytes.split_at(end.unwrap_or(bytes.len()));
+    let value = value.split_first().map(|(_equals, value)| OsStr::from_bytes(value));
+    (str::from_utf8(name).unwrap_or_default(), value)
+}
+
+/// Takes one option. Its value is asked for only where the option is known.
+fn take<'w>(
+    options: &mut Options,
+    buffer: &mut Option<u32>,
+    name: &str,
+    value: impl FnOnce() -> Result<&'w OsStr, String>,
+) -> Result<(), String> {
+    match name {
+        "--seconds" => options.seconds = number(name, value()?, 0, 3600)? as u32,
+        "--rate" => options.rate = rate(value()?)?,
+        "--channels" => options.channels = number(name, value()?, 1, 255)? as u8,
+        "--period" => options.period = number(name, value()?, 1, u32::MAX.into())? as u32,
+        "--buffer" => *buffer = Some(number(name, value()?, 1, u32::MAX.into())? as u32),
+        "--slow" => options.slow = number(name, value()?, 1, 1_000_000)?,
+        "--fail-at" => options.fail_at = Some(number(name, value()?, 1, u64::MAX)?),
+        "--wrong-slot-at" => options.wrong_slot_at = Some(number(name, value()?, 1, u64::MAX)?),
+        "--budget" => options.budget = Some(number(name, value()?, 0, u64::MAX)?),
+        "--accepted" => options.accepted = Some(output(name, value()?)?),
+        "--log" => options.log = Some(output(name, value()?)?),
+        "--picture" => options.picture = Some(output(name, value()?)?),
+        _ => return Err(format!("unknown option {name}; see --help")),
+    }
+    Ok(())
+}
+
 fn take_file(options: &mut Options, word: &OsStr) -> Result<(), String> {
-    match options.file.replace(word.into()) {
-        None => Ok(()),
-        Some(first) => Err(format!(
-            "two files are named, {} and {}; one announcement at a time",
-            first.display(),
-            word.display()
-        )),
+    let source = match word.as_bytes() {
+        b"" => return Err("a file's name is empty".into()),
+        b"-" => Source::Input,
+        _ => Source::File(word.into()),
+    };
+    if source == Source::Input && options.sources.contains(&source) {
+        return Err("- is named twice; standard input can be read once".into());
+    }
+    options.sources.push(source);
+    Ok(())
+}
+
+fn output(option: &str, word: &OsStr) -> Result<PathBuf, String> {
+    match word.as_bytes() {
+        b"" => Err(format!("{option} takes a file's name, and not an empty one")),
+        b"-" => Err(format!("{option} takes a file's name; standard output has the page")),
+        _ => Ok(word.into()),
     }
 }
 

@@ -1,44 +1,109 @@
 //! The auditor's page.
+use crate::account::{Gap, Part, Same};
 use crate::options::Options;
-use crate::speak::{Told, turns_enough};
+use crate::report::{Built, Report};
+use crate::told::Told;
 use std::fmt::Write;
 
 /// The page: one fact a line, its name first.
-pub fn of(options: &Options, frames: &[u8], told: &Told) -> String {
-    let mut page = String::new();
-    let mut line = |name: &str, fact: String| {
+pub fn of(report: &Report, built: &Built) -> String {
+    let mut lines = Lines(String::new());
+    before(&mut lines, report);
+    device(&mut lines, report);
+    after(&mut lines, report);
+    lines.line("date", &built.date);
+    let kit = built.kit.map(|kit| format!("{kit} (.ci/kit)"));
+    lines.line(
+        "kit",
+        kit.as_deref().unwrap_or("not known: built outside the repository"),
+    );
+    let archive = built.archive.map(|sum| format!("sha256 {sum}"));
+    lines.line("archive", archive.as_deref().unwrap_or("not known"));
+    lines.0
+}
+
+/// The line below several pages.
+pub fn closing(reports: &[Report]) -> String {
+    let given = reports.iter().filter(|report| report.given()).count();
+    let mut lines = Lines("\n".into());
+    let fact = format!(
+        "{} announcements on one device: {given} given whole, {} not",
+        reports.len(),
+        reports.len() - given
+    );
+    lines.line("together", &fact);
+    lines.0
+}
+
+struct Lines(String);
+
+impl Lines {
+    fn line(&mut self, name: &str, fact: &str) {
         // writing to a string does not fail
-        let _ = writeln!(page, "{name:<13}{fact}");
-    };
-    line("announcement", announcement(options, frames));
-    line("stream", stream(told));
-    line("parameters", parameters(options));
-    line("periods", periods(frames.len(), options.period as usize));
-    line("turns", turns(options, frames, told));
-    line("submitted", count(told.submitted as u64, "period"));
-    line("accepted", accepted(frames, told));
-    if let Some(fault) = &told.fault {
-        line("device", fault.clone());
+        let _ = writeln!(self.0, "{name:<13}{fact}");
     }
-    line("owed", owed(told));
+}
+
+/// What was to be spoken.
+fn before(lines: &mut Lines, report: &Report) {
+    let (options, recording) = (report.options, report.recording);
+    let bytes = recording.frames.len();
+    lines.line("announcement", &format!("{}, {bytes} bytes", recording.name));
+    lines.line("frames", &format!("sha256 {}", recording.sha256));
+    lines.line("recording", &format!("{:.6} s", report.seconds()));
+    for warning in recording.warnings(options) {
+        lines.line("warning", &warning);
+    }
+    lines.line("stream", &stream(&report.told));
+    lines.line("parameters", &parameters(options));
+    lines.line("periods", &periods(bytes, options.period as usize));
+}
+
+/// What the device did.
+fn device(lines: &mut Lines, report: &Report) {
+    let (told, account) = (&report.told, &report.account);
+    lines.line("turns", &turns(report.options, told));
+    lines.line("submitted", &count(told.periods.len() as u64, "period"));
+    lines.line("accepted", &accepted(report));
+    lines.line("accepted", &format!("sha256 {}", account.accepted.sha256));
+    for fault in &told.faults {
+        lines.line("fault", &fault.to_string());
+    }
+    lines.line("owed", &owed(told));
     if told.owed > 0 {
-        line("drained", drained(frames, told));
+        lines.line("drained", &drained(report));
+        lines.line("drained", &format!("sha256 {}", account.drained.sha256));
     }
-    line("answer", answer(told));
-    line("wall time", format!("{:.6} s", told.time.as_secs_f64()));
-    page
+    for gap in &account.gaps {
+        lines.line("gap", &shown(gap));
+    }
+    lines.line("broke off", &broke_off(report));
+}
+
+/// The answer, and how long it took.
+fn after(lines: &mut Lines, report: &Report) {
+    let told = &report.told;
+    lines.line("answer", &told.answered());
+    match told.at_most() {
+        Some(seconds) => {
+            let turns = count(told.allowed, "turn");
+            lines.line("longest turn", &format!("{:.9} s", told.longest.as_secs_f64()));
+            lines.line(
+                "at most",
+                &format!("{seconds:.9} s in the transfer: {turns} allowed, each no longer than the longest"),
+            );
+        }
+        None => {
+            lines.line("longest turn", "no turn ran");
+            lines.line("at most", "not known: no turn was measured");
+        }
+    }
+    lines.line("wall time", &format!("{:.6} s", told.time.as_secs_f64()));
 }
 
 fn count(number: u64, thing: &str) -> String {
     let ending = if number == 1 { "" } else { "s" };
     format!("{number} {thing}{ending}")
-}
-
-fn announcement(options: &Options, frames: &[u8]) -> String {
-    match &options.file {
-        Some(file) => format!("{}, {} bytes", file.display(), frames.len()),
-        None => format!("a tone of {} s, {} bytes", options.seconds, frames.len()),
-    }
 }
 
 fn stream(told: &Told) -> String {
@@ -62,11 +127,7 @@ fn parameters(options: &Options) -> String {
 }
 
 fn periods(bytes: usize, period: usize) -> String {
-    let (whole, rest) = (
-        bytes.checked_div(period).unwrap_or(0),
-        bytes.checked_rem(period).unwrap_or(0),
-    );
-    match (whole, rest) {
+    match (bytes / period, bytes % period) {
         (0, 0) => "0".into(),
         (0, rest) => format!("1: of {rest} bytes"),
         (whole, 0) => format!("{whole}: each of {period} bytes"),
@@ -74,25 +135,31 @@ fn periods(bytes: usize, period: usize) -> String {
     }
 }
 
-fn turns(options: &Options, frames: &[u8], told: &Told) -> String {
-    let enough = turns_enough(options, frames);
-    let allowed = options.budget.unwrap_or(enough);
+fn turns(options: &Options, told: &Told) -> String {
     format!(
-        "{} of {allowed} allowed (n*g + 1 = {enough} with g = {})",
-        told.turns, options.slow
+        "{} of {} allowed (n*g + 1 = {} with g = {})",
+        told.turns, told.allowed, told.enough, options.slow
     )
 }
 
-fn accepted(frames: &[u8], told: &Told) -> String {
-    let bytes = told.accepted();
-    let same = match (bytes.as_slice(), frames.starts_with(&bytes)) {
-        ([], _) => "none",
-        (_, true) if bytes.len() == frames.len() => "the frames, byte for byte",
-        (_, true) => "the frames' first bytes, byte for byte",
-        (_, false) => "NOT the frames' first bytes",
+fn accepted(report: &Report) -> String {
+    let (part, all) = (&report.account.accepted, report.recording.frames.len());
+    let which = match part.same {
+        Same::Run { from: 0 } if part.bytes == all => "the frames, byte for byte".into(),
+        Same::Run { from: 0 } => "the frames' first bytes, byte for byte".into(),
+        _ => same(part),
     };
-    let periods = count(told.taken_at_answer as u64, "period");
-    format!("{} of {} bytes, in {periods}: {same}", bytes.len(), frames.len())
+    let periods = count(part.periods as u64, "period");
+    format!("{} of {all} bytes, in {periods}: {which}", part.bytes)
+}
+
+fn same(part: &Part) -> String {
+    match part.same {
+        Same::Nothing => "none".into(),
+        Same::Run { from } => format!("the frames' bytes from {from} on"),
+        Same::Places => "the frames' bytes, each period those of its own place".into(),
+        Same::Not { period } => format!("NOT the frames' bytes, first in period {period}"),
+    }
 }
 
 fn owed(told: &Told) -> String {
@@ -102,28 +169,36 @@ fn owed(told: &Told) -> String {
     }
 }
 
-fn drained(frames: &[u8], told: &Told) -> String {
-    let later = told.accepted_later();
-    let bytes: usize = later.iter().map(|taken| taken.payload.len()).sum();
-    let from = later.first().map_or(0, |taken| taken.offset);
-    let mut next = from;
-    let same = later.iter().all(|taken| {
-        let follows = taken.offset == next;
-        next += taken.payload.len();
-        follows && frames.get(taken.offset..next) == Some(&taken.payload)
-    });
-    let which = if same {
-        "the frames' bytes"
-    } else {
-        "NOT the frames' bytes"
-    };
-    let turns = count(told.drain_turns, "turn");
-    format!("in {turns}; the device accepted {bytes} bytes more meanwhile: {which} from {from} on")
+fn drained(report: &Report) -> String {
+    let (told, part) = (&report.told, &report.account.drained);
+    let periods = count(part.periods as u64, "period");
+    format!(
+        "in {} of {} allowed; the device accepted {} bytes more meanwhile, in {periods}: {}",
+        count(told.drain_turns, "turn"),
+        told.drain_allowed,
+        part.bytes,
+        same(part)
+    )
 }
 
-fn answer(told: &Told) -> String {
-    match told.refused {
-        None => told.answer().to_string(),
-        Some((call, refusal)) => format!("{refusal}, to {call}"),
+fn shown(gap: &Gap) -> String {
+    let periods = if gap.first == gap.last {
+        format!("period {}", gap.first)
+    } else {
+        format!("periods {} to {}", gap.first, gap.last)
+    };
+    let last = gap.offset + gap.length - 1;
+    format!("{periods}, bytes {} to {last}: {}", gap.offset, gap.why)
+}
+
+fn broke_off(report: &Report) -> String {
+    match report.broke_off() {
+        None => "nowhere".into(),
+        Some(gap) => format!(
+            "at period {}, byte {}, second {:.6}",
+            gap.first,
+            gap.offset,
+            report.options.second(gap.offset)
+        ),
     }
 }

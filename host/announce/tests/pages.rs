@@ -1,63 +1,63 @@
-//! The program's pages and complaints, as a newcomer sees them: each run is compared with a stored text, the wall time masked.
-use std::path::PathBuf;
-use std::process::{Command, Output};
-use std::{env, fs};
+//! The pages, as a newcomer sees them: each run is compared with a stored text, what differs from run to run and from build to build masked.
+mod common;
 
-/// A folder of its own for one test.
-fn folder(name: &str) -> PathBuf {
-    let folder = env::temp_dir().join(format!("announce-{}-{name}", std::process::id()));
-    fs::create_dir_all(&folder).unwrap();
-    folder
-}
+use common::{Folder, frames, stored};
+use std::process::Output;
 
-fn run(folder: &PathBuf, words: &str) -> Output {
-    let mut command = Command::new(env!("CARGO_BIN_EXE_announce"));
-    command
-        .args(words.split_whitespace())
-        .current_dir(folder)
-        .output()
-        .unwrap()
-}
-
-/// The page with the one figure that differs from run to run blotted out.
+/// The page with its times, its date and what it was built with blotted out.
 fn masked(output: &Output) -> String {
     let text = String::from_utf8(output.stdout.clone()).unwrap();
-    let mask = |line: &str| match line.split_once("wall time") {
-        Some(("", figure)) => {
-            let seconds = figure.trim().strip_suffix(" s").expect("a time in seconds");
-            assert!(seconds.parse::<f64>().unwrap() >= 0.0);
-            "wall time    MASKED\n".to_string()
-        }
-        _ => format!("{line}\n"),
-    };
-    text.lines().map(mask).collect()
+    text.lines().map(|line| mask(line) + "\n").collect()
 }
 
-/// Runs the program in `folder` and holds it to a stored page and a status.
-fn page_in(folder: &PathBuf, name: &str, words: &str, status: i32) {
-    let output = run(folder, words);
-    let stored = concat!(env!("CARGO_MANIFEST_DIR"), "/tests/pages").to_string() + "/" + name;
-    let wanted = fs::read_to_string(&stored).unwrap_or_else(|why| panic!("{stored}: {why}"));
-    assert_eq!(masked(&output), wanted, "announce {words}");
+fn mask(line: &str) -> String {
+    let name = line.get(..13).unwrap_or_default();
+    let fact = &line[name.len()..];
+    match name.trim_end() {
+        "longest turn" | "at most" | "wall time" => match fact.split_once(" s") {
+            Some((seconds, rest)) if seconds.parse::<f64>().is_ok_and(|seconds| seconds >= 0.0) => {
+                format!("{name}MASKED s{rest}")
+            }
+            // no turn ran
+            _ => line.into(),
+        },
+        "date" => {
+            assert_eq!((fact.len(), &fact[10..11], &fact[19..]), (20, "T", "Z"), "{line}");
+            format!("{name}MASKED")
+        }
+        "kit" | "archive" => format!("{name}MASKED"),
+        _ => line.into(),
+    }
+}
+
+/// Holds what a run said to a stored page and a status.
+fn held(output: &Output, name: &str, status: i32) {
+    stored(&format!("pages/{name}"), &masked(output));
     assert_eq!(String::from_utf8_lossy(&output.stderr), "");
-    assert_eq!(output.status.code(), Some(status));
+    assert_eq!(output.status.code(), Some(status), "{name}");
 }
 
 fn page(name: &str, words: &str, status: i32) {
-    page_in(&env::temp_dir(), name, words, status);
-}
-
-/// Bad options and files: one sentence, status 2, no page.
-fn complaint(words: &str, sentence: &str) {
-    let output = run(&env::temp_dir(), words);
-    let said = String::from_utf8(output.stderr).unwrap();
-    assert_eq!(said, format!("announce: {sentence}\n"), "announce {words}");
-    assert_eq!((output.stdout.len(), output.status.code()), (0, Some(2)));
+    held(&Folder::new(name).run(words), name, status);
 }
 
 #[test]
 fn a_good_run() {
     page("good", "", 0);
+}
+
+/// The README shows the good page.
+#[test]
+fn the_readme() {
+    let stored = concat!(env!("CARGO_MANIFEST_DIR"), "/tests/pages/good");
+    let Ok(readme) = std::fs::read_to_string(concat!(env!("CARGO_MANIFEST_DIR"), "/../../README.md")) else {
+        println!("README.md is not at hand: not tried");
+        return;
+    };
+    let page = std::fs::read_to_string(stored).unwrap();
+    let (shown, _times) = page.split_once("longest turn").unwrap();
+    let shown: String = shown.lines().map(|line| format!("    {line}\n")).collect();
+    assert!(readme.contains(&shown), "the README does not show\n{shown}");
 }
 
 #[test]
@@ -69,6 +69,18 @@ fn a_slow_device() {
 fn a_device_that_fails_a_period() {
     page("fail", "--fail-at 5", 1);
     page("fail-slow", "--fail-at 5 --slow 3", 1);
+}
+
+/// Good bytes are not accused, and the period that is missing is named.
+#[test]
+fn a_period_that_fails_in_the_drain() {
+    page("fail-in-drain", "--slow 4 --budget 20 --fail-at 7", 1);
+}
+
+/// Both are told, in their order.
+#[test]
+fn two_faults() {
+    page("two-faults", "--slow 4 --budget 20 --fail-at 7 --wrong-slot-at 3", 1);
 }
 
 #[test]
@@ -93,62 +105,98 @@ fn other_parameters() {
         0,
     );
     page("nothing-to-say", "--seconds 0", 0);
-    page("period-rule", "--period 3 --buffer 8", 1);
-    page("period-0", "--period 0", 1);
 }
 
 #[test]
 fn help() {
     page("help", "--help", 0);
+    page("help", "-h", 0);
 }
 
 #[test]
 fn a_file_of_frames_is_accepted_byte_for_byte() {
-    let folder = folder("file");
-    let frames: Vec<u8> = (0..10_000u32).map(|n| ((n * n) >> 5) as u8).collect();
-    fs::write(folder.join("feeder.raw"), &frames).unwrap();
-    page_in(&folder, "file", "feeder.raw --accepted accepted.raw", 0);
-    assert_eq!(fs::read(folder.join("accepted.raw")).unwrap(), frames);
-    page_in(
-        &folder,
-        "file-cut-short",
-        "feeder.raw --accepted accepted.raw --fail-at 2",
-        1,
-    );
-    assert_eq!(fs::read(folder.join("accepted.raw")).unwrap(), frames[..4096]);
-    fs::remove_dir_all(folder).unwrap();
+    let folder = Folder::new("file");
+    let frames = frames(10_000);
+    folder.write("feeder.raw", &frames);
+    let output = folder.run("feeder.raw --accepted accepted.raw");
+    held(&output, "file", 0);
+    assert_eq!(folder.read("accepted.raw"), frames);
+    let output = folder.run("feeder.raw --accepted accepted.raw --fail-at 2");
+    held(&output, "file-cut-short", 1);
+    assert_eq!(folder.read("accepted.raw"), frames[..4096]);
 }
 
 #[test]
-fn unreadable_and_unwritable_files() {
-    complaint(
-        "no-such-file.raw",
-        "cannot read no-such-file.raw: No such file or directory (os error 2)",
-    );
-    complaint(
-        "--accepted no-such-folder/a",
-        "cannot write no-such-folder/a: No such file or directory (os error 2)",
-    );
+fn standard_input() {
+    let folder = Folder::new("input");
+    held(&folder.run_with("-", &frames(10_000)), "input", 0);
+}
+
+/// Both still answer 0: what is warned of is the recording, not the device.
+#[test]
+fn warnings() {
+    let folder = Folder::new("warnings");
+    folder.write("empty.raw", b"");
+    held(&folder.run("empty.raw"), "empty", 0);
+    folder.write("cut.raw", &frames(10_001));
+    held(&folder.run("cut.raw"), "part-frame", 0);
+}
+
+/// The device counts on from one file to the next: the fourth period that it gives back is the second file's first. The third is whole.
+#[test]
+fn several_files_on_one_device() {
+    let folder = Folder::new("several");
+    let (one, two) = (frames(10_000), frames(9_000));
+    folder.write("one.raw", &one);
+    folder.write("two.raw", &two);
+    let words = "one.raw two.raw one.raw --fail-at 4 --slow 2 --accepted accepted.raw";
+    held(&folder.run(words), "several", 1);
+    assert_eq!(folder.read("accepted.raw"), [one.clone(), one.clone()].concat());
+    let output = folder.run("one.raw two.raw --accepted accepted.raw");
+    held(&output, "several-good", 0);
+    assert_eq!(folder.read("accepted.raw"), [one, two].concat());
 }
 
 #[test]
-fn bad_options() {
-    complaint("--loud", "unknown option --loud; see --help");
-    complaint("--slow", "--slow needs a value; see --help");
-    complaint("--slow 0", "--slow takes a number from 1 to 1000000, not '0'");
-    complaint(
-        "--budget -1",
-        "--budget takes a number from 0 to 18446744073709551615, not '-1'",
+fn forms_of_options() {
+    page("slow", "--slow=3", 0);
+    let folder = Folder::new("forms");
+    folder.write("--slow", &frames(100));
+    let output = folder.run("--slow=3 --budget=9 -- --slow");
+    held(&output, "after-the-options", 0);
+    assert_eq!(folder.run("./--slow --slow 3").status.code(), Some(0));
+}
+
+/// A name with a line's end writes no line of the page.
+#[test]
+fn a_name_with_a_line_in_it() {
+    let folder = Folder::new("name");
+    let name = "a\nanswer       0 Ok";
+    folder.write(name, &frames(100));
+    let output = folder.command(&[name, "--budget", "0"]).output().unwrap();
+    let page = masked(&output);
+    assert!(
+        page.starts_with("announcement a\\nanswer       0 Ok, 100 bytes\n"),
+        "{page}"
     );
-    complaint(
-        "--fail-at 0",
-        "--fail-at takes a number from 1 to 18446744073709551615, not '0'",
+    let answers: Vec<_> = page.lines().filter(|line| line.starts_with("answer")).collect();
+    assert_eq!(answers, ["answer       9 OutOfTurns, to transfer"]);
+}
+
+/// The page names the kit of the repository and the archive that is linked.
+#[test]
+fn what_it_was_built_with() {
+    let output = Folder::new("built").run("");
+    let page = String::from_utf8(output.stdout).unwrap();
+    let line = |name: &str| page.lines().find(|line| line.starts_with(name)).unwrap();
+    let archive = std::fs::read(env!("ANNOUNCE_ARCHIVE")).unwrap();
+    assert_eq!(
+        line("archive"),
+        format!("archive      sha256 {}", sha256::hex(&archive))
     );
-    complaint("--channels 256", "--channels takes a number from 1 to 255, not '256'");
-    complaint(
-        "a.raw b.raw",
-        "two files are named, a.raw and b.raw; one announcement at a time",
-    );
-    let rates = "5512, 8000, 11025, 16000, 22050, 32000, 44100, 48000, 64000, 88200, 96000, 176400, 192000, 384000";
-    complaint("--rate 47999", &format!("--rate takes one of {rates}, not '47999'"));
+    let wanted = match std::fs::read_to_string(concat!(env!("CARGO_MANIFEST_DIR"), "/../../.ci/kit")) {
+        Ok(kit) => format!("kit          {} (.ci/kit)", kit.trim()),
+        Err(_) => "kit          not known: built outside the repository".into(),
+    };
+    assert_eq!(line("kit"), wanted);
 }

@@ -1,0 +1,36 @@
+//! The text of --help.
+
+pub const HELP: &str = "\
+announce: speak announcements through the proved driver to the model device
+
+usage: announce [OPTIONS] [FILE]...
+
+FILE has raw frames (signed 16 bits, little-endian); - is standard input;
+without a FILE a tone is made. Several are spoken one after the other on one
+device that is set up once: a page for each, and a closing line.
+
+  --seconds S        length of the tone (3)
+  --rate HZ          frames a second, one of VirtIO's 14 (48000)
+  --channels N       channels of a frame, 1 to 255 (2)
+  --period BYTES     bytes of a period (4096)
+  --buffer BYTES     bytes of the device's buffer, a multiple of the period
+                     (4 periods)
+  --slow G           the device completes a period only every G turns (1)
+  --fail-at N        the device fails period N (the first is 1)
+  --wrong-slot-at N  the device names a wrong slot at its completion N
+  --budget N         turns allowed to an announcement (periods * G + 1)
+  --accepted FILE    write the bytes that the device had accepted when the
+                     transfer answered: compare FILE with the frames
+  --log FILE         write one JSON object: the page's facts, every period
+  --picture FILE     write a timeline of the transfer, an SVG
+  -h, --help         this text
+
+--name=value is --name value, and -- ends the options. With several FILEs the
+device counts N of --fail-at and --wrong-slot-at over all of them; --accepted,
+--log and --picture have all of them, in order. Nothing that is read is
+overwritten, and no two outputs are one file.
+
+Exit status, the worst of all FILEs: 0 the device accepted the whole
+announcement; 1 it did not, and the page says why; 2 nothing was spoken for
+bad options or files, or an output could not be written.
+";

@@ -1,0 +1,150 @@
+//! The log: the facts of all pages, and every period, as one JSON object.
+use crate::account::{Gap, Part, Same};
+use crate::json::{self, Object};
+use crate::report::{Built, Report};
+use crate::told::{Fault, Period, What, When};
+
+/// The form of the log; a change that a reader would notice counts it up.
+const VERSION: u64 = 1;
+
+pub fn of(reports: &[Report], built: &Built, status: u8) -> String {
+    json::object(|log| {
+        log.text("program", "announce");
+        log.number("version", VERSION);
+        log.text("date", &built.date);
+        log.text_if("kit", built.kit);
+        log.text_if("archive_sha256", built.archive);
+        log.number("exit_status", status.into());
+        log.list("announcements", reports, announcement);
+    })
+}
+
+fn announcement(to: &mut Object, report: &Report) {
+    before(to, report);
+    device(to, report);
+    after(to, report);
+    let size = report.options.period as usize;
+    to.list("periods", &report.told.periods, |to, one| period(to, one, size));
+}
+
+fn before(to: &mut Object, report: &Report) {
+    let (options, recording, told) = (report.options, report.recording, &report.told);
+    to.text("announcement", &recording.name);
+    to.number("bytes", recording.frames.len() as u64);
+    to.text("sha256", &recording.sha256);
+    to.seconds("seconds", Some(report.seconds()));
+    to.texts("warnings", &recording.warnings(options));
+    match told.stream {
+        Some(stream) => to.object("stream", |to| {
+            to.number("number", stream.into());
+            to.number("channels_min", told.channels.min.into());
+            to.number("channels_max", told.channels.max.into());
+        }),
+        None => to.null("stream"),
+    }
+    to.object("parameters", |to| {
+        to.number("buffer", options.buffer.into());
+        to.number("period", options.period.into());
+        to.number("channels", options.channels.into());
+        to.text("format", "S16");
+        to.number("rate", options.rate.hz().into());
+    });
+    let periods = recording.frames.len().div_ceil(options.period as usize);
+    to.number("period_count", periods as u64);
+}
+
+fn device(to: &mut Object, report: &Report) {
+    let (told, account) = (&report.told, &report.account);
+    to.object("turns", |to| {
+        to.number("run", told.turns);
+        to.number("allowed", told.allowed);
+        to.number("enough", told.enough);
+        to.number("slow", report.options.slow);
+    });
+    to.number("submitted", told.periods.len() as u64);
+    to.object("accepted", |to| part(to, &account.accepted));
+    to.list("faults", &told.faults, fault);
+    to.number("owed", told.owed);
+    to.object("drained", |to| {
+        to.number("turns", told.drain_turns);
+        to.number("allowed", told.drain_allowed);
+        part(to, &account.drained);
+    });
+    to.list("gaps", &account.gaps, gap);
+    match report.broke_off() {
+        None => to.null("broke_off"),
+        Some(gap) => to.object("broke_off", |to| {
+            to.number("period", gap.first as u64);
+            to.number("byte", gap.offset as u64);
+            to.seconds("second", Some(report.options.second(gap.offset)));
+        }),
+    }
+}
+
+fn after(to: &mut Object, report: &Report) {
+    let told = &report.told;
+    to.object("answer", |to| {
+        to.number("number", told.answer().number().into());
+        to.text("name", told.answer().name());
+        to.text_if("call", told.refused.map(|(call, _)| call));
+    });
+    to.truth("given", report.given());
+    let measured = (told.turns > 0).then_some(told.longest.as_secs_f64());
+    to.seconds("longest_turn", measured);
+    to.seconds("at_most", told.at_most());
+    to.seconds("wall_time", Some(told.time.as_secs_f64()));
+}
+
+/// The bytes of `same` are compared each at its own place.
+fn part(to: &mut Object, part: &Part) {
+    to.number("bytes", part.bytes as u64);
+    to.number("periods", part.periods as u64);
+    to.text("sha256", &part.sha256);
+    to.truth("same", !matches!(part.same, Same::Not { .. }));
+}
+
+fn when(to: &mut Object, when: When) {
+    to.text("phase", when.phase());
+    to.number("turn", when.turn());
+}
+
+fn fault(to: &mut Object, fault: &Fault) {
+    when(to, fault.when);
+    match fault.what {
+        What::WrongSlot { completion, named, due } => {
+            to.text("kind", "wrong slot");
+            to.number("completion", completion);
+            to.number("named", named.into());
+            to.number("due", due.into());
+        }
+        What::Status { period, status } => {
+            to.text("kind", "status");
+            to.number("period", period as u64);
+            to.number("status", status.into());
+        }
+    }
+    to.text("text", &fault.what.to_string());
+}
+
+fn gap(to: &mut Object, gap: &Gap) {
+    to.number("first", gap.first as u64);
+    to.number("last", gap.last as u64);
+    to.number("offset", gap.offset as u64);
+    to.number("length", gap.length as u64);
+    to.text("why", &gap.why.to_string());
+}
+
+fn period(to: &mut Object, period: &Period, size: usize) {
+    to.number("period", (period.offset / size + 1) as u64);
+    to.number("slot", period.slot.into());
+    to.number("offset", period.offset as u64);
+    to.number("length", period.length as u64);
+    to.number("submitted", period.submitted);
+    match period.completed {
+        None => to.null("completed"),
+        Some(completed) => to.object("completed", |to| {
+            when(to, completed.when);
+            to.number("status", completed.status.into());
+        }),
+    }
+}

@@ -1,0 +1,161 @@
+//! What is refused: one sentence, status 2, no page, and nothing written.
+mod common;
+
+use common::{Folder, complains, frames};
+use std::fs::{self, File, OpenOptions};
+use std::os::unix::fs::symlink;
+
+fn complaint(words: &str, sentence: &str) {
+    complains(&Folder::new("complaint").run(words), sentence);
+}
+
+#[test]
+fn unreadable_and_unwritable_files() {
+    complaint(
+        "no-such-file.raw",
+        "cannot read no-such-file.raw: No such file or directory (os error 2)",
+    );
+    complaint(
+        "--accepted no-such-folder/a",
+        "cannot write no-such-folder/a: No such file or directory (os error 2)",
+    );
+    // one that cannot be read, and none is spoken
+    let folder = Folder::new("unreadable");
+    folder.write("a.raw", &frames(100));
+    complains(
+        &folder.run("a.raw no-such-file.raw --log log.json"),
+        "cannot read no-such-file.raw: No such file or directory (os error 2)",
+    );
+    assert!(!folder.0.join("log.json").exists());
+}
+
+#[test]
+fn bad_options() {
+    complaint("--loud", "unknown option --loud; see --help");
+    complaint("--loud=3", "unknown option --loud; see --help");
+    complaint("-l", "unknown option -l; see --help");
+    complaint("--help=3", "--help takes no value");
+    complaint("--slow", "--slow needs a value; see --help");
+    complaint("--slow 0", "--slow takes a number from 1 to 1000000, not '0'");
+    complaint("--slow=", "--slow takes a number from 1 to 1000000, not ''");
+    complaint(
+        "--budget -1",
+        "--budget takes a number from 0 to 18446744073709551615, not '-1'",
+    );
+    complaint(
+        "--fail-at 0",
+        "--fail-at takes a number from 1 to 18446744073709551615, not '0'",
+    );
+    complaint("--log -", "--log takes a file's name; standard output has the page");
+    complaint("--log=", "--log takes a file's name, and not an empty one");
+    complaint("- -- -", "- is named twice; standard input can be read once");
+    let rates = "5512, 8000, 11025, 16000, 22050, 32000, 44100, 48000, 64000, 88200, 96000, 176400, 192000, 384000";
+    complaint("--rate 47999", &format!("--rate takes one of {rates}, not '47999'"));
+}
+
+#[test]
+fn sizes_that_cannot_be() {
+    complaint("--channels 0", "--channels takes a number from 1 to 255, not '0'");
+    complaint("--channels 256", "--channels takes a number from 1 to 255, not '256'");
+    complaint("--period 0", "--period takes a number from 1 to 4294967295, not '0'");
+    complaint("--buffer 0", "--buffer takes a number from 1 to 4294967295, not '0'");
+    complaint("--period 3 --buffer 8", "--buffer 8 is no multiple of the period, 3");
+    complaint(
+        "--buffer 4294967296",
+        "--buffer takes a number from 1 to 4294967295, not '4294967296'",
+    );
+    complaint(
+        "--period 1073741824",
+        "four periods of 1073741824 bytes are more than a buffer can have, 4294967295: name one with --buffer",
+    );
+    complaint(
+        "--seconds 3600 --rate 384000 --channels 255",
+        "a tone of 3600 s at 384000 Hz with 255 channels is 705024000000 bytes; at most 1073741824 are made",
+    );
+    complaint(
+        "--seconds 6 --period 1",
+        "a tone of 6 s has 1152000 periods with --period 1; an account is kept of at most 1000000",
+    );
+}
+
+/// A folder with a recording, other names for it, and links to files that are not there.
+fn with_links(name: &str) -> Folder {
+    let folder = Folder::new(name);
+    let place = |name: &str| folder.0.join(name);
+    folder.write("feeder.raw", &frames(5_000));
+    fs::create_dir(place("sub")).unwrap();
+    symlink("feeder.raw", place("link")).unwrap();
+    symlink("..", place("sub/up")).unwrap();
+    fs::hard_link(place("feeder.raw"), place("twin")).unwrap();
+    symlink("new.raw", place("to-new")).unwrap();
+    symlink("endless", place("endless")).unwrap();
+    folder
+}
+
+#[test]
+fn no_input_is_overwritten() {
+    let folder = with_links("overwrite");
+    let spelled = [
+        "feeder.raw",
+        "./feeder.raw",
+        "sub/../feeder.raw",
+        "sub/up/feeder.raw",
+        "link",
+        "twin",
+    ];
+    for output in ["--accepted", "--log", "--picture"] {
+        for path in spelled {
+            let said = folder.run(&format!("--seconds 0 feeder.raw {output} {path}"));
+            complains(&said, &format!("{output} {path} would overwrite the input feeder.raw"));
+        }
+    }
+    complains(
+        &folder.run("sub/up/link --log feeder.raw"),
+        "--log feeder.raw would overwrite the input sub/up/link",
+    );
+    assert_eq!(folder.read("feeder.raw"), frames(5_000));
+}
+
+#[test]
+fn no_two_outputs_meet() {
+    let folder = with_links("meet");
+    for path in [
+        "new.raw",
+        "./new.raw",
+        "sub/../new.raw",
+        "sub/up/new.raw",
+        "to-new",
+        "sub/up/to-new",
+    ] {
+        let said = folder.run(&format!("--accepted new.raw --picture {path}"));
+        complains(
+            &said,
+            &format!("--accepted new.raw and --picture {path} are the same file"),
+        );
+    }
+    complains(
+        &folder.run("--log sub/../link --accepted twin"),
+        "--accepted twin and --log sub/../link are the same file",
+    );
+    assert!(!folder.0.join("new.raw").exists());
+    // nothing is lost there
+    let said = folder.run("--log /dev/null --accepted /dev/null --picture /dev/null");
+    assert_eq!(said.status.code(), Some(0));
+    let said = folder.run("--log endless");
+    assert_eq!(said.status.code(), Some(2));
+}
+
+/// Redirected to files, standard input and output are files like others.
+#[test]
+fn redirected() {
+    let folder = with_links("redirected");
+    let file = folder.0.join("feeder.raw");
+    let mut command = folder.command(&["-", "--log", "link"]);
+    let said = command.stdin(File::open(&file).unwrap()).output().unwrap();
+    complains(&said, "--log link would overwrite the input -");
+    let mut command = folder.command(&["feeder.raw"]);
+    let append = OpenOptions::new().append(true).open(&file).unwrap();
+    let said = command.stdout(append).output().unwrap();
+    complains(&said, "standard output would overwrite the input feeder.raw");
+    assert_eq!(folder.read("feeder.raw"), frames(5_000));
+}

@@ -1,0 +1,139 @@
+//! The log, read back.
+mod common;
+
+use common::json::{self, Json};
+use common::{Folder, frames};
+use std::process::Command;
+
+/// Runs the program, and reads the log that it wrote.
+fn log(folder: &Folder, words: &str) -> Json {
+    folder.run(&format!("{words} --log log.json"));
+    json::read(&folder.text("log.json"))
+}
+
+/// Members of an object, as numbers.
+fn numbers<const N: usize>(of: &Json, names: [&str; N]) -> [u64; N] {
+    names.map(|name| of.at(name).number())
+}
+
+#[test]
+fn a_good_run() {
+    let folder = Folder::new("log-good");
+    let frames = frames(10_000);
+    folder.write("feeder.raw", &frames);
+    let log = log(&folder, "feeder.raw");
+    assert_eq!(numbers(&log, ["version", "exit_status"]), [1, 0]);
+    let [announcement] = log.at("announcements").list() else {
+        panic!("one announcement")
+    };
+    assert_eq!(announcement.at("announcement").text(), "feeder.raw");
+    assert_eq!(announcement.at("sha256").text(), sha256::hex(&frames));
+    let accepted = announcement.at("accepted");
+    assert_eq!(accepted.at("sha256").text(), sha256::hex(&frames));
+    assert_eq!(numbers(accepted, ["bytes", "periods"]), [10_000, 3]);
+    let answer = announcement.at("answer");
+    assert_eq!((answer.at("number").number(), answer.at("name").text()), (0, "Ok"));
+    assert_eq!(answer.at("call"), &Json::Null);
+    assert_eq!(announcement.at("given"), &Json::Truth(true));
+    assert_eq!(announcement.at("broke_off"), &Json::Null);
+    let longest = announcement.at("longest_turn").seconds();
+    // four turns are allowed; both figures are rounded
+    assert!((announcement.at("at_most").seconds() - 4.0 * longest).abs() < 1e-8);
+    for name in ["gaps", "faults", "warnings"] {
+        assert_eq!(announcement.at(name).list(), []);
+    }
+    periods_in_order(announcement.at("periods").list(), &[4096, 4096, 1808]);
+}
+
+/// Each is submitted in its own turn, and completed in the same.
+fn periods_in_order(periods: &[Json], lengths: &[u64]) {
+    assert_eq!(periods.len(), lengths.len());
+    for ((number, period), length) in (1..).zip(periods).zip(lengths) {
+        let names = ["period", "slot", "offset", "length", "submitted"];
+        let offset = (number - 1) * 4096;
+        assert_eq!(numbers(period, names), [number, number - 1, offset, *length, number]);
+        let completed = period.at("completed");
+        assert_eq!(completed.at("phase").text(), "transfer");
+        assert_eq!(numbers(completed, ["turn", "status"]), [number, 0x8000]);
+    }
+}
+
+#[test]
+fn two_faults_and_a_drain() {
+    let folder = Folder::new("log-faults");
+    let log = log(&folder, "--slow 4 --budget 20 --fail-at 7 --wrong-slot-at 3");
+    assert_eq!(log.at("exit_status").number(), 1);
+    let announcement = &log.at("announcements").list()[0];
+    let [wrong, failed] = announcement.at("faults").list() else {
+        panic!("two faults")
+    };
+    assert_eq!(wrong.at("phase").text(), "transfer");
+    assert_eq!(numbers(wrong, ["turn", "completion", "named", "due"]), [12, 3, 3, 2]);
+    assert_eq!(failed.at("phase").text(), "drain");
+    assert_eq!(numbers(failed, ["turn", "period", "status"]), [20, 7, 0x8003]);
+    let answer = announcement.at("answer");
+    assert_eq!(answer.at("number").number(), 6);
+    assert_eq!(
+        (answer.at("name").text(), answer.at("call").text()),
+        ("WrongToken", "transfer")
+    );
+    let [failed, rest] = announcement.at("gaps").list() else {
+        panic!("two gaps")
+    };
+    let names = ["first", "last", "offset", "length"];
+    assert_eq!(numbers(failed, names), [7, 7, 24_576, 4_096]);
+    assert_eq!(numbers(rest, names), [13, 141, 49_152, 526_848]);
+    let broke = announcement.at("broke_off");
+    assert_eq!(numbers(broke, ["period", "byte"]), [7, 24_576]);
+    assert_eq!(broke.at("second").seconds(), 0.128);
+    let seventh = &announcement.at("periods").list()[6];
+    let completed = seventh.at("completed");
+    assert_eq!(completed.at("phase").text(), "drain");
+    assert_eq!(numbers(completed, ["turn", "status"]), [20, 0x8003]);
+}
+
+/// Strings are escaped: the name comes back as the page has it.
+#[test]
+fn several_and_odd_names() {
+    let folder = Folder::new("log-several");
+    let name = "a \"quoted\" \\ name\té.raw";
+    folder.write(name, &frames(10));
+    folder.write("b.raw", b"");
+    let said = folder
+        .command(&[name, "b.raw", "--log", "log.json", "--budget", "0"])
+        .output()
+        .unwrap();
+    assert_eq!(said.status.code(), Some(1));
+    let log = json::read(&folder.text("log.json"));
+    let [a, b] = log.at("announcements").list() else {
+        panic!("two announcements")
+    };
+    assert_eq!(a.at("announcement").text(), "a \"quoted\" \\ name\\té.raw");
+    assert_eq!(a.at("longest_turn"), &Json::Null);
+    assert_eq!(a.at("warnings").list().len(), 1);
+    assert_eq!(
+        b.at("warnings").list()[0].text(),
+        "there are no frames: nothing is spoken"
+    );
+}
+
+/// Another reader reads the same.
+#[test]
+fn python_reads_it() {
+    let folder = Folder::new("log-python");
+    let log = log(&folder, "--slow 4 --budget 20 --fail-at 7");
+    let script = "import json; log = json.load(open('log.json')); \
+                  a, = log['announcements']; \
+                  print(a['answer']['number'], len(a['periods']), a['faults'][0]['status'])";
+    let python = Command::new("python3")
+        .args(["-c", script])
+        .current_dir(&folder.0)
+        .output();
+    let Ok(said) = python else {
+        println!("python3 is not at hand: not tried");
+        return;
+    };
+    assert_eq!(String::from_utf8_lossy(&said.stdout), "9 14 32771\n", "{said:?}");
+    let periods = log.at("announcements").list()[0].at("periods").list();
+    assert_eq!(periods.len(), 14);
+}
