@@ -1,10 +1,10 @@
 -- The calls on a store, by what their code does.
 -- Assumes nothing.
 use mathlib.Core.Path.{_≡_, refl, sym, ap, _∙_}
-use mathlib.Core.Bool.{Bool, true, false, not, _||_}
+use mathlib.Core.Bool.{true, false}
 use mathlib.Core.List.{List}
 use Prim.Native.Nat.{ℕ, _≤_, _<_}
-use lib.Dec.{leb, eqb}
+use lib.Dec.{leb}
 use lib.ListN.{length}
 use lib.Seq.{sets}
 use borrow.Author.Tests.{le-leb, lt-leb}
@@ -14,8 +14,7 @@ use Rattle.codes.specs.Says.{pick, guard}
 use Rattle.codes.specs.SaysLaws.{picks, skips, passes, stops}
 use Rattle.turns.specs.Ring.{direct, newTrack, saysSaid, isRefused}
 use Rattle.turns.specs.Calls.{refusedOf, turnCall, turnedOf}
-use Rattle.turns.specs.Rules.{turnOf, countedOf}
-use Rattle.turns.specs.Consistent.{consistentOf}
+use Rattle.turns.specs.CallLaws.{no-transfer}
 use Rattle.ring_store.specs.Types.{Track, Step, Reading}
 use Rattle.codes.specs.declared.answers.Refusal.the-variants.{InvalidParam}
 use Rattle.ring_store.specs.Store.{ringSize, ringOf, trackBytes}
@@ -50,15 +49,9 @@ long s l h = passes _ _ _ (le-leb ringSize (length s) h) refl
 pub stepped : (s : List ℕ) (x y : Step) {l : Made} → Bytes s → ringSize ≤ length s → x ≡ y → l ≡ stepOver s x → l ≡ changed s (turnedOf (ringOf s) y)
 stepped s x y b h e p = p ∙ step-over s x b ∙ ap (λ (z : Step). leftBy s (turnedOf (ringOf s) z)) e ∙ long s _ h
 
--- where no transfer runs a turn is refused, whatever else holds
-same-ends : {A : Type 0} (b c : Bool) (x r : A) → c ≡ false → r ≡ guard b r (guard c r x)
-same-ends true c x r e = passes true _ _ refl (stops c r x e refl)
-same-ends false c x r e = stops false _ _ refl refl
-
 pub turn-idle : (t : Track) (len : ℕ) (reading : Reading) → t .running ≡ false → refusedOf InvalidParam t ≡ turnCall t len reading
 unfolding turnCall
-turn-idle t len reading e =
-    passes _ _ _ (ap (λ (b : Bool). not b || eqb len (t .total)) e) (same-ends (consistentOf t) (t .running) (countedOf (turnOf (t .descriptors) t reading)) (refusedOf InvalidParam t) e)
+turn-idle t len reading e = no-transfer t len _ _ _ e
 
 pub made-new : (s : List ℕ) (t : Track) (l : List ℕ) → ringSize ≤ length s → t ≡ newTrack direct → l ≡ blankOver (sets s 0 (trackBytes t)) → made 0 l ≡ newIn s
 made-new s t l h e p = ap (made 0) (p ∙ ap (λ (u : Track). blankOver (sets s 0 (trackBytes u))) e ∙ new-over s) ∙ long s _ h

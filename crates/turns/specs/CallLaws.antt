@@ -3,17 +3,22 @@
 use Prim.Native.Nat.{ℕ, _+_, _-_, _≤_}
 use native.Mathlib.Omega.{arith}
 use native.Mathlib.Nat.{add-sub-cancel-left}
-use mathlib.Core.Path.{_≡_, sym, ap, _∙_}
-use mathlib.Core.Bool.{Bool, true, false, _&&_, not}
+use mathlib.Core.Path.{_≡_, refl, sym, ap, _∙_}
+use mathlib.Core.Bool.{Bool, true, false, _&&_, _||_, not}
 use mathlib.Core.List.{List, [], _∷_}
-use borrow.Author.Tests.{lt-ltb, le-ltb, not-true, not-false}
-use lib.Dec.{ltb}
+use borrow.Author.Tests.{lt-ltb, le-ltb, eq-eqb, ne-eqb, not-true, not-false}
+use lib.Dec.{ltb, eqb}
 use lib.ListN.{length, take, drop, set, length-drop, drop-of-length-le}
 use lib.Seq.{drop-length, take-nil, take-all, set-out}
-use Rattle.codes.specs.Says.{pick}
-use Rattle.turns.specs.Calls.{carry, ringAfter}
+use Rattle.codes.specs.Says.{pick, guard}
+use Rattle.codes.specs.SaysLaws.{passes, stops}
+use Rattle.turns.specs.Calls.{lengthAgrees, carry, ringAfter, offerBy, offerCall}
+use Rattle.turns.specs.Consistent.{consistentOf}
+use Rattle.turns.specs.Rules.{chooseOf}
 use Rattle.turns.specs.Reads.{readOf, runningOf}
 use Rattle.turns.specs.Types.{Slot, Track, Ring, Sent, Nothing, Period, Step}
+use Rattle.turns.specs.declared.calls.Offer.the-variants as offer
+use Rattle.codes.specs.declared.answers.Refusal.the-variants.{InvalidParam, BadLength}
 
 -- ---- r is what a callee said of the test t, and the code went by r
 
@@ -22,6 +27,39 @@ failed {r} e h = sym e ∙ not-true r h
 
 pub passed : {r t : Bool} → r ≡ t → not r ≡ false → t ≡ true
 passed {r} e h = sym e ∙ not-false r h
+
+-- where no transfer runs a turn is refused, whatever else holds
+same-ends : {A : Type 0} (b c : Bool) (x r : A) → c ≡ false → r ≡ guard b r (guard c r x)
+same-ends true c x r e = passes true _ _ refl (stops c r x e refl)
+same-ends false c x r e = stops false _ _ refl refl
+
+pub no-transfer : {A : Type 0} (t : Track) (len : ℕ) (short refusal rest : A) → t .running ≡ false
+    → refusal ≡ guard (lengthAgrees t len) short (guard (consistentOf t) refusal (guard (t .running) refusal rest))
+no-transfer t len short refusal rest e = passes _ _ _ (ap (λ (b : Bool). not b || eqb len (t .total)) e) (same-ends (consistentOf t) (t .running) rest refusal e)
+
+-- an offer, by what its code tests
+module _ (t : Track) (len : ℕ) where
+  pub offer-idle : t .running ≡ false → offer.Refused InvalidParam ≡ offerCall t len
+  unfolding offerCall
+  offer-idle e = no-transfer t len _ _ _ e
+
+  module _ (e : t .running ≡ true) where
+    -- the lengths are compared
+    agrees : lengthAgrees t len ≡ eqb len (t .total)
+    agrees = ap (λ (b : Bool). not b || eqb len (t .total)) e
+
+    pub offer-short : (len ≡ t .total → ⊥) → offer.Refused BadLength ≡ offerCall t len
+    unfolding offerCall
+    offer-short n = stops _ _ _ (agrees ∙ ne-eqb len (t .total) n) refl
+
+    module _ (l : len ≡ t .total) where
+      pub offer-unsound : consistentOf t ≡ false → offer.Refused InvalidParam ≡ offerCall t len
+      unfolding offerCall
+      offer-unsound f = passes _ _ _ (agrees ∙ eq-eqb len (t .total) l) (stops _ _ _ f refl)
+
+      pub offer-is : {s : Sent} → consistentOf t ≡ true → s ≡ offerBy (chooseOf (t .descriptors) t) t → offer.Is s ≡ offerCall t len
+      unfolding offerCall
+      offer-is f p = passes _ _ _ (agrees ∙ eq-eqb len (t .total) l) (passes _ _ _ f (passes _ _ _ e (ap offer.Is p)))
 
 pub both-fails : (a b : Bool) → a ≡ false → false ≡ (a && b)
 both-fails a b e = rw e

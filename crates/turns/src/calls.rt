@@ -253,15 +253,14 @@ fn offer_by(choice: Choice, t: Track) -> Sent
 pub fn offer_track(t: Track, len: usize) -> Offer
     ensures { λ r. ⌜ r ≡ offerCall t len ⌝ }
 {
-    let agrees = length_agrees(t, len);
-    if !agrees {
+    if !t.running {
+        return Offer::Refused(Refusal::InvalidParam);
+    }
+    if len != t.total {
         return Offer::Refused(Refusal::BadLength);
     }
     let sound = is_consistent(t);
     if !sound {
-        return Offer::Refused(Refusal::InvalidParam);
-    }
-    if !t.running {
         return Offer::Refused(Refusal::InvalidParam);
     }
     let choice = rules::choose(t.descriptors, t);
