@@ -110,7 +110,7 @@ cat >"$stand/bin/rt" <<'RT'
 echo "$*" >>"$STAND/asked"
 case $1 in
 check) echo "rt: base proved (1 s)" && exit "$(cat "$STAND/check")" ;;
-staticlib) mkdir -p target/staticlib && echo an archive >"target/staticlib/lib$2.a" && echo "fn f: proved" ;;
+staticlib) mkdir -p target/staticlib && printf '!<arch>\nsnd_new\0' >"target/staticlib/lib$2.a" && echo "fn f: proved" ;;
 ci) rm -rf target && echo "3 passed, 0 failed" ;;
 esac
 RT
