@@ -88,10 +88,20 @@ pub fn call(state: Store<&mut Sound>, ring: Store<&Ring>, call: Call, message: &
 }
 
 pub fn feed(state: Store<&mut Sound>, fed: Fed, message: &mut [u8], result: &mut [u8]) -> Answer {
-    let page = !matches!(fed, Fed::Page(page) if page.len() != PAGE);
     let lent = message.len() >= MESSAGE && result.len() >= RESULT_SIZE;
-    lengths(state.len >= STATE_SIZE && page && lent)?;
+    lengths(state.len >= STATE_SIZE && !fed.bad_length() && lent)?;
     Ok(said(state.known()?.feed(fed, message), result))
+}
+
+/// Strict mode is to feed by this entry. The length is 64 bits wide, so nothing is cut off on the way.
+pub fn feed_written(
+    state: Store<&mut Sound>,
+    page: &[u8],
+    written: u64,
+    message: &mut [u8],
+    result: &mut [u8],
+) -> Answer {
+    feed(state, Fed::Written(page, written), message, result)
 }
 
 pub fn xfer_start(

@@ -1,5 +1,6 @@
 //! Document 01, read a second time: plain Rust, written from the paper (and from the decisions on what
 //! it leaves open) and from nothing else. The port and the Rust driver are both held to it by `compare`.
+//! Of document 02, request 2026-01 is read here too: feeds that carry the length the device wrote.
 //!
 //! Clarity before speed: tables are vectors, refusals are numbers.
 
@@ -22,6 +23,8 @@ pub const QUEUE_FAILED: u8 = 7;
 pub const BUSY: u8 = 8;
 pub const OUT_OF_TURNS: u8 = 9;
 pub const BAD_LENGTH: u8 = 10;
+/// Strict mode only: the device wrote fewer bytes than its answer needs.
+pub const SHORT: u8 = 11;
 
 /// The answer page.
 pub const PAGE: usize = 4096;

@@ -69,11 +69,34 @@ pub enum Say {
     Going,
 }
 
-/// What the caller feeds.
+/// What the caller feeds. Each feed is judged by itself: the two kinds of page may be mixed.
 #[derive(Copy, Clone, Debug)]
 pub enum Fed<'a> {
     Page(&'a [u8]),
+    /// strict: the page, and the length the device wrote
+    Written(&'a [u8], u64),
     Failure,
+}
+
+impl<'a> Fed<'a> {
+    /// The page, and how much of it counts as written: all of it where no length was told.
+    fn page(self) -> Option<(&'a [u8], u64)> {
+        match self {
+            Fed::Page(page) => Some((page, PAGE as u64)),
+            Fed::Written(page, written) => Some((page, written)),
+            Fed::Failure => None,
+        }
+    }
+
+    /// "Page not 4,096 bytes"; "10 for a length above 4,096".
+    pub fn bad_length(self) -> bool {
+        self.page().is_some_and(|(page, written)| page.len() != PAGE || written > PAGE as u64)
+    }
+
+    /// The bytes to trust, of a feed whose lengths were tested: nothing after them is ever looked at.
+    fn answer(self) -> Option<&'a [u8]> {
+        self.page().map(|(page, written)| &page[..written as usize])
+    }
 }
 
 #[derive(Clone, Debug, PartialEq, Eq)]
@@ -109,6 +132,30 @@ fn refuse(number: u8) -> Plan {
 
 fn done(value: Value) -> Plan {
     Plan::Say(Say::Done(value))
+}
+
+/// The queue's failure first, then "a length under 4 before the header is judged", then the status.
+fn judge_header(answer: Option<&[u8]>) -> Result<&[u8], u8> {
+    let answer = answer.ok_or(QUEUE_FAILED)?;
+    if answer.len() < wire::HEADER {
+        return Err(SHORT);
+    }
+    if u32_at(answer, 0) != wire::STATUS_OK {
+        return Err(IO_ERROR);
+    }
+    Ok(answer)
+}
+
+/// The table in an answer: "then, for tables, under 4 + count × size after TooMany".
+fn read_table(table: usize, count: u32, answer: Option<&[u8]>) -> Result<Vec<Vec<u8>>, u8> {
+    let answer = judge_header(answer)?;
+    if !wire::fits(table, count) {
+        return Err(TOO_MANY);
+    }
+    let length = wire::answer_length(table, count) as usize;
+    let whole = answer.get(..length).ok_or(SHORT)?;
+    let records = whole[wire::HEADER..].chunks(wire::SIZES[table]);
+    Ok(records.map(<[u8]>::to_vec).collect())
 }
 
 impl Sound {
@@ -245,8 +292,7 @@ impl Sound {
     }
 
     pub fn feed(&mut self, fed: Fed, message: &mut [u8]) -> Say {
-        let bad_page = matches!(fed, Fed::Page(page) if page.len() != PAGE);
-        if bad_page || message.len() < MESSAGE {
+        if fed.bad_length() || message.len() < MESSAGE {
             return Say::Refused(BAD_LENGTH);
         }
         if !self.consistent() {
@@ -254,28 +300,20 @@ impl Sound {
         }
         let plan = match self.open {
             None => refuse(INVALID_PARAM),
-            Some((Awaits::Table(table), call)) => self.take_table(table, call, fed),
-            Some((Awaits::Own, call)) => self.take_own(call, fed),
+            Some((Awaits::Table(table), call)) => self.take_table(table, call, fed.answer()),
+            Some((Awaits::Own, call)) => self.take_own(call, fed.answer()),
         };
         finish(plan, message)
     }
 
     /// The answer to a query of set-up.
-    fn take_table(&mut self, table: usize, call: Call, fed: Fed) -> Plan {
-        let count = self.counts[table];
-        match fed {
-            Fed::Page(page) if u32_at(page, 0) == wire::STATUS_OK => {
-                if !wire::fits(table, count) {
-                    return self.cut_short(TOO_MANY);
-                }
-                let size = wire::SIZES[table];
-                let records = page[4..4 + count as usize * size].chunks(size);
-                self.tables[table] = records.map(<[u8]>::to_vec).collect();
-            }
-            Fed::Page(_) if table == 1 => return self.cut_short(IO_ERROR),
-            Fed::Failure if table == 1 => return self.cut_short(QUEUE_FAILED),
-            // jacks and maps: an empty table, and set-up goes on
-            _ => self.tables[table].clear(),
+    fn take_table(&mut self, table: usize, call: Call, answer: Option<&[u8]>) -> Plan {
+        match read_table(table, self.counts[table], answer) {
+            Ok(records) => self.tables[table] = records,
+            // too many ends the call whatever was asked; streams end it with any refusal
+            Err(number) if number == TOO_MANY || table == 1 => return self.cut_short(number),
+            // "for jacks and channel maps 11 means an empty table", like 2 and 7, and set-up goes on
+            Err(_) => self.tables[table].clear(),
         }
         if table < 2 {
             self.open = Some((Awaits::Table(table + 1), call));
@@ -292,20 +330,18 @@ impl Sound {
         refuse(number)
     }
 
-    /// The answer to the call's own request.
-    fn take_own(&mut self, call: Call, fed: Fed) -> Plan {
+    /// The answer to the call's own request. It is a header and no more: four bytes suffice.
+    fn take_own(&mut self, call: Call, answer: Option<&[u8]>) -> Plan {
         self.open = None;
-        let Fed::Page(page) = fed else {
-            return refuse(QUEUE_FAILED);
-        };
-        if u32_at(page, 0) != wire::STATUS_OK {
-            let remap = matches!(call, Call::Remap { .. });
-            return refuse(if remap { UNSUPPORTED } else { IO_ERROR });
+        match (judge_header(answer), call) {
+            (Err(IO_ERROR), Call::Remap { .. }) => refuse(UNSUPPORTED),
+            (Err(number), _) => refuse(number),
+            (Ok(_), Call::SetParams { stream, params }) => {
+                self.params.insert(stream, params);
+                done(Value::Nothing)
+            }
+            (Ok(_), _) => done(Value::Nothing),
         }
-        if let Call::SetParams { stream, params } = call {
-            self.params.insert(stream, params);
-        }
-        done(Value::Nothing)
     }
 
     /// Busy, set-up, stream range, parameters set, then the budget.

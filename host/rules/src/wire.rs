@@ -1,5 +1,7 @@
 //! Bytes: "All numbers are little-endian."
 
+/// The header's bytes: every answer has them.
+pub const HEADER: usize = 4;
 pub const JACK: usize = 24;
 pub const PCM: usize = 32;
 pub const MAP: usize = 24;
@@ -34,7 +36,12 @@ pub fn query(table: usize, count: u32) -> Vec<u8> {
     words(&[QUERIES[table], 0, count, SIZES[table] as u32])
 }
 
-/// 4 + count × size, computed wide, is within a page.
+/// What an ok answer to a table's query takes: 4 + count × size, computed wide.
+pub fn answer_length(table: usize, count: u32) -> u64 {
+    HEADER as u64 + count as u64 * SIZES[table] as u64
+}
+
+/// A whole table is within a page.
 pub fn fits(table: usize, count: u32) -> bool {
-    4 + count as u64 * SIZES[table] as u64 <= crate::PAGE as u64
+    answer_length(table, count) <= crate::PAGE as u64
 }
