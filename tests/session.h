@@ -30,6 +30,17 @@ static uint64_t answered(uint64_t said) {
     return said;
 }
 
+/* The same in strict mode, with the length that the model device tells; but no more than so many bytes were written. */
+static uint64_t answered_in(uint64_t most, uint64_t said) {
+    while (said >= SND_SEND && said < SND_GOING) {
+        uint64_t written;
+        CALL(snd_model_control, MODEL, s.message, said - SND_SEND, PAGE, RESULT);
+        memcpy(&written, s.result, 8);
+        said = CALL(snd_feed_written, STATE, PAGE, written < most ? written : most, MESSAGE, RESULT);
+    }
+    return said;
+}
+
 static void sizes(void) {
     CALL(snd_state_size);
     CALL(snd_ring_size);
@@ -111,6 +122,17 @@ static void transfer(uint64_t budget, uint32_t failing) {
     }
 }
 
+static void strict(void) {
+    CALL(snd_new, STATE, JACKS, STREAMS, MAPS);
+    answered_in(4, CALL(snd_jack_remap, STATE, RING, 0, 1, 2, MESSAGE, RESULT)); /* headers alone: no jacks, and Short for the streams */
+    answered_in(SND_PAGE_SIZE, CALL(snd_pcm_set_params, STATE, RING, 0, 8192, 2048, 0, 2, 5, 7, MESSAGE, RESULT));
+    answered_in(3, CALL(snd_pcm_prepare, STATE, RING, 0, MESSAGE, RESULT)); /* Short */
+    CALL(snd_pcm_prepare, STATE, RING, 0, MESSAGE, RESULT);
+    CALL(snd_feed_written, STATE, PAGE, SND_PAGE_SIZE + 1, MESSAGE, RESULT); /* no page has so many bytes */
+    CALL(snd_feed_written, STATE, PAGE, SND_PAGE_SIZE, MESSAGE, RESULT);
+    CALL(snd_feed_written, STATE, PAGE, 4, MESSAGE, RESULT); /* nothing is open */
+}
+
 static void refusals(void) {
     CALL(snd_feed, STATE, PAGE, MESSAGE, RESULT);                      /* nothing is open */
     CALL(snd_turn, RING, frames, sizeof frames, 0, 0, 0);              /* nothing runs */
@@ -140,5 +162,6 @@ static void session(void) {
     transfer(100, 7);
     transfer(5, ~0u);
     others();
+    strict();
     refusals();
 }

@@ -1,8 +1,8 @@
 /* The driver's C entries. docs/BOUNDARY.md says what each answers and writes.
  *
  * Every entry answers one number: the answer's number in its low 32 bits, 0 above. 0 to 10 are
- * document 01's answers; a request of n bytes to send is SND_SEND + n; a turn that goes on is
- * SND_GOING; an event that says nothing is SND_NOTHING.
+ * document 01's answers, 11 is document 02's; a request of n bytes to send is SND_SEND + n; a turn
+ * that goes on is SND_GOING; an event that says nothing is SND_NOTHING.
  *
  * A slice is a pointer and a length; an empty one may have any pointer but NULL. Slices that are
  * written must not overlap any other. Any bytes at all are safe to pass: a store that is too short
@@ -30,7 +30,7 @@ extern "C" {
 /* The version of this header and of the archive beside it: docs/BOUNDARY.md says when it changes.
  * As one number it can be compared by #if. */
 #define SND_VERSION_MAJOR 0u
-#define SND_VERSION_MINOR 1u
+#define SND_VERSION_MINOR 2u
 #define SND_VERSION_PATCH 0u
 #define SND_VERSION (SND_VERSION_MAJOR * 1000000u + SND_VERSION_MINOR * 1000u + SND_VERSION_PATCH)
 
@@ -45,6 +45,7 @@ extern "C" {
 #define SND_BUSY 8u
 #define SND_OUT_OF_TURNS 9u
 #define SND_BAD_LENGTH 10u
+#define SND_SHORT 11u
 #define SND_SEND 256u
 #define SND_GOING 512u
 #define SND_NOTHING 513u
@@ -104,9 +105,16 @@ uint64_t snd_channel_range_supported(uint8_t *state, size_t state_len, const uin
 uint64_t snd_features_supported(uint8_t *state, size_t state_len, const uint8_t *ring, size_t ring_len, uint32_t stream,
                                 uint8_t *message, size_t message_len, uint8_t *result, size_t result_len);
 
-/* The answer to the request that is out: its page of 4,096 bytes, or the queue's failure. */
+/* The answer to the request that is out: its page of 4,096 bytes, or the queue's failure.
+ *
+ * Strict mode is to feed by snd_feed_written: the page, and how many bytes of it the device wrote, as
+ * the queue reports it. No byte past them is looked at. More than 4,096 is refused with 10, and the
+ * exchange stays open; fewer than the answer needs are 11, which for a query of jacks or channel maps
+ * is an empty table. Each feed is judged by itself. */
 uint64_t snd_feed(uint8_t *state, size_t state_len, const uint8_t *page, size_t page_len,
                   uint8_t *message, size_t message_len, uint8_t *result, size_t result_len);
+uint64_t snd_feed_written(uint8_t *state, size_t state_len, const uint8_t *page, size_t page_len, uint64_t written,
+                          uint8_t *message, size_t message_len, uint8_t *result, size_t result_len);
 uint64_t snd_feed_failure(uint8_t *state, size_t state_len,
                           uint8_t *message, size_t message_len, uint8_t *result, size_t result_len);
 

@@ -21,3 +21,4 @@ numbered refusal.QueueFailed = record { least = omega arith; small = omega arith
 numbered refusal.Busy = record { least = omega arith; small = omega arith }
 numbered refusal.OutOfTurns = record { least = omega arith; small = omega arith }
 numbered refusal.BadLength = record { least = omega arith; small = omega arith }
+numbered refusal.Short = record { least = omega arith; small = omega arith }

@@ -13,6 +13,7 @@ pub enum Refusal {
     Busy,
     OutOfTurns,
     BadLength,
+    Short,
 }
 
 impl Refusal {
@@ -30,6 +31,7 @@ impl Refusal {
             Refusal::Busy => 8,
             Refusal::OutOfTurns => 9,
             Refusal::BadLength => 10,
+            Refusal::Short => 11,
         }
     }
 }

@@ -33,6 +33,7 @@ use Rattle.console.proofs.calls.snd_formats_supported.Reads as formats-
 use Rattle.console.proofs.calls.snd_channel_range_supported.Reads as channel-range-supported
 use Rattle.console.proofs.calls.snd_features_supported.Reads as features-supported
 use Rattle.console.proofs.calls.snd_feed.Reads as feed
+use Rattle.console.proofs.calls.snd_feed_written.Reads as feed-written
 use Rattle.console.proofs.calls.snd_feed_failure.Reads as feed-failure
 use Rattle.console.proofs.transfer.snd_pcm_xfer_start.Reads as pcm-xfer-start
 use Rattle.console.proofs.ring.snd_ring_new.Reads as ring-new
@@ -150,6 +151,10 @@ features-supported-one κs a r₁ r₂ e₁ e₂ p q = left-one p q
 pub feed-one : (κs : _) (a : _) (r₁ r₂ : _) (e₁ e₂ : _) → feed.Post κs a r₁ e₁ → feed.Post κs a r₂ e₂
     → (r₁ ≡ r₂) × (now (e₁ .0) ≡ now (e₂ .0)) × (now (e₁ .1 .1 .0) ≡ now (e₂ .1 .1 .0)) × (now (e₁ .1 .1 .1 .0) ≡ now (e₂ .1 .1 .1 .0))
 feed-one κs a r₁ r₂ e₁ e₂ p q = left-one p q
+
+pub feed-written-one : (κs : _) (a : _) (r₁ r₂ : _) (e₁ e₂ : _) → feed-written.Post κs a r₁ e₁ → feed-written.Post κs a r₂ e₂
+    → (r₁ ≡ r₂) × (now (e₁ .0) ≡ now (e₂ .0)) × (now (e₁ .1 .1 .1 .0) ≡ now (e₂ .1 .1 .1 .0)) × (now (e₁ .1 .1 .1 .1 .0) ≡ now (e₂ .1 .1 .1 .1 .0))
+feed-written-one κs a r₁ r₂ e₁ e₂ p q = left-one p q
 
 pub feed-failure-one : (κs : _) (a : _) (r₁ r₂ : _) (e₁ e₂ : _) → feed-failure.Post κs a r₁ e₁ → feed-failure.Post κs a r₂ e₂
     → (r₁ ≡ r₂) × (now (e₁ .0) ≡ now (e₂ .0)) × (now (e₁ .1 .0) ≡ now (e₂ .1 .0)) × (now (e₁ .1 .1 .0) ≡ now (e₂ .1 .1 .0))

@@ -5,6 +5,7 @@ ghost use Rattle.core.specs.State.{askedParams};
 ghost use Rattle.core.specs.declared.state.Kind.the-variants.{Prepare, Release, Start, Stop};
 ghost use Rattle.core.specs.declared.state.Field.the-variants.{Rates, Formats, Channels, Features};
 ghost use Rattle.core.specs.declared.state.Call.the-variants as calls;
+ghost use Rattle.tables.specs.declared.verdict.Written.the-variants.{InFull, Bytes};
 ghost use Rattle.state_store.specs.Calls.{left, feedIn, failIn};
 ghost use Rattle.console.specs.Entries.{callEntry};
 use codes::direction;
@@ -231,9 +232,23 @@ pub extern "C" fn snd_feed(
     message: &mut [u8],
     result: &mut [u8],
 ) -> u64
-    ensures { λ r. ⌜ left r (now (state .exit)) (now (message .exit)) (now (result .exit)) ≡ feedIn (now (state .entry)) (now (page .entry)) (now (message .entry)) (now (result .entry)) ⌝ }
+    ensures { λ r. ⌜ left r (now (state .exit)) (now (message .exit)) (now (result .exit)) ≡ feedIn InFull (now (state .entry)) (now (page .entry)) (now (message .entry)) (now (result .entry)) ⌝ }
 {
     state_store::feed(state, page, message, result)
+}
+
+// The same with the length that the device wrote.
+#[no_mangle]
+pub extern "C" fn snd_feed_written(
+    state: &mut [u8],
+    page: &[u8],
+    written: u64,
+    message: &mut [u8],
+    result: &mut [u8],
+) -> u64
+    ensures { λ r. ⌜ left r (now (state .exit)) (now (message .exit)) (now (result .exit)) ≡ feedIn (Bytes written) (now (state .entry)) (now (page .entry)) (now (message .entry)) (now (result .entry)) ⌝ }
+{
+    state_store::feed_written(state, page, written, message, result)
 }
 
 // The queue reports that the request that is out has failed.

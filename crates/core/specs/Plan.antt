@@ -17,7 +17,7 @@ use Rattle.core.specs.Consistent.{periodOk, callOk, consistentOf}
 use Rattle.core.specs.declared.plan.Request.the-variants as request
 use Rattle.core.specs.declared.plan.Value.the-variants as value
 use Rattle.core.specs.declared.plan.Look.the-variants as look
-use Rattle.core.specs.Types.{Refusal, InvalidParam, IoError, Unsupported, NoInfo, TooMany, Busy, BadLength, SetParameters, Verdict, Track, Counts, Params, Kind, Prepare, Release, Start, Stop, Call, SetParams, Command, Remap, Streams, Supported, Xfer, Stage, Idle, JacksAsked, StreamsAsked, MapsAsked, Sent, Core, Request, Value, Look, Say, Send, Done, Refused, Effect, Nothing, FillJacks, FillStreams, FillMaps, Store, Plan}
+use Rattle.core.specs.Types.{Written, Refusal, InvalidParam, IoError, Unsupported, NoInfo, TooMany, Busy, BadLength, SetParameters, Verdict, Track, Counts, Params, Kind, Prepare, Release, Start, Stop, Call, SetParams, Command, Remap, Streams, Supported, Xfer, Stage, Idle, JacksAsked, StreamsAsked, MapsAsked, Sent, Core, Request, Value, Look, Say, Send, Done, Refused, Effect, Nothing, FillJacks, FillStreams, FillMaps, Store, Plan}
 
 -- ---- four ways to go on
 
@@ -211,10 +211,10 @@ answerOf c v look =
     (guard (consistentOf c) (refuseOf c InvalidParam)
     (answerBy (c .stage) c v look))
 
--- what a page says to what was asked
-abbrev pub verdictBy : Stage → Counts → List ℕ → Verdict
-verdictBy Idle n page = judged page 0 0
-verdictBy (JacksAsked call) n page = judged page (n .jacks) (size jackInfo)
-verdictBy (StreamsAsked call) n page = judged page (n .streams) (size pcmInfo)
-verdictBy (MapsAsked call) n page = judged page (n .maps) (size channelMap)
-verdictBy (Sent call) n page = judged page 0 0
+-- what a page, of which so much was written, says to what was asked
+abbrev pub verdictBy : Written → Stage → Counts → List ℕ → Verdict
+verdictBy w Idle n page = judged w page 0 0
+verdictBy w (JacksAsked call) n page = judged w page (n .jacks) (size jackInfo)
+verdictBy w (StreamsAsked call) n page = judged w page (n .streams) (size pcmInfo)
+verdictBy w (MapsAsked call) n page = judged w page (n .maps) (size channelMap)
+verdictBy w (Sent call) n page = judged w page 0 0

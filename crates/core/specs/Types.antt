@@ -4,6 +4,7 @@ pub use Rattle.codes.specs.declared.answers.Refusal.{Refusal}
 pub use Rattle.codes.specs.declared.answers.Refusal.the-variants.{InvalidParam, IoError, Busy, BadLength, Unsupported, NoInfo, TooMany}
 pub use Rattle.records.specs.declared.control.SetParameters.{SetParameters}
 pub use Rattle.tables.specs.declared.verdict.Verdict.{Verdict}
+pub use Rattle.tables.specs.declared.verdict.Written.{Written}
 pub use Rattle.turns.specs.declared.ring.Track.{Track}
 pub use Rattle.core.specs.declared.state.Counts.{Counts}
 pub use Rattle.core.specs.declared.state.Params.{Params}

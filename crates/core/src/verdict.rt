@@ -7,17 +7,18 @@ use records::ChannelMap;
 use records::JackInfo;
 use records::PcmInfo;
 use tables::Verdict;
+use tables::Written;
 use tables::judge;
 
 // A command's answer has a status and nothing more.
-pub fn verdict_by(stage: Stage, n: Counts, page: &[u8]) -> Verdict
-    ensures { λ r. ⌜ r ≡ verdictBy stage n (now (page .entry)) ⌝ }
+pub fn verdict_by(w: Written, stage: Stage, n: Counts, page: &[u8]) -> Verdict
+    ensures { λ r. ⌜ r ≡ verdictBy w stage n (now (page .entry)) ⌝ }
 {
     match stage {
-        Stage::Idle => judge(page, 0, 0),
-        Stage::JacksAsked(_) => judge(page, n.jacks, JackInfo::SIZE as u32),
-        Stage::StreamsAsked(_) => judge(page, n.streams, PcmInfo::SIZE as u32),
-        Stage::MapsAsked(_) => judge(page, n.maps, ChannelMap::SIZE as u32),
-        Stage::Sent(_) => judge(page, 0, 0),
+        Stage::Idle => judge(w, page, 0, 0),
+        Stage::JacksAsked(_) => judge(w, page, n.jacks, JackInfo::SIZE as u32),
+        Stage::StreamsAsked(_) => judge(w, page, n.streams, PcmInfo::SIZE as u32),
+        Stage::MapsAsked(_) => judge(w, page, n.maps, ChannelMap::SIZE as u32),
+        Stage::Sent(_) => judge(w, page, 0, 0),
     }
 }

@@ -27,6 +27,7 @@ use Rattle.exchange.proofs.calls.formats_supported.Reads as formats-sup
 use Rattle.exchange.proofs.calls.channel_range_supported.Reads as channel-range-supported
 use Rattle.exchange.proofs.calls.features_supported.Reads as features-supported
 use Rattle.exchange.proofs.calls.feed.Reads as feed
+use Rattle.exchange.proofs.calls.feed_written.Reads as feed-written
 use Rattle.exchange.proofs.calls.feed_failure.Reads as feed-failure
 use Rattle.exchange.proofs.xfer.pcm_xfer_start.Reads as pcm-xfer-start
 use Rattle.exchange.proofs.xfer.pcm_xfer.Reads as pcm-xfer
@@ -89,6 +90,9 @@ features-supported-one κs a r₁ r₂ e₁ e₂ p q = (same (p .step) (q .step)
 
 pub feed-one : (κs : _) (a : _) (r₁ r₂ : _) (e₁ e₂ : _) → feed.Post κs a r₁ e₁ → feed.Post κs a r₂ e₂ → (r₁ ≡ r₂) × (now (e₁ .1 .1 .0) ≡ now (e₂ .1 .1 .0))
 feed-one κs a r₁ r₂ e₁ e₂ p q = (same (p .step) (q .step), same (p .message) (q .message))
+
+pub feed-written-one : (κs : _) (a : _) (r₁ r₂ : _) (e₁ e₂ : _) → feed-written.Post κs a r₁ e₁ → feed-written.Post κs a r₂ e₂ → (r₁ ≡ r₂) × (now (e₁ .1 .1 .1 .0) ≡ now (e₂ .1 .1 .1 .0))
+feed-written-one κs a r₁ r₂ e₁ e₂ p q = (same (p .step) (q .step), same (p .message) (q .message))
 
 pub feed-failure-one : (κs : _) (a : _) (r₁ r₂ : _) (e₁ e₂ : _) → feed-failure.Post κs a r₁ e₁ → feed-failure.Post κs a r₂ e₂ → (r₁ ≡ r₂) × (now (e₁ .1 .0) ≡ now (e₂ .1 .0))
 feed-failure-one κs a r₁ r₂ e₁ e₂ p q = (same (p .step) (q .step), same (p .message) (q .message))

@@ -6,6 +6,7 @@ use mathlib.Core.List.{List, [], _∷_, _++_}
 use Prim.Native.Nat.{ℕ, suc, _+_, _-_}
 use lib.Dec.{leb, eqb}
 use lib.ListN.{length, take, replicate}
+use Rattle.tables.specs.Tables.{pageOk}
 use Rattle.layout.specs.Lent.{messageSize, pageSize}
 use Rattle.codes.specs.Says.{Says, says, pick, guard}
 use Rattle.codes.specs.Answers.{saysRefusal}
@@ -15,7 +16,7 @@ use Rattle.core.specs.Reply.{requestBytes, messageAfter, replyOf}
 use Rattle.core.specs.declared.plan.Value.the-variants as value
 use Rattle.core.specs.declared.reply.Reply.the-variants as reply
 use Rattle.exchange.specs.Tables.{lookOf, pendingLook, soundAfter}
-use Rattle.exchange.specs.Types.{QueueFailed, BadLength, PcmInfo, Track, Call, Value, Say, Send, Done, Refused, Plan, Reply, Sound, StreamList, Step}
+use Rattle.exchange.specs.Types.{Written, QueueFailed, BadLength, PcmInfo, Track, Call, Value, Say, Send, Done, Refused, Plan, Reply, Sound, StreamList, Step}
 
 -- ---- "ascending ids with direction 0, or 1. Other directions are in neither list."
 
@@ -79,11 +80,11 @@ unfoldable pub callOf : Sound → Track → Call → ℕ → Plan
 callOf s t call n = guard (leb messageSize n) (refuseOf (s .core) BadLength)
     (beginOf (s .core) t call (lookOf s call))
 
--- A FEED of an answer page
-unfoldable pub feedOf : Sound → List ℕ → ℕ → Plan
-feedOf s page n =
-    guard (eqb (length page) pageSize && leb messageSize n) (refuseOf (s .core) BadLength)
-    (answerOf (s .core) (verdictBy (s .core .stage) (s .core .counts) page) (pendingLook (s .core .stage) s))
+-- A FEED of an answer page, of which so much was written
+unfoldable pub feedOf : Written → Sound → List ℕ → ℕ → Plan
+feedOf w s page n =
+    guard (pageOk w page && leb messageSize n) (refuseOf (s .core) BadLength)
+    (answerOf (s .core) (verdictBy w (s .core .stage) (s .core .counts) page) (pendingLook (s .core .stage) s))
 
 -- A FEED of a queue failure
 unfoldable pub failOf : Sound → ℕ → Plan

@@ -6,41 +6,47 @@ use mathlib.Core.List.{List, [], _∷_}
 use Prim.Native.Nat.{ℕ, _≤_}
 use lib.Dec.{leb, eqb}
 use lib.ListN.{length}
+use Rattle.tables.specs.Tables.{pageOk}
 use Rattle.layout.specs.Lent.{messageSize, pageSize}
 use Rattle.tables.specs.declared.verdict.Verdict.the-variants as verdict
 use Rattle.core.specs.Plan.{verdictBy}
 use Rattle.exchange.specs.Exchange.{stepOf, feedOf, failOf}
 use mathlib.Core.Logic.{_⊎_}
-use Rattle.exchange.specs.Types.{Verdict, QueueFailed, Sound, Plan, Step, Call, SetParams, Command, Remap, Streams, Supported, Xfer, Stage, Idle, JacksAsked, StreamsAsked, MapsAsked, Sent}
+use Rattle.exchange.specs.Types.{Written, InFull, Verdict, QueueFailed, Sound, Plan, Step, Call, SetParams, Command, Remap, Streams, Supported, Xfer, Stage, Idle, JacksAsked, StreamsAsked, MapsAsked, Sent}
 
--- a page, or a failure; with a message buffer of n bytes
+-- a page, of which so much was written, or a failure; with a message buffer of n bytes
 pub data Feed : Type 0 where
-  paged : (bytes : List ℕ) (n : ℕ) → Feed
+  paged : (w : Written) (bytes : List ℕ) (n : ℕ) → Feed
   failed : (n : ℕ) → Feed
 
 -- a failure carries no page
 abbrev pub pageOf : Feed → List ℕ
-pageOf (paged bytes n) = bytes
+pageOf (paged w bytes n) = bytes
 pageOf (failed n) = []
 
+-- how much of it was written
+abbrev pub writtenOf : Feed → Written
+writtenOf (paged w bytes n) = w
+writtenOf (failed n) = InFull
+
 abbrev pub planOf : Sound → Feed → Plan
-planOf s (paged bytes n) = feedOf s bytes n
+planOf s (paged w bytes n) = feedOf w s bytes n
 planOf s (failed n) = failOf s n
 
 abbrev pub fedOf : Sound → Feed → Step
 fedOf s f = stepOf (planOf s f) s (pageOf f)
 
 abbrev pub verdictOf : Sound → Feed → Verdict
-verdictOf s (paged bytes n) = verdictBy (s .core .stage) (s .core .counts) bytes
+verdictOf s (paged w bytes n) = verdictBy w (s .core .stage) (s .core .counts) bytes
 verdictOf s (failed n) = verdict.Refused QueueFailed
 
 -- a feed that 10 does not refuse
 abbrev pub longOf : Feed → Bool
-longOf (paged bytes n) = eqb (length bytes) pageSize && leb messageSize n
+longOf (paged w bytes n) = pageOk w bytes && leb messageSize n
 longOf (failed n) = leb messageSize n
 
 abbrev pub Long : Feed → Type 0
-Long (paged bytes n) = (length bytes ≡ pageSize) × (messageSize ≤ n)
+Long (paged w bytes n) = (pageOk w bytes ≡ true) × (messageSize ≤ n)
 Long (failed n) = messageSize ≤ n
 
 -- a number of a list

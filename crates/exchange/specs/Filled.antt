@@ -18,11 +18,11 @@ use Rattle.core.specs.Reply.{replyOf}
 use Rattle.exchange.specs.Exchange.{stepOf, callOf}
 use Rattle.exchange.specs.Ends.{asked, waits}
 use Rattle.exchange.specs.ResultLaws.{wrong}
-use Rattle.exchange.specs.Feed.{Feed, paged, failed, pageOf, planOf, fedOf, verdictOf}
+use Rattle.exchange.specs.Feed.{Feed, paged, failed, pageOf, planOf, fedOf, verdictOf, writtenOf}
 use Rattle.exchange.specs.StayLaws.{called-stays, called-quiet, fed-stays}
 use Rattle.exchange.specs.Xfer.{startOf, xferOf}
 use Rattle.exchange.specs.XferLaws.{start-by, script-by}
-use Rattle.exchange.specs.Types.{Verdict, Track, Ring, Counts, Call, SetParams, Command, Remap, Streams, Supported, Xfer, Stage, StreamsAsked, Core, Sound, Effect, Nothing, FillJacks, FillStreams, FillMaps, Store, Look, Plan}
+use Rattle.exchange.specs.Types.{Written, Verdict, Track, Ring, Counts, Call, SetParams, Command, Remap, Streams, Supported, Xfer, Stage, StreamsAsked, Core, Sound, Effect, Nothing, FillJacks, FillStreams, FillMaps, Store, Look, Plan}
 
 -- the stream table is that of a page
 abbrev pub Filled : Sound → List ℕ → Type 0
@@ -43,9 +43,9 @@ kept-table (FillStreams m) c s page old e n f i h = absurd (false≢true (sym e)
 kept-table (FillMaps m) c s page old e n f i h = f i (omega arith)
 kept-table (Store stream to) c s page old e n f i h = f i (omega arith)
 
-new-table : (x : Effect) (c : Core) (s : Sound) (page : List ℕ) → x ≡ FillStreams (c .counts .streams) → isGood (judged page (c .counts .streams) 32) ≡ true → Filled (soundAfter x c s page) page
-new-table x c s page e g =
-    subst (λ (y : Effect). Filled (soundAfter y c s page) page) (sym e) (λ i h. streams-at page (c .counts .streams) (s .pcms) i _ (good-fits page (c .counts .streams) 32 g) h)
+new-table : (x : Effect) (c : Core) (s : Sound) (w : Written) (page : List ℕ) → x ≡ FillStreams (c .counts .streams) → isGood (judged w page (c .counts .streams) 32) ≡ true → Filled (soundAfter x c s page) page
+new-table x c s w page e g =
+    subst (λ (y : Effect). Filled (soundAfter y c s page) page) (sym e) (λ i h. streams-at page (c .counts .streams) (s .pcms) i _ (good-fits w page (c .counts .streams) 32 g) h)
 
 -- whether an answer fills the table
 data Touch (c : Core) (v : Verdict) (x : Effect) : Type 0 where
@@ -76,8 +76,8 @@ touch (fails _ _ _) = leaves refl
 
 -- a good verdict on the streams is of a page
 good-page : (s : Sound) (f : Feed) {call : Call} (n : Counts) → n ≡ s .core .counts → s .core .stage ≡ StreamsAsked call → isGood (verdictOf s f) ≡ true
-    → isGood (judged (pageOf f) (n .streams) 32) ≡ true
-good-page s (paged bytes m) n e g h = subst (λ (k : Counts). isGood (judged bytes (k .streams) 32) ≡ true) (sym e) (subst (λ (k : Stage). isGood (verdictBy k (s .core .counts) bytes) ≡ true) g h)
+    → isGood (judged (writtenOf f) (pageOf f) (n .streams) 32) ≡ true
+good-page s (paged w bytes m) n e g h = subst (λ (k : Counts). isGood (judged w bytes (k .streams) 32) ≡ true) (sym e) (subst (λ (k : Stage). isGood (verdictBy w k (s .core .counts) bytes) ≡ true) g h)
 good-page s (failed m) n e g h = absurd (false≢true h)
 
 -- a good answer to the query of streams, and to no other, makes the table anew
@@ -90,7 +90,7 @@ pub record Refilled (s : Sound) (f : Feed) : Type 0 where
 touched : (s : Sound) (f : Feed) (old : List ℕ) → planOf s f .core .counts ≡ s .core .counts → Filled s old → Touch (s .core) (verdictOf s f) (planOf s f .effect)
     → Filled (fedOf s f .sound) old ⊎ Refilled s f
 touched s f old a h (leaves e) = inl (kept-table (planOf s f .effect) (planOf s f .core) s (pageOf f) old e (ap (λ (m : Counts). m .streams) a) h)
-touched s f old a h (writes {call} g v e) = inr (record { waits-for = call; asked-streams = g; good = v; new = new-table (planOf s f .effect) (planOf s f .core) s (pageOf f) (e ∙ ap (λ (m : Counts). FillStreams (m .streams)) (sym a)) (good-page s f (planOf s f .core .counts) a g v) })
+touched s f old a h (writes {call} g v e) = inr (record { waits-for = call; asked-streams = g; good = v; new = new-table (planOf s f .effect) (planOf s f .core) s (writtenOf f) (pageOf f) (e ∙ ap (λ (m : Counts). FillStreams (m .streams)) (sym a)) (good-page s f (planOf s f .core .counts) a g v) })
 
 -- the answer to the query of streams: set-up goes on with it only where it is good
 fed-good : {c : Core} {v : Verdict} {look : Look} {long : Bool} {p : Plan} {call : Call} → c .stage ≡ StreamsAsked call → asked (replyOf (p .say)) ≡ 1 → Answered c v look long p
@@ -109,7 +109,7 @@ fed-good g e (fails _ _ _) = absurd (wrong e)
 pub streams-filled : (s : Sound) (f : Feed) (call : Call) → s .core .stage ≡ StreamsAsked call → asked (fedOf s f .reply) ≡ 1 → Filled (fedOf s f .sound) (pageOf f)
 streams-filled s f call g e =
     let a = fed-good g e (fed s f) in
-    new-table (planOf s f .effect) (planOf s f .core) s (pageOf f) (a .1 ∙ ap (λ (m : Counts). FillStreams (m .streams)) (sym (fed-stays s f .counts))) (good-page s f (planOf s f .core .counts) (fed-stays s f .counts) g (a .0))
+    new-table (planOf s f .effect) (planOf s f .core) s (writtenOf f) (pageOf f) (a .1 ∙ ap (λ (m : Counts). FillStreams (m .streams)) (sym (fed-stays s f .counts))) (good-page s f (planOf s f .core .counts) (fed-stays s f .counts) g (a .0))
 
 pub filled-feed : (s : Sound) (f : Feed) (old : List ℕ) → Filled s old → Filled (fedOf s f .sound) old ⊎ Refilled s f
 filled-feed s f old h = touched s f old (fed-stays s f .counts) h (touch (fed s f))

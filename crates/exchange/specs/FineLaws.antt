@@ -18,7 +18,7 @@ use Rattle.exchange.specs.OwnLaws.{Own, sets, commands, remaps, lists, t
 use Rattle.exchange.specs.PlanLaws.{Begun, bars, asks, goes, begun, counted, Answered, short, idle, asks-streams, asks-maps, cuts, finishes, ends, fails, fed}
 use Rattle.exchange.specs.Exchange.{callOf}
 use Rattle.exchange.specs.Feed.{Feed, paged, failed, planOf, verdictOf}
-use Rattle.exchange.specs.Types.{Verdict, Track, Counts, Params, Call, SetParams, Command, Remap, Streams, Supported, Xfer, Stage, Idle, JacksAsked, StreamsAsked, MapsAsked, Sent, Core, Sound, Effect, Nothing, FillJacks, FillStreams, FillMaps, Store, Look, Plan}
+use Rattle.exchange.specs.Types.{Written, Verdict, Track, Counts, Params, Call, SetParams, Command, Remap, Streams, Supported, Xfer, Stage, Idle, JacksAsked, StreamsAsked, MapsAsked, Sent, Core, Sound, Effect, Nothing, FillJacks, FillStreams, FillMaps, Store, Look, Plan}
 
 abbrev pub Allowed : Core → Effect → Type 0
 Allowed c Nothing = Unit {0}
@@ -79,12 +79,12 @@ Room (StreamsAsked call) n = n .streams ≤ 127
 Room (MapsAsked call) n = n .maps ≤ 170
 Room (Sent call) n = Unit {0}
 
-page-room : (g : Stage) (n : Counts) (page : List ℕ) → isGood (verdictBy g n page) ≡ true → Room g n
-page-room Idle n page e = tt
-page-room (JacksAsked call) n page e = omega (arith, good-whole page (n .jacks) 24 e .fits)
-page-room (StreamsAsked call) n page e = omega (arith, good-whole page (n .streams) 32 e .fits)
-page-room (MapsAsked call) n page e = omega (arith, good-whole page (n .maps) 24 e .fits)
-page-room (Sent call) n page e = tt
+page-room : (w : Written) (g : Stage) (n : Counts) (page : List ℕ) → isGood (verdictBy w g n page) ≡ true → Room g n
+page-room w Idle n page e = tt
+page-room w (JacksAsked call) n page e = omega (arith, good-whole w page (n .jacks) 24 e .fits)
+page-room w (StreamsAsked call) n page e = omega (arith, good-whole w page (n .streams) 32 e .fits)
+page-room w (MapsAsked call) n page e = omega (arith, good-whole w page (n .maps) 24 e .fits)
+page-room w (Sent call) n page e = tt
 
 counted-fine : (v : Verdict) (n most : ℕ) → (isGood v ≡ true → n ≤ most) → noneOrAll (counted v n) n most ≡ true
 counted-fine v n most h = picked-by (λ (k : ℕ). noneOrAll k n most ≡ true) (isGood v) n 0 (λ g. noneOrAll-self n most (h g)) (λ _. refl)
@@ -148,7 +148,7 @@ module _ (c : Core) (v : Verdict) (e : consistentOf c ≡ true) (room : isGood v
   answered-fine (fails {call} _ _ g) = record { consistent = done-fine call g; effect = tt }
 
 fed-room : (s : Sound) (f : Feed) → isGood (verdictOf s f) ≡ true → Room (s .core .stage) (s .core .counts)
-fed-room s (paged bytes n) g = page-room (s .core .stage) (s .core .counts) bytes g
+fed-room s (paged w bytes n) g = page-room w (s .core .stage) (s .core .counts) bytes g
 fed-room s (failed n) g = absurd (false≢true g)
 
 pub fed-fine : (s : Sound) (f : Feed) → consistentOf (s .core) ≡ true → Fine (s .core) (planOf s f)

@@ -15,6 +15,7 @@ pub mod Stored
 pub mod Remaps
 pub mod Unrun
 pub mod Filled
+pub mod Strict
 pub mod Fields
 pub mod Lists
 pub mod Reached

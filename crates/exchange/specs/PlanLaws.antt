@@ -12,7 +12,7 @@ use Rattle.layout.specs.Lent.{messageSize, pageSize}
 use Rattle.codes.specs.Says.{pick, guard}
 use Rattle.codes.specs.SaysLaws.{guarded-by}
 use Rattle.codes.specs.Answers.{saysRefusal}
-use Rattle.tables.specs.Tables.{judged, isGood, refusedBy}
+use Rattle.tables.specs.Tables.{judged, isGood, refusedBy, pageOk}
 use Rattle.tables.specs.declared.verdict.Verdict.the-variants as verdict
 use Rattle.turns.specs.Calls.{idleOf}
 use Rattle.turns.specs.Consistent as ring
@@ -24,7 +24,7 @@ use Rattle.exchange.specs.Exchange.{callOf, feedOf, failOf}
 use Rattle.exchange.specs.ConsistentLaws.{both-of}
 use Rattle.exchange.specs.Feed.{Feed, paged, failed, planOf, verdictOf, longOf, Long, One, asking}
 use Rattle.core.specs.declared.plan.Value.the-variants as value
-use Rattle.exchange.specs.Types.{Refusal, InvalidParam, IoError, TooMany, QueueFailed, Busy, BadLength, Verdict, Track, Counts, Call, Stage, Idle, JacksAsked, StreamsAsked, MapsAsked, Sent, Core, Sound, Look, Done, Nothing, FillJacks, FillStreams, FillMaps, Plan}
+use Rattle.exchange.specs.Types.{Written, Short, Refusal, InvalidParam, IoError, TooMany, QueueFailed, Busy, BadLength, Verdict, Track, Counts, Call, Stage, Idle, JacksAsked, StreamsAsked, MapsAsked, Sent, Core, Sound, Look, Done, Nothing, FillJacks, FillStreams, FillMaps, Plan}
 use Rattle.exchange.specs.OwnLaws.{picked-by, Own, own}
 
 -- ---- a call: refused with nothing changed, the first query of set-up, or its own part
@@ -66,21 +66,22 @@ begun s t call n =
 abbrev pub counted : Verdict → ℕ → ℕ
 counted v n = pick (isGood v) n 0
 
--- a verdict that set-up may be cut short by, or a request of the call's own refused: a status not ok, 5 where a table was asked for, or the queue's 7
+-- a verdict that set-up may be cut short by, or a request of the call's own refused: a status not ok, 5 where a table was asked for, the queue's 7, or 11 for what was not written
 abbrev pub Failing : Verdict → Type 0
 Failing verdict.Good = Unit {0}
 Failing (verdict.Status word) = Unit {0}
-Failing (verdict.Refused r) = (r ≡ TooMany) ⊎ (r ≡ QueueFailed)
+Failing (verdict.Refused r) = (r ≡ TooMany) ⊎ ((r ≡ QueueFailed) ⊎ (r ≡ Short))
 
 -- with what set-up is cut short
 abbrev pub Cut : Verdict → Refusal → Type 0
-Cut v r = Failing v → One (saysRefusal r .number) (2 ∷ 5 ∷ 7 ∷ [])
+Cut v r = Failing v → One (saysRefusal r .number) (2 ∷ 5 ∷ 7 ∷ 11 ∷ [])
 
 cut-by : (v : Verdict) → Cut v (refusalOf IoError v)
 cut-by verdict.Good l = inl refl
 cut-by (verdict.Status word) l = inl refl
 cut-by (verdict.Refused r) (inl e) = inr (inl (ap (λ (x : Refusal). saysRefusal x .number) e))
-cut-by (verdict.Refused r) (inr e) = inr (inr (inl (ap (λ (x : Refusal). saysRefusal x .number) e)))
+cut-by (verdict.Refused r) (inr (inl e)) = inr (inr (inl (ap (λ (x : Refusal). saysRefusal x .number) e)))
+cut-by (verdict.Refused r) (inr (inr e)) = inr (inr (inr (inl (ap (λ (x : Refusal). saysRefusal x .number) e))))
 
 pub data Answered (c : Core) (v : Verdict) (look : Look) (long : Bool) : Plan → Type 0 where
   short : long ≡ false → Answered c v look long (refuseOf c BadLength)
@@ -121,31 +122,32 @@ module _ (c : Core) (v : Verdict) (look : Look) (long : Bool) where
 
 -- ---- what is long has no verdict of its length
 
-long-judged : (page : List ℕ) (n size : ℕ) → eqb (length page) pageSize ≡ true → Failing (judged page n size) × (refusedBy 10 (judged page n size) ≡ false)
+long-judged : (w : Written) (page : List ℕ) (n size : ℕ) → pageOk w page ≡ true → Failing (judged w page n size) × (refusedBy 10 (judged w page n size) ≡ false)
 unfolding judged
-long-judged page n size l =
-    guarded-by (λ (v : Verdict). Failing v × (refusedBy 10 v ≡ false)) _ _ _
-    (λ _. guarded-by (λ (v : Verdict). Failing v × (refusedBy 10 v ≡ false)) _ _ _
-    (λ _. guarded-by (λ (v : Verdict). Failing v × (refusedBy 10 v ≡ false)) _ _ _ (λ _. (tt, refl)) (λ _. (inl refl, refl)))
-    (λ _. (tt, refl)))
+long-judged w page n size l =
+    let P : Verdict → Type 0 = λ (v : Verdict). Failing v × (refusedBy 10 v ≡ false) in
+    guarded-by P _ _ _
+    (λ _. guarded-by P _ _ _
+    (λ _. guarded-by P _ _ _ (λ _. guarded-by P _ _ _ (λ _. guarded-by P _ _ _ (λ _. (tt, refl)) (λ _. (inr (inr refl), refl))) (λ _. (inl refl, refl))) (λ _. (tt, refl)))
+    (λ _. (inr (inr refl), refl)))
     (λ f. absurd (false≢true (sym f ∙ l)))
 
-long-by : (g : Stage) (n : Counts) (page : List ℕ) → eqb (length page) pageSize ≡ true → Failing (verdictBy g n page) × (refusedBy 10 (verdictBy g n page) ≡ false)
-long-by Idle n page l = long-judged page 0 0 l
-long-by (JacksAsked call) n page l = long-judged page (n .jacks) 24 l
-long-by (StreamsAsked call) n page l = long-judged page (n .streams) 32 l
-long-by (MapsAsked call) n page l = long-judged page (n .maps) 24 l
-long-by (Sent call) n page l = long-judged page 0 0 l
+long-by : (w : Written) (g : Stage) (n : Counts) (page : List ℕ) → pageOk w page ≡ true → Failing (verdictBy w g n page) × (refusedBy 10 (verdictBy w g n page) ≡ false)
+long-by w Idle n page l = long-judged w page 0 0 l
+long-by w (JacksAsked call) n page l = long-judged w page (n .jacks) 24 l
+long-by w (StreamsAsked call) n page l = long-judged w page (n .streams) 32 l
+long-by w (MapsAsked call) n page l = long-judged w page (n .maps) 24 l
+long-by w (Sent call) n page l = long-judged w page 0 0 l
 
 pub long-verdict : (s : Sound) (f : Feed) → longOf f ≡ true → Failing (verdictOf s f) × (refusedBy 10 (verdictOf s f) ≡ false)
-long-verdict s (paged bytes n) l = long-by (s .core .stage) (s .core .counts) bytes (both (eqb (length bytes) pageSize) (leb messageSize n) l .0)
-long-verdict s (failed n) l = (inr refl, refl)
+long-verdict s (paged w bytes n) l = long-by w (s .core .stage) (s .core .counts) bytes (both (pageOk w bytes) (leb messageSize n) l .0)
+long-verdict s (failed n) l = (inr (inl refl), refl)
 
 pub fed : (s : Sound) (f : Feed) → Answered (s .core) (verdictOf s f) (pendingLook (s .core .stage) s) (longOf f) (planOf s f)
 unfolding feedOf failOf
-fed s (paged bytes n) = answered (s .core) (verdictBy (s .core .stage) (s .core .counts) bytes) (pendingLook (s .core .stage) s) (eqb (length bytes) pageSize && leb messageSize n) (λ l. long-verdict s (paged bytes n) l .1)
+fed s (paged w bytes n) = answered (s .core) (verdictBy w (s .core .stage) (s .core .counts) bytes) (pendingLook (s .core .stage) s) (pageOk w bytes && leb messageSize n) (λ l. long-verdict s (paged w bytes n) l .1)
 fed s (failed n) = answered (s .core) (verdict.Refused QueueFailed) (pendingLook (s .core .stage) s) (leb messageSize n) (λ l. refl)
 
 pub long-of : (f : Feed) → Long f → longOf f ≡ true
-long-of (paged bytes n) l = both-of (eqb (length bytes) pageSize) (leb messageSize n) (eq-eqb _ _ (l .0)) (le-leb _ _ (l .1))
+long-of (paged w bytes n) l = both-of (pageOk w bytes) (leb messageSize n) (l .0) (le-leb _ _ (l .1))
 long-of (failed n) l = le-leb _ _ l

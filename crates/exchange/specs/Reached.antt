@@ -27,7 +27,7 @@ use Rattle.exchange.specs.KeptLaws.{new-kept, call-kept, feed-kept}
 use Rattle.exchange.specs.Ends.{after}
 use Rattle.exchange.specs.XferLaws.{start-by, script-by, start-kept, xfer-kept}
 use Rattle.exchange.specs.Feed.{Feed, paged, failed, fedOf}
-use Rattle.exchange.specs.Types.{Ring, Reading, Call, SetParams, Idle, Sound}
+use Rattle.exchange.specs.Types.{InFull, Ring, Reading, Call, SetParams, Idle, Sound}
 
 pub data Reached : Sound → Ring → Type 0 where
   fresh : (jacks streams maps : ℕ) → Reached (newSound jacks streams maps) (newRing direct)
@@ -74,7 +74,7 @@ reached-playable {r} stream h set closed still empty =
 -- ---- and they can be met: 2 streams, set parameters of stream 1; the queries of jacks and maps fail, those of streams and the setting are answered with ok
 
 abbrev ok : Feed
-ok = paged (0x00 ∷ 0x80 ∷ replicate 4094 0) 24
+ok = paged InFull (0x00 ∷ 0x80 ∷ replicate 4094 0) 24
 
 abbrev first : Call
 first = SetParams 1 (record { known = 0; buffer = 8192; period = 2048; features = 0; channels = 2; format = 5; rate = 7 })

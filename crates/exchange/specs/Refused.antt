@@ -20,7 +20,7 @@ use Rattle.core.specs.Reply.{messageAfter, replyOf}
 use Rattle.exchange.specs.Exchange.{stepOf, callOf}
 use Rattle.exchange.specs.Feed.{Feed, paged, failed, pageOf, planOf, fedOf, verdictOf, longOf, One, ownRefusals, asking}
 use Rattle.exchange.specs.StayLaws.{own-stays}
-use Rattle.exchange.specs.Types.{Refusal, IoError, ChannelMap, Verdict, Track, Call, SetParams, Command, Remap, Streams, Supported, Xfer, Stage, Idle, MapsAsked, Sent, Core, Sound, Say, Send, Done, Refused, Effect, Nothing, FillMaps, Look, Plan}
+use Rattle.exchange.specs.Types.{Written, Refusal, IoError, ChannelMap, Verdict, Track, Call, SetParams, Command, Remap, Streams, Supported, Xfer, Stage, Idle, MapsAsked, Sent, Core, Sound, Say, Send, Done, Refused, Effect, Nothing, FillMaps, Look, Plan}
 use Rattle.core.specs.declared.reply.Reply.the-variants as reply
 
 -- `refusalOf` has the verdict's own number (of a remap, a status that is not ok says 3 instead)
@@ -77,10 +77,10 @@ pub data Left (s : Sound) (r : Refusal) : Sound → Type 0 where
   -- 1 "feed with no exchange open", 10 "unchanged; an open exchange stays open"
   same : One (saysRefusal r .number) (1 ∷ 10 ∷ []) → Left s r s
   -- 2 "control: old parameters", 3 "unchanged", 7 "as for a status not ok": the exchange is closed, and nothing else changed
-  closed : {call : Call} → One (saysRefusal r .number) (2 ∷ 3 ∷ 7 ∷ []) → s .core .stage ≡ Sent call
+  closed : {call : Call} → One (saysRefusal r .number) (2 ∷ 3 ∷ 7 ∷ 11 ∷ []) → s .core .stage ≡ Sent call
       → Left s r (record { core = withStage (s .core) Idle; jacks = s .jacks; pcms = s .pcms; maps = s .maps; params = s .params })
   -- 2, 7 and 5 "set-up not done": "leaves all three tables empty, and the next call begins it again"
-  cut : One (saysRefusal r .number) (2 ∷ 5 ∷ 7 ∷ []) → asking (s .core .stage) ≡ true
+  cut : One (saysRefusal r .number) (2 ∷ 5 ∷ 7 ∷ 11 ∷ []) → asking (s .core .stage) ≡ true
       → Left s r (record { core = record { counts = s .core .counts; read = none; ready = false; stage = Idle }; jacks = s .jacks; pcms = s .pcms; maps = s .maps; params = s .params })
   -- 1 "unchanged, but set-up stays done", 2 of a transfer, 3, 4: set-up is done, and the exchange is closed; which channel maps it then has, the feed's equation says
   done : {call : Call} (n : ℕ) (maps : List ChannelMap) → One (saysRefusal r .number) (ownRefusals call) → s .core .stage ≡ MapsAsked call
@@ -105,7 +105,7 @@ module _ (r : Refusal) where
   own-number e (refuses {call} x o) = numbered (ownRefusals call) e o
 
 -- what a request of the call's own is refused with, by a page of the right length or a failure
-status-number : (call : Call) → One (saysRefusal (statusRefusal call) .number) (2 ∷ 3 ∷ 7 ∷ [])
+status-number : (call : Call) → One (saysRefusal (statusRefusal call) .number) (2 ∷ 3 ∷ 7 ∷ 11 ∷ [])
 status-number (SetParams stream to) = inl refl
 status-number (Command kind stream) = inl refl
 status-number (Remap jack association sequence) = inr (inl refl)
@@ -113,11 +113,12 @@ status-number (Streams direction) = inl refl
 status-number (Supported field stream) = inl refl
 status-number (Xfer stream) = inl refl
 
-sent-number : (call : Call) (v : Verdict) → Failing v → refusedBy 5 v ≡ false → One (saysRefusal (refusalOf (statusRefusal call) v) .number) (2 ∷ 3 ∷ 7 ∷ [])
+sent-number : (call : Call) (v : Verdict) → Failing v → refusedBy 5 v ≡ false → One (saysRefusal (refusalOf (statusRefusal call) v) .number) (2 ∷ 3 ∷ 7 ∷ 11 ∷ [])
 sent-number call verdict.Good a b = status-number call
 sent-number call (verdict.Status word) a b = status-number call
 sent-number call (verdict.Refused r) (inl e) b = absurd (false≢true (sym b ∙ ap (λ (x : Refusal). eqb (saysRefusal x .number) 5) e))
-sent-number call (verdict.Refused r) (inr e) b = inr (inr (inl (ap (λ (x : Refusal). saysRefusal x .number) e)))
+sent-number call (verdict.Refused r) (inr (inl e)) b = inr (inr (inl (ap (λ (x : Refusal). saysRefusal x .number) e)))
+sent-number call (verdict.Refused r) (inr (inr e)) b = inr (inr (inr (inl (ap (λ (x : Refusal). saysRefusal x .number) e))))
 
 done-by : (s : Sound) (r : Refusal) {call : Call} (n : ℕ) (page : List ℕ) (good : Bool) (d : Core) → One (saysRefusal r .number) (ownRefusals call)
     → s .core .stage ≡ MapsAsked call → d ≡ withStage (readTo (s .core) (s .core .read .jacks) (s .core .read .streams) n true) Idle
@@ -131,21 +132,23 @@ module _ (s : Sound) (page : List ℕ) (r : Refusal) (v : Verdict) (long : Bool)
   left e (idle _) = same (numbered r (1 ∷ 10 ∷ []) e (inl refl))
   left e (asks-streams _ _) = absurd (false≢true (ap refuses? e))
   left e (asks-maps _ _ _) = absurd (false≢true (ap refuses? e))
-  left e (cuts x l k _ a) = cut (numbered r (2 ∷ 5 ∷ 7 ∷ []) e (k (w l))) a
+  left e (cuts x l k _ a) = cut (numbered r (2 ∷ 5 ∷ 7 ∷ 11 ∷ []) e (k (w l))) a
   left e (finishes {p} _ g o) = done-by s r _ page (isGood v) (p .core) (own-number r e o) g (own-closed (ap refuses? e) o)
   left e (ends _ _ _) = absurd (false≢true (ap refuses? e))
-  left e (fails {call} l _ g) = closed (numbered r (2 ∷ 3 ∷ 7 ∷ []) e (sent-number call v (w l) (few call g))) g
+  left e (fails {call} l _ g) = closed (numbered r (2 ∷ 3 ∷ 7 ∷ 11 ∷ []) e (sent-number call v (w l) (few call g))) g
 
 -- the answer to a request of the call's own holds no records
-few-judged : (page : List ℕ) → refusedBy 5 (judged page 0 0) ≡ false
+few-judged : (w : Written) (page : List ℕ) → refusedBy 5 (judged w page 0 0) ≡ false
 unfolding judged
-few-judged page =
-    guarded-by (λ (v : Verdict). refusedBy 5 v ≡ false) _ _ _
-    (λ _. guarded-by (λ (v : Verdict). refusedBy 5 v ≡ false) _ _ _ (λ _. guarded-by (λ (v : Verdict). refusedBy 5 v ≡ false) _ _ _ (λ _. refl) (λ f. absurd (false≢true (sym f)))) (λ _. refl))
+few-judged w page =
+    let P : Verdict → Type 0 = λ (v : Verdict). refusedBy 5 v ≡ false in
+    guarded-by P _ _ _
+    (λ _. guarded-by P _ _ _
+    (λ _. guarded-by P _ _ _ (λ _. guarded-by P _ _ _ (λ _. guarded-by P _ _ _ (λ _. refl) (λ _. refl)) (λ f. absurd (false≢true (sym f)))) (λ _. refl)) (λ _. refl))
     (λ _. refl)
 
 few-sent : (s : Sound) (f : Feed) (call : Call) → s .core .stage ≡ Sent call → refusedBy 5 (verdictOf s f) ≡ false
-few-sent s (paged bytes n) call g = ap (λ (k : Stage). refusedBy 5 (verdictBy k (s .core .counts) bytes)) g ∙ few-judged bytes
+few-sent s (paged w bytes n) call g = ap (λ (k : Stage). refusedBy 5 (verdictBy w k (s .core .counts) bytes)) g ∙ few-judged w bytes
 few-sent s (failed n) call g = refl
 
 pub refused-feed : (s : Sound) (f : Feed) (r : Refusal) → fedOf s f .reply ≡ reply.Refused r → Left s r (fedOf s f .sound)

@@ -83,7 +83,7 @@ changed s page i ok (ends {call} _ g h) = stored s page i _ call g (ok call g h)
 changed s page i ok (fails _ _ _) = inl refl
 
 good-ok : (s : Sound) (f : Feed) (call : Call) → s .core .stage ≡ Sent call → isGood (verdictOf s f) ≡ true → numAt 0 4 (pageOf f) ≡ 0x8000
-good-ok s (paged bytes n) call g h = good-whole bytes 0 0 (subst (λ (k : Stage). isGood (verdictBy k (s .core .counts) bytes) ≡ true) g h) .ok
+good-ok s (paged w bytes n) call g h = good-whole w bytes 0 0 (subst (λ (k : Stage). isGood (verdictBy w k (s .core .counts) bytes) ≡ true) g h) .ok
 good-ok s (failed n) call g h = absurd (false≢true h)
 
 -- of a feed; a failure has no page, and so no header

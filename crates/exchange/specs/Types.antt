@@ -1,11 +1,13 @@
 -- The types of the code, and their cases, as definitions and laws name them. Where two bear one name, the other stands beside its use.
 -- Assumes nothing.
 pub use Rattle.codes.specs.declared.answers.Refusal.{Refusal}
-pub use Rattle.codes.specs.declared.answers.Refusal.the-variants.{QueueFailed, BadLength, InvalidParam, IoError, Unsupported, NoInfo, TooMany, Busy}
+pub use Rattle.codes.specs.declared.answers.Refusal.the-variants.{QueueFailed, BadLength, Short, InvalidParam, IoError, Unsupported, NoInfo, TooMany, Busy}
 pub use Rattle.records.specs.declared.info.PcmInfo.{PcmInfo}
 pub use Rattle.records.specs.declared.info.JackInfo.{JackInfo}
 pub use Rattle.records.specs.declared.info.ChannelMap.{ChannelMap}
 pub use Rattle.tables.specs.declared.verdict.Verdict.{Verdict}
+pub use Rattle.tables.specs.declared.verdict.Written.{Written}
+pub use Rattle.tables.specs.declared.verdict.Written.the-variants.{InFull}
 pub use Rattle.turns.specs.declared.ring.Ring.{Ring}
 pub use Rattle.turns.specs.declared.reading.Reading.{Reading}
 pub use Rattle.turns.specs.declared.ring.Track.{Track}

@@ -28,10 +28,10 @@ pub record Pending (g : Stage) (stream : ℕ) : Type 0 where
   pub asks : asking g ≡ true
   pub call : callAt g ≡ Xfer stream
 
--- how a feed then ends: with the next query of set-up, and the transfer still waits; or with 1, 2, 5 or 7, and the exchange is closed
+-- how a feed then ends: with the next query of set-up, and the transfer still waits; or with 1, 2, 5, 7 or 11, and the exchange is closed
 pub data Unrun (stream : ℕ) : Reply → Stage → Type 0 where
   on : {n : ℕ} {g : Stage} → Pending g stream → Unrun stream (reply.Send n) g
-  over : (r : Refusal) → One (saysRefusal r .number) (1 ∷ 2 ∷ 5 ∷ 7 ∷ []) → Unrun stream (reply.Refused r) Idle
+  over : (r : Refusal) → One (saysRefusal r .number) (1 ∷ 2 ∷ 5 ∷ 7 ∷ 11 ∷ []) → Unrun stream (reply.Refused r) Idle
 
 own-unrun : {c : Core} {look : Look} {stream : ℕ} {p : Plan} → Own c look (Xfer stream) p → Unrun stream (replyOf (p .say)) (p .core .stage)
 own-unrun (refuses r o) = over r (elim o [ inl e ↦ inl e | inr f ↦ elim f [ inl e ↦ inr (inl e) | inr z ↦ absurd z ] ])
@@ -67,7 +67,7 @@ module _ (s : Sound) (r : Ring) (stream len budget n m : ℕ) where
   pub script-asks : (script : List ℕ) → Asks (xferOf s r stream len budget script n)
   script-asks script = script-by Asks s r stream len budget n (λ _ e. absurd (wrong (cc))) (λ _ _ _ _. record { asks = refl; call = refl }) script (λ e. absurd (wrong (cc)))
 
--- it ends at a feed with 1, 2, 5 or 7, and never runs
+-- it ends at a feed with 1, 2, 5, 7 or 11, and never runs
 pub xfer-after-setup-never-runs : (s : Sound) (f : Feed) (stream : ℕ) → Kept s → Long f → Pending (s .core .stage) stream → Unrun stream (fedOf s f .reply) (fedOf s f .sound .core .stage)
 xfer-after-setup-never-runs s f stream k l q =
     let long = long-of f l in

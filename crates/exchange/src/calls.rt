@@ -10,6 +10,7 @@ ghost use Rattle.core.specs.Plan.{refuseOf};
 ghost use Rattle.core.specs.declared.state.Kind.the-variants.{Prepare, Release, Start, Stop};
 ghost use Rattle.core.specs.declared.state.Field.the-variants.{Rates, Formats, Channels, Features};
 ghost use Rattle.core.specs.declared.state.Call.the-variants as calls;
+ghost use Rattle.tables.specs.declared.verdict.Written.the-variants.{InFull, Bytes};
 ghost use Rattle.exchange.specs.Exchange.{stepOf, Stepped, callOf, feedOf, failOf};
 use crate::effect::apply;
 use crate::effect::look;
@@ -30,8 +31,9 @@ use core::answer;
 use core::begin;
 use core::tell;
 use core::verdict_by;
-use tables::PAGE;
 use tables::Verdict;
+use tables::Written;
+use tables::page_ok;
 use turns::Ring;
 
 // Ids of streams, ascending; those past the count are 0.
@@ -199,11 +201,12 @@ pub fn features_supported(s: Sound, ring: Ring, stream: u32, message: &mut [u8])
     call(s, ring, Call::Supported { field, stream }, message)
 }
 
-// The answer page to the request that is out.
-pub fn feed(s: Sound, page: &[u8], message: &mut [u8]) -> Step
-    ensures { λ r. ⌜ Stepped (feedOf s (now (page .entry)) (length (now (message .entry)))) s (now (page .entry)) (now (message .entry)) (now (message .exit)) r ⌝ }
+// The answer page to the request that is out, of which so much was written.
+fn feed_by(w: Written, s: Sound, page: &[u8], message: &mut [u8]) -> Step
+    ensures { λ r. ⌜ Stepped (feedOf w s (now (page .entry)) (length (now (message .entry)))) s (now (page .entry)) (now (message .entry)) (now (message .exit)) r ⌝ }
 {
-    if page.len() != PAGE {
+    let long = page_ok(w, page);
+    if !long {
         return bad_length(s);
     }
     if message.len() < MESSAGE {
@@ -211,10 +214,24 @@ pub fn feed(s: Sound, page: &[u8], message: &mut [u8]) -> Step
     }
     let core = s.core;
     let stage = core.stage;
-    let verdict = verdict_by(stage, core.counts, page);
+    let verdict = verdict_by(w, stage, core.counts, page);
     let found = pending_look(stage, s);
     let plan = answer(core, verdict, found);
     finish(plan, s, page, message)
+}
+
+// The answer page to the request that is out; it counts as written in full.
+pub fn feed(s: Sound, page: &[u8], message: &mut [u8]) -> Step
+    ensures { λ r. ⌜ Stepped (feedOf InFull s (now (page .entry)) (length (now (message .entry)))) s (now (page .entry)) (now (message .entry)) (now (message .exit)) r ⌝ }
+{
+    feed_by(Written::InFull, s, page, message)
+}
+
+// The same with the length that the device wrote: nothing past it is trusted.
+pub fn feed_written(s: Sound, page: &[u8], written: u64, message: &mut [u8]) -> Step
+    ensures { λ r. ⌜ Stepped (feedOf (Bytes written) s (now (page .entry)) (length (now (message .entry)))) s (now (page .entry)) (now (message .entry)) (now (message .exit)) r ⌝ }
+{
+    feed_by(Written::Bytes(written), s, page, message)
 }
 
 // The queue reports that the request that is out has failed: there is no page.

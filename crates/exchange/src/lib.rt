@@ -11,6 +11,7 @@ pub use calls::channel_range_supported;
 pub use calls::features_supported;
 pub use calls::feed;
 pub use calls::feed_failure;
+pub use calls::feed_written;
 pub use calls::formats_supported;
 pub use calls::input_streams;
 pub use calls::jack_remap;

@@ -1,6 +1,6 @@
 -- The laws of rows of records, over what reads one, what writes one, and the size.
 -- Assumes nothing.
-use mathlib.Core.Path.{_≡_, refl, sym, ap, _∙_}
+use mathlib.Core.Path.{_≡_, refl, sym, ap, ap₂, _∙_}
 use mathlib.Core.List.{List, [], _∷_, _++_, append-assoc, append-nil}
 use Prim.Native.Nat.{ℕ, zero, suc, _+_, _-_, _*_, _<_, _≤_}
 use native.Mathlib.Nat.{add-zero, add-assoc, add-comm, suc-mul, zero-mul, zero-add, suc-add, le-of-lt}
@@ -10,7 +10,7 @@ use lib.ListN.{length, getD, set, take, drop, length-append}
 use lib.Seq.{sets, take-at, drop-at, take-suc, take-suc-set, length-take-le, set-split, split-at}
 use Rattle.layout.specs.Bytes.{bytesAt, Bytes}
 use Rattle.layout.specs.Rows.{rowsAt, rowsBytes}
-use Rattle.layout.specs.BytesLaws.{bytesAt-append, bytesAt-front, bytesAt-add}
+use Rattle.layout.specs.BytesLaws.{bytesAt-append, bytesAt-front, bytesAt-add, bytesAt-own}
 use Rattle.layout.specs.StoreLaws.{sets-then}
 use Rattle.layout.specs.All.{All}
 
@@ -122,6 +122,18 @@ module _ {A : Type 0} (g : A → List ℕ) (size : ℕ) (sized : (x : A) → len
       ∙ ap (sets s o)
       (sym (rowsBytes-append g (take n a) (x ∷ []) ∙ ap (λ (l : List ℕ). rowsBytes g (take n a) ++ l) (rowsBytes-one g x))
       ∙ ap (rowsBytes g) (sym (take-suc a n d h) ∙ ap (λ (k : ℕ). take k a) (sym (add-one n))))
+
+-- rows of stores that hold the same bytes are the same, over a reader that looks at its own bytes alone
+module _ {A : Type 0} (f : ℕ → List ℕ → A) (size : ℕ) (own : (o : ℕ) (s : List ℕ) → f o s ≡ f 0 (bytesAt o size s)) where
+  pub rows-alike : (o p n : ℕ) (s t : List ℕ) → bytesAt o (n * size) s ≡ bytesAt p (n * size) t → rowsAt f size o n s ≡ rowsAt f size p n t
+  unfolding rowsAt
+  rows-alike o p zero s t e = refl
+  rows-alike o p (suc n) s t e =
+      let m : suc n * size ≡ size + n * size = omega (arith, suc-mul n size) in
+      let part : (k c : ℕ) → k + c ≤ suc n * size → bytesAt (o + k) c s ≡ bytesAt (p + k) c t =
+      λ k c h. sym (bytesAt-own k o c (suc n * size) s h) ∙ ap (bytesAt k c) e ∙ bytesAt-own k p c (suc n * size) t h in
+      let head : bytesAt o size s ≡ bytesAt p size t = (λ i. bytesAt (sym (add-zero o) i) size s) ∙ part 0 size (omega arith) ∙ (λ i. bytesAt (add-zero p i) size t) in
+      ap₂ (λ (x : A) (y : List A). x ∷ y) (own o s ∙ ap (f 0) head ∙ sym (own p t)) (rows-alike (o + size) (p + size) n s t (part size (n * size) (omega arith)))
 
 -- ---- the round trips
 

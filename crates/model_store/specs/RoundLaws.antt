@@ -14,6 +14,7 @@ use Rattle.layout.specs.BytesLaws.{length-le, un-le, numAt-below, bytesAt-all, 
 use Rattle.layout.specs.LayoutLaws.{length-write, read-write, read-own, read-fits}
 use Rattle.records.specs.Records.{jackInfo, jackInfoValues, pcmInfo, pcmInfoValues, channelMap, channelMapValues, setParameters, setParametersValues, jackInfoOf, pcmInfoOf, channelMapOf, setParametersOf, jackBytes, pcmBytes, mapBytes}
 use Rattle.tables.specs.Tables.{jackAt, pcmAt, mapAt}
+use Rattle.tables.specs.TablesLaws.{jack-own, pcm-own, map-own}
 use Rattle.model_store.specs.Types.{JackInfo, PcmInfo, ChannelMap, Held, Device}
 use Rattle.model.specs.Device.{mostJacks, mostStreams, mostMaps}
 use Rattle.model_store.specs.Store.{jacksPlace, pcmsPlace, mapsPlace, paramsPlace, playedPlace, deviceSize, countsRow, countsValues, countsBytes, countsAt, heldSize, wordSize, heldBytes, heldAt, wordAt, deviceOf, deviceBytes}
@@ -27,25 +28,13 @@ use Rattle.model_store.specs.StoreLaws.{Sized, sized-of, jack-sized, pcm
 read-all : (ws vs : List ℕ) → Fit ws vs → read ws (write ws vs) ≡ vs
 read-all ws vs f = ap (read ws) (sym (append-nil (write ws vs))) ∙ read-write ws vs [] f
 
-jack-own : (o : ℕ) (s : List ℕ) → jackAt o s ≡ jackAt 0 (bytesAt o (size jackInfo) s)
-unfolding jackAt
-jack-own o s = ap jackInfoOf (read-own o jackInfo s)
-
 jack-back : (x : JackInfo) → Fit jackInfo (jackInfoValues x) → jackAt 0 (jackBytes x) ≡ x
 unfolding jackAt
 jack-back x f = ap jackInfoOf (read-all jackInfo (jackInfoValues x) f)
 
-pcm-own : (o : ℕ) (s : List ℕ) → pcmAt o s ≡ pcmAt 0 (bytesAt o (size pcmInfo) s)
-unfolding pcmAt
-pcm-own o s = ap pcmInfoOf (read-own o pcmInfo s)
-
 pcm-back : (x : PcmInfo) → Fit pcmInfo (pcmInfoValues x) → pcmAt 0 (pcmBytes x) ≡ x
 unfolding pcmAt
 pcm-back x f = ap pcmInfoOf (read-all pcmInfo (pcmInfoValues x) f)
-
-map-own : (o : ℕ) (s : List ℕ) → mapAt o s ≡ mapAt 0 (bytesAt o (size channelMap) s)
-unfolding mapAt
-map-own o s = ap channelMapOf (read-own o channelMap s)
 
 map-back : (x : ChannelMap) → Fit channelMap (channelMapValues x) → mapAt 0 (mapBytes x) ≡ x
 unfolding mapAt

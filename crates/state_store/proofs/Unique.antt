@@ -12,6 +12,7 @@ use Rattle.state_store.specs.Types.{Opening}
 use Rattle.state_store.proofs.calls.size.Reads as size
 use Rattle.state_store.proofs.calls.call.Reads as call
 use Rattle.state_store.proofs.calls.feed.Reads as feed
+use Rattle.state_store.proofs.calls.feed_written.Reads as feed-written
 use Rattle.state_store.proofs.calls.feed_failure.Reads as feed-failure
 use Rattle.state_store.proofs.calls.open.Reads as opening
 use Rattle.state_store.proofs.config.new.Reads as new
@@ -40,6 +41,9 @@ call-one κs a r₁ r₂ e₁ e₂ p q = left-one p q
 
 pub feed-one : (κs : _) (a : _) (r₁ r₂ : _) (e₁ e₂ : _) → feed.Post κs a r₁ e₁ → feed.Post κs a r₂ e₂ → (r₁ ≡ r₂) × (now (e₁ .0) ≡ now (e₂ .0)) × (now (e₁ .1 .1 .0) ≡ now (e₂ .1 .1 .0)) × (now (e₁ .1 .1 .1 .0) ≡ now (e₂ .1 .1 .1 .0))
 feed-one κs a r₁ r₂ e₁ e₂ p q = left-one p q
+
+pub feed-written-one : (κs : _) (a : _) (r₁ r₂ : _) (e₁ e₂ : _) → feed-written.Post κs a r₁ e₁ → feed-written.Post κs a r₂ e₂ → (r₁ ≡ r₂) × (now (e₁ .0) ≡ now (e₂ .0)) × (now (e₁ .1 .1 .1 .0) ≡ now (e₂ .1 .1 .1 .0)) × (now (e₁ .1 .1 .1 .1 .0) ≡ now (e₂ .1 .1 .1 .1 .0))
+feed-written-one κs a r₁ r₂ e₁ e₂ p q = left-one p q
 
 pub feed-failure-one : (κs : _) (a : _) (r₁ r₂ : _) (e₁ e₂ : _) → feed-failure.Post κs a r₁ e₁ → feed-failure.Post κs a r₂ e₂ → (r₁ ≡ r₂) × (now (e₁ .0) ≡ now (e₂ .0)) × (now (e₁ .1 .0) ≡ now (e₂ .1 .0)) × (now (e₁ .1 .1 .0) ≡ now (e₂ .1 .1 .0))
 feed-failure-one κs a r₁ r₂ e₁ e₂ p q = left-one p q

@@ -23,7 +23,7 @@ use Rattle.core.specs.declared.reply.Reply.the-variants as reply
 use Rattle.state_store.specs.Places.{stateSize}
 use Rattle.layout.specs.Lent.{Made, made, Shown, shown, resultSize, messageSize}
 use Rattle.state_store.specs.Store.{soundOf, soundBytes, stateAfter}
-use Rattle.state_store.specs.Types.{Refusal, Track, Call, Counts, Value, Plan, Reply, StreamList, Opening, Says}
+use Rattle.state_store.specs.Types.{Written, Refusal, Track, Call, Counts, Value, Plan, Reply, StreamList, Opening, Says}
 use Rattle.state_store.specs.declared.calls.Opening.the-variants.{Open}
 
 -- an answer by its number, and what state, message and result hold then
@@ -71,9 +71,10 @@ unfoldable pub callIn : List ℕ → Track → Call → List ℕ → List ℕ �
 callIn s t call m r = guard (lengths s r) (tooShort s m r)
     (told s (callOf (soundOf s) t call (length m)) [] m r)
 
-unfoldable pub feedIn : List ℕ → List ℕ → List ℕ → List ℕ → Told
-feedIn s page m r = guard (lengths s r) (tooShort s m r)
-    (told s (feedOf (soundOf s) page (length m)) page m r)
+-- an answer page, of which so much was written
+unfoldable pub feedIn : Written → List ℕ → List ℕ → List ℕ → List ℕ → Told
+feedIn w s page m r = guard (lengths s r) (tooShort s m r)
+    (told s (feedOf w (soundOf s) page (length m)) page m r)
 
 unfoldable pub failIn : List ℕ → List ℕ → List ℕ → Told
 failIn s m r = guard (lengths s r) (tooShort s m r)

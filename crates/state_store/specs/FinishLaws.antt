@@ -9,6 +9,7 @@ use lib.Dec.{leb, eqb}
 use lib.ListN.{length}
 use lib.Seq.{sets}
 use borrow.Author.Tests.{leb-true}
+use Rattle.tables.specs.Tables.{pageOk}
 use Rattle.layout.specs.Bytes.{Bytes}
 use Rattle.layout.specs.LayoutLaws.{length-write}
 use Rattle.codes.specs.Says.{guard}
@@ -24,7 +25,7 @@ use Rattle.core.specs.Reply.{saysReply, requestBytes, messageAfter, replyOf, te
 use Rattle.exchange.specs.Exchange.{callOf, feedOf, failOf}
 use Rattle.core.specs.declared.plan.Request.the-variants as request
 use Rattle.core.specs.declared.plan.Say.the-variants.{Refused}
-use Rattle.state_store.specs.Types.{BadLength, Track, Verdict, QueueFailed, Refused, Call, Core, Request, Say, Send, Done, Effect, Look, Plan}
+use Rattle.state_store.specs.Types.{Written, BadLength, Track, Verdict, QueueFailed, Refused, Call, Core, Request, Say, Send, Done, Effect, Look, Plan}
 use Rattle.state_store.specs.Places.{stateSize}
 use Rattle.layout.specs.Lent.{resultSize, messageSize, pageSize}
 use Rattle.state_store.specs.Store.{headAt, coreOf, whole, soundOf, soundBytes}
@@ -67,8 +68,8 @@ module _ (a : Say) (m : List ℕ) (l : messageSize ≤ length m) where
 pub long-state : (s r : List ℕ) → lengths s r ≡ true → stateSize ≤ length s
 long-state s r e = leb-true stateSize (length s) (both (leb stateSize (length s)) (leb resultSize (length r)) e .0)
 
-pub long-message : (page m : List ℕ) → (eqb (length page) pageSize && leb messageSize (length m)) ≡ true → messageSize ≤ length m
-long-message page m e = leb-true messageSize (length m) (both (eqb (length page) pageSize) (leb messageSize (length m)) e .1)
+pub long-message : (w : Written) (page m : List ℕ) → (pageOk w page && leb messageSize (length m)) ≡ true → messageSize ≤ length m
+long-message w page m e = leb-true messageSize (length m) (both (pageOk w page) (leb messageSize (length m)) e .1)
 
 -- ---- from the head to the plan
 
@@ -81,9 +82,9 @@ module _ (s m r : List ℕ) where
   unfolding callIn
   call-unread t call e = too-short s m r _ e
 
-  pub feed-unread : (page : List ℕ) → lengths s r ≡ false → left 10 s m r ≡ feedIn s page m r
+  pub feed-unread : (w : Written) (page : List ℕ) → lengths s r ≡ false → left 10 s m r ≡ feedIn w s page m r
   unfolding feedIn
-  feed-unread page e = too-short s m r _ e
+  feed-unread w page e = too-short s m r _ e
 
   pub fail-unread : lengths s r ≡ false → left 10 s m r ≡ failIn s m r
   unfolding failIn
@@ -97,9 +98,9 @@ module _ (s m r : List ℕ) where
     unfolding callIn callOf
     call-short t call b e = passes _ _ _ l (short [] b ∙ ap (λ (p : Plan). told s p [] m r) (stops _ _ _ e refl))
 
-    pub feed-short : (page : List ℕ) → Bytes s → (eqb (length page) pageSize && leb messageSize (length m)) ≡ false → left 10 s m r ≡ feedIn s page m r
+    pub feed-short : (w : Written) (page : List ℕ) → Bytes s → (pageOk w page && leb messageSize (length m)) ≡ false → left 10 s m r ≡ feedIn w s page m r
     unfolding feedIn feedOf
-    feed-short page b e = passes _ _ _ l (short page b ∙ ap (λ (p : Plan). told s p page m r) (stops _ _ _ e refl))
+    feed-short w page b e = passes _ _ _ l (short page b ∙ ap (λ (p : Plan). told s p page m r) (stops _ _ _ e refl))
 
     pub fail-short : Bytes s → leb messageSize (length m) ≡ false → left 10 s m r ≡ failIn s m r
     unfolding failIn failOf
@@ -116,13 +117,13 @@ module _ (s m r : List ℕ) where
       unfolding callIn callOf
       called t call e k p = passes _ _ _ l (done [] (passes _ _ _ e (p ∙ (λ i. beginOf (at-core i) t call (k i)))))
 
-      pub fed : (page : List ℕ) {x : Verdict} {k : Look} {p : Plan} → (eqb (length page) pageSize && leb messageSize (length m)) ≡ true → x ≡ verdictBy (c .stage) (c .counts) page
-          → k ≡ pendingLook (c .stage) (soundOf s) → p ≡ answerOf c x k → finished w s p page m r ≡ feedIn s page m r
+      pub fed : (y : Written) (page : List ℕ) {x : Verdict} {k : Look} {p : Plan} → (pageOk y page && leb messageSize (length m)) ≡ true → x ≡ verdictBy y (c .stage) (c .counts) page
+          → k ≡ pendingLook (c .stage) (soundOf s) → p ≡ answerOf c x k → finished w s p page m r ≡ feedIn y s page m r
       unfolding feedIn feedOf
-      fed page e x k p =
+      fed y page e x k p =
           passes _ _ _ l
           (done page (passes _ _ _ e (p ∙ (λ i. answerOf c (x i) (k i))
-          ∙ ap (λ (z : Core). answerOf z (verdictBy (z .stage) (z .counts) page) (pendingLook (z .stage) (soundOf s))) at-core)))
+          ∙ ap (λ (z : Core). answerOf z (verdictBy y (z .stage) (z .counts) page) (pendingLook (z .stage) (soundOf s))) at-core)))
 
       pub failed : {k : Look} {p : Plan} → leb messageSize (length m) ≡ true → k ≡ pendingLook (c .stage) (soundOf s) → p ≡ answerOf c (Refused QueueFailed) k → finished w s p [] m r ≡ failIn s m r
       unfolding failIn failOf

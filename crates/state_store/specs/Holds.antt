@@ -37,7 +37,7 @@ use Rattle.exchange.specs.OwnLaws.{picked-by}
 use Rattle.exchange.specs.PlanLaws.{begun, Answered, short, idle, asks-streams, asks-maps, cuts, finishes, ends, fails, fed}
 use Rattle.exchange.specs.StayLaws.{called-quiet}
 use Rattle.exchange.specs.StepLaws.{startBy, started-by}
-use Rattle.state_store.specs.Types.{Refusal, JackInfo, PcmInfo, ChannelMap, Verdict, Track, Ring, Params, Call, SetParams, Command, Remap, Streams, Supported, Xfer, Sent, Core, Sound, Effect, Nothing, FillJacks, FillStreams, FillMaps, Store, Look, Plan, Gate, Shut, SetUp, Open, XferStep}
+use Rattle.state_store.specs.Types.{Written, Refusal, JackInfo, PcmInfo, ChannelMap, Verdict, Track, Ring, Params, Call, SetParams, Command, Remap, Streams, Supported, Xfer, Sent, Core, Sound, Effect, Nothing, FillJacks, FillStreams, FillMaps, Store, Look, Plan, Gate, Shut, SetUp, Open, XferStep}
 use Rattle.state_store.specs.Places.{headSize, pcmsPlace, mapsPlace, paramsPlace, stateSize}
 use Rattle.state_store.specs.Store.{whole, paramsRow, paramsAt, soundOf, soundBytes, stateAfter, headRow, headValues, headOf, paramsBytes}
 use Rattle.layout.specs.Lent.{Made, messageSize}
@@ -226,9 +226,9 @@ module _ (s m r : List ℕ) (b : Bytes s) (l : lengths s r ≡ true) where
       let o = fed x f in
       told-holds (planOf x f) (pageOf f) c (λ w. let k = store-fits s b w in (answered-fits k o, answered-effect k o)) (λ w. answered-barred (x .core) (not-whole s w) o)
 
-  pub feed-holds : (page : List ℕ) → Bytes page → soundOf (feedIn s page m r .state) ≡ stepOf (feedOf (soundOf s) page (length m)) (soundOf s) page .sound
+  pub feed-holds : (w : Written) (page : List ℕ) → Bytes page → soundOf (feedIn w s page m r .state) ≡ stepOf (feedOf w (soundOf s) page (length m)) (soundOf s) page .sound
   unfolding feedIn
-  feed-holds page c = fed-holds (paged page (length m)) c
+  feed-holds w page c = fed-holds (paged w page (length m)) c
 
   pub fail-holds : soundOf (failIn s m r .state) ≡ stepOf (failOf (soundOf s) (length m)) (soundOf s) [] .sound
   unfolding failIn
@@ -315,9 +315,9 @@ module _ (s m r : List ℕ) (b : Bytes s) where
   unfolding callIn
   call-again t call = guarded-by (λ (x : Told). Again s (x .state)) _ _ _ (λ _. after-again _) (λ _. (b, refl))
 
-  pub feed-again : (page : List ℕ) → Again s (feedIn s page m r .state)
+  pub feed-again : (w : Written) (page : List ℕ) → Again s (feedIn w s page m r .state)
   unfolding feedIn
-  feed-again page = guarded-by (λ (x : Told). Again s (x .state)) _ _ _ (λ _. after-again _) (λ _. (b, refl))
+  feed-again w page = guarded-by (λ (x : Told). Again s (x .state)) _ _ _ (λ _. after-again _) (λ _. (b, refl))
 
   pub fail-again : Again s (failIn s m r .state)
   unfolding failIn

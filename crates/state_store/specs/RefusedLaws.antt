@@ -6,9 +6,10 @@ use mathlib.Core.List.{List, [], _∷_}
 use mathlib.Core.Logic.{inl, inr}
 use Prim.Native.Nat.{ℕ, _<_}
 use native.Mathlib.Omega.{arith}
-use lib.Dec.{lit<}
+use lib.Dec.{eqb}
 use lib.ListN.{length}
 use lib.Seq.{sets}
+use borrow.Author.Tests.{eq-eqb}
 use Rattle.layout.specs.Bytes.{Bytes}
 use Rattle.codes.specs.Says.{pick}
 use Rattle.codes.specs.SaysLaws.{guarded-by, skips}
@@ -25,7 +26,7 @@ use Rattle.state_store.specs.Store.{whole, soundOf, soundBytes, stateAft
 use Rattle.state_store.specs.Calls.{Told, told, tooShort, resultBytes, callIn, feedIn, failIn, Opened, openIn}
 use Rattle.state_store.specs.StoreLaws.{core-at, store-same}
 use Rattle.state_store.specs.OpenLaws.{gateIn, openBy, opened-by}
-use Rattle.state_store.specs.Types.{Refusal, InvalidParam, BadLength, Verdict, Track, Call, SetParams, Command, Remap, Streams, Supported, Xfer, Core, Sound, Look, Plan, Reply, Gate, Shut, SetUp, Open, Says}
+use Rattle.state_store.specs.Types.{Written, Refusal, InvalidParam, BadLength, Verdict, Track, Call, SetParams, Command, Remap, Streams, Supported, Xfer, Core, Sound, Look, Plan, Reply, Gate, Shut, SetUp, Open, Says}
 
 pub record Unchanged (s m r : List ℕ) (x : Told) : Type 0 where
   pub state : x .state ≡ s
@@ -44,27 +45,27 @@ refused-by (reply.Done v) a b = absurd (omega arith)
 refused-by (reply.Refused x) a b = record { why = x; is = refl }
 
 -- of all that a feed is refused with, 10 alone leaves the state as it was, whatever was asked
-abbrev Below : List ℕ → Type 0
-Below [] = Unit {0}
-Below (x ∷ xs) = (x < 10) × Below xs
+abbrev Others : List ℕ → Type 0
+Others [] = Unit {0}
+Others (x ∷ xs) = (eqb x 10 ≡ false) × Others xs
 
-lacks : (n : ℕ) (ns : List ℕ) → Below ns → n ≡ 10 → One n ns → ⊥
-lacks n (x ∷ xs) h e (inl o) = let k : x < 10 = h .0 in omega arith
+lacks : (n : ℕ) (ns : List ℕ) → Others ns → n ≡ 10 → One n ns → ⊥
+lacks n (x ∷ xs) h e (inl o) = false≢true (sym (h .0) ∙ eq-eqb x 10 (sym o ∙ e))
 lacks n (x ∷ xs) h e (inr o) = lacks n xs (h .1) e o
 
-own-below : (call : Call) → Below (ownRefusals call)
-own-below (SetParams stream to) = (lit< tt, tt)
-own-below (Command kind stream) = tt
-own-below (Remap jack association sequence) = (lit< tt, (lit< tt, (lit< tt, tt)))
-own-below (Streams direction) = tt
-own-below (Supported field stream) = (lit< tt, tt)
-own-below (Xfer stream) = (lit< tt, (lit< tt, tt))
+own-others : (call : Call) → Others (ownRefusals call)
+own-others (SetParams stream to) = (refl, tt)
+own-others (Command kind stream) = tt
+own-others (Remap jack association sequence) = (refl, (refl, (refl, tt)))
+own-others (Streams direction) = tt
+own-others (Supported field stream) = (refl, tt)
+own-others (Xfer stream) = (refl, (refl, tt))
 
 ten-left : (x : Sound) (r : Refusal) {y : Sound} → saysRefusal r .number ≡ 10 → Left x r y → y ≡ x
 ten-left x r e (same o) = refl
-ten-left x r e (closed o g) = absurd (lacks (saysRefusal r .number) (2 ∷ 3 ∷ 7 ∷ []) (lit< tt, (lit< tt, (lit< tt, tt))) e o)
-ten-left x r e (cut o a) = absurd (lacks (saysRefusal r .number) (2 ∷ 5 ∷ 7 ∷ []) (lit< tt, (lit< tt, (lit< tt, tt))) e o)
-ten-left x r e (done {call} n maps o g) = absurd (lacks (saysRefusal r .number) (ownRefusals call) (own-below call) e o)
+ten-left x r e (closed o g) = absurd (lacks (saysRefusal r .number) (2 ∷ 3 ∷ 7 ∷ 11 ∷ []) (refl, (refl, (refl, (refl, tt)))) e o)
+ten-left x r e (cut o a) = absurd (lacks (saysRefusal r .number) (2 ∷ 5 ∷ 7 ∷ 11 ∷ []) (refl, (refl, (refl, (refl, tt)))) e o)
+ten-left x r e (done {call} n maps o g) = absurd (lacks (saysRefusal r .number) (ownRefusals call) (own-others call) e o)
 
 -- ---- of a state that fails the consistency test, every plan is a refusal that keeps it
 
@@ -136,18 +137,18 @@ module _ (s m r : List ℕ) (b : Bytes s) where
   nothing : Kept (tooShort s m r)
   nothing = record { state = refl; message = refl; result = refl }
 
-  pub feed-refused : (page : List ℕ) → feedIn s page m r .answer ≡ 10 → Kept (feedIn s page m r)
+  pub feed-refused : (w : Written) (page : List ℕ) → feedIn w s page m r .answer ≡ 10 → Kept (feedIn w s page m r)
   unfolding feedIn
-  feed-refused page = guarded-by (λ (x : Told). x .answer ≡ 10 → Kept x) _ _ _ (λ _. feed-unchanged (paged page (length m))) (λ _ _. nothing)
+  feed-refused w page = guarded-by (λ (x : Told). x .answer ≡ 10 → Kept x) _ _ _ (λ _. feed-unchanged (paged w page (length m))) (λ _ _. nothing)
 
   pub fail-refused : failIn s m r .answer ≡ 10 → Kept (failIn s m r)
   unfolding failIn
   fail-refused = guarded-by (λ (x : Told). x .answer ≡ 10 → Kept x) _ _ _ (λ _. feed-unchanged (failed (length m))) (λ _ _. nothing)
 
   module _ (e : consistentOf (soundOf s .core) ≡ false) where
-    pub feed-inconsistent : (page : List ℕ) → Kept (feedIn s page m r)
+    pub feed-inconsistent : (w : Written) (page : List ℕ) → Kept (feedIn w s page m r)
     unfolding feedIn
-    feed-inconsistent page = guarded-by Kept _ _ _ (λ _. inconsistent (paged page (length m)) e) (λ _. nothing)
+    feed-inconsistent w page = guarded-by Kept _ _ _ (λ _. inconsistent (paged w page (length m)) e) (λ _. nothing)
 
     pub fail-inconsistent : Kept (failIn s m r)
     unfolding failIn

@@ -7,6 +7,7 @@ pub use Rattle.records.specs.declared.info.PcmInfo.{PcmInfo}
 pub use Rattle.records.specs.declared.info.ChannelMap.{ChannelMap}
 pub use Rattle.tables.specs.declared.verdict.Verdict.{Verdict}
 pub use Rattle.tables.specs.declared.verdict.Verdict.the-variants.{Refused}
+pub use Rattle.tables.specs.declared.verdict.Written.{Written}
 pub use Rattle.turns.specs.declared.ring.Track.{Track}
 pub use Rattle.turns.specs.declared.ring.Ring.{Ring}
 pub use Rattle.core.specs.declared.reply.Reply.{Reply}

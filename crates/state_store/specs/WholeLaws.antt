@@ -38,7 +38,7 @@ use Rattle.state_store.specs.FlatLaws.{core-same, head-whole}
 use Rattle.state_store.specs.OverLaws.{headBytes, head-sized}
 use Rattle.state_store.specs.StoreLaws.{core-at, head-back}
 use Rattle.state_store.specs.OpenLaws.{gateIn, openBy, set-up-long, opened-by}
-use Rattle.state_store.specs.Types.{Verdict, Track, Counts, Call, Xfer, Stage, Idle, JacksAsked, StreamsAsked, MapsAsked, Sent, Core, Sound, Effect, Nothing, FillJacks, FillStreams, FillMaps, Store, Look, Plan, Gate, Shut, SetUp, Open, Head}
+use Rattle.state_store.specs.Types.{Written, Verdict, Track, Counts, Call, Xfer, Stage, Idle, JacksAsked, StreamsAsked, MapsAsked, Sent, Core, Sound, Effect, Nothing, FillJacks, FillStreams, FillMaps, Store, Look, Plan, Gate, Shut, SetUp, Open, Head}
 
 -- ---- a core whose numbers fit their widths, as every core of the code does
 
@@ -191,9 +191,9 @@ module _ (s m r : List ℕ) (b : Bytes s) (w : whole s ≡ true) where
   fed-whole : (f : Feed) → lengths s r ≡ true → whole (told s (planOf (soundOf s) f) (pageOf f) m r .state) ≡ true
   fed-whole f = told-whole (planOf (soundOf s) f) (pageOf f) (answered-fits (store-fits s b w) (fed (soundOf s) f))
 
-  pub feed-whole : (page : List ℕ) → whole (feedIn s page m r .state) ≡ true
+  pub feed-whole : (y : Written) (page : List ℕ) → whole (feedIn y s page m r .state) ≡ true
   unfolding feedIn
-  feed-whole page = guarded-by (λ (x : Told). whole (x .state) ≡ true) _ _ _ (fed-whole (paged page (length m))) (λ _. w)
+  feed-whole y page = guarded-by (λ (x : Told). whole (x .state) ≡ true) _ _ _ (fed-whole (paged y page (length m))) (λ _. w)
 
   pub fail-whole : whole (failIn s m r .state) ≡ true
   unfolding failIn

@@ -7,6 +7,7 @@ ghost use lib.ListN.{length};
 ghost use Rattle.layout.specs.Lent.{messageSize};
 ghost use Rattle.core.specs.Reply.{saysReply};
 ghost use Rattle.core.specs.declared.plan.Effect.the-variants.{Nothing};
+ghost use Rattle.tables.specs.declared.verdict.Written.the-variants.{InFull, Bytes};
 ghost use Rattle.state_store.specs.Calls.{left, callIn, feedIn, failIn, opened, openIn};
 ghost use Rattle.state_store.specs.Steps.{changed, finished, settingUpBy};
 ghost use Rattle.state_store.specs.Places.{stateSize};
@@ -32,8 +33,9 @@ use core::ask_jacks;
 use core::tell;
 use core::verdict_by;
 use core::xfer_gate;
-use tables::PAGE;
 use tables::Verdict;
+use tables::Written;
+use tables::page_ok;
 use turns::Track;
 
 // The bytes of a state.
@@ -131,24 +133,44 @@ pub fn call(state: &mut [u8], t: Track, asked: Call, message: &mut [u8], result:
     finish(state, whole, plan, &[], message, result)
 }
 
-// The answer page to the request that is out.
-pub fn feed(state: &mut [u8], page: &[u8], message: &mut [u8], result: &mut [u8]) -> u64
-    ensures { λ r. ⌜ left r (now (state .exit)) (now (message .exit)) (now (result .exit)) ≡ feedIn (now (state .entry)) (now (page .entry)) (now (message .entry)) (now (result .entry)) ⌝ }
+// The answer page to the request that is out, of which so much was written.
+fn feed_by(w: Written, state: &mut [u8], page: &[u8], message: &mut [u8], result: &mut [u8]) -> u64
+    ensures { λ r. ⌜ left r (now (state .exit)) (now (message .exit)) (now (result .exit)) ≡ feedIn w (now (state .entry)) (now (page .entry)) (now (message .entry)) (now (result .entry)) ⌝ }
 {
     if !both(SIZE <= state.len(), RESULT <= result.len()) {
         return 10;
     }
-    if !both(page.len() == PAGE, MESSAGE <= message.len()) {
+    if !both(page_ok(w, page), MESSAGE <= message.len()) {
         return 10;
     }
     let h = get_head(&state[..]);
     let whole = is_whole(h);
     let c = core_by(whole, h);
     let stage = c.stage;
-    let verdict = verdict_by(stage, c.counts, page);
+    let verdict = verdict_by(w, stage, c.counts, page);
     let found = pending_look(&state[..], stage);
     let plan = core::answer(c, verdict, found);
     finish(state, whole, plan, page, message, result)
+}
+
+// The answer page to the request that is out; it counts as written in full.
+pub fn feed(state: &mut [u8], page: &[u8], message: &mut [u8], result: &mut [u8]) -> u64
+    ensures { λ r. ⌜ left r (now (state .exit)) (now (message .exit)) (now (result .exit)) ≡ feedIn InFull (now (state .entry)) (now (page .entry)) (now (message .entry)) (now (result .entry)) ⌝ }
+{
+    feed_by(Written::InFull, state, page, message, result)
+}
+
+// The same with the length that the device wrote: nothing past it is trusted.
+pub fn feed_written(
+    state: &mut [u8],
+    page: &[u8],
+    written: u64,
+    message: &mut [u8],
+    result: &mut [u8],
+) -> u64
+    ensures { λ r. ⌜ left r (now (state .exit)) (now (message .exit)) (now (result .exit)) ≡ feedIn (Bytes written) (now (state .entry)) (now (page .entry)) (now (message .entry)) (now (result .entry)) ⌝ }
+{
+    feed_by(Written::Bytes(written), state, page, message, result)
 }
 
 // The queue reports that the request that is out has failed: there is no page.

@@ -14,6 +14,7 @@ pub use calls::SIZE;
 pub use calls::call;
 pub use calls::feed;
 pub use calls::feed_failure;
+pub use calls::feed_written;
 pub use calls::open;
 pub use calls::size;
 pub use config::chmaps;

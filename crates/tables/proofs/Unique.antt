@@ -6,6 +6,7 @@ use Rattle.codes.specs.SaysLaws.{same}
 use Rattle.tables.proofs.verdict.judge.Reads as judge
 use Rattle.tables.proofs.verdict.is_good.Reads as is-good
 use Rattle.tables.proofs.verdict.refused_by.Reads as refused-by
+use Rattle.tables.proofs.verdict.page_ok.Reads as page-ok
 use Rattle.tables.proofs.verdict.holds.Reads as holds
 use Rattle.tables.proofs.jacks.no_jacks.Reads as no-jacks
 use Rattle.tables.proofs.jacks.read_jacks.Reads as read-jacks
@@ -22,6 +23,9 @@ is-good-one κs a r₁ r₂ e₁ e₂ p q = same p q
 
 pub refused-by-one : (κs : _) (a : _) (r₁ r₂ : _) (e₁ e₂ : _) → refused-by.Post κs a r₁ e₁ → refused-by.Post κs a r₂ e₂ → r₁ ≡ r₂
 refused-by-one κs a r₁ r₂ e₁ e₂ p q = same p q
+
+pub page-ok-one : (κs : _) (a : _) (r₁ r₂ : _) (e₁ e₂ : _) → page-ok.Post κs a r₁ e₁ → page-ok.Post κs a r₂ e₂ → r₁ ≡ r₂
+page-ok-one κs a r₁ r₂ e₁ e₂ p q = same p q
 
 pub holds-one : (κs : _) (a : _) (r₁ r₂ : _) (e₁ e₂ : _) → holds.Post κs a r₁ e₁ → holds.Post κs a r₂ e₂ → r₁ ≡ r₂
 holds-one κs a r₁ r₂ e₁ e₂ p q = same p q

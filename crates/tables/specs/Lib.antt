@@ -3,3 +3,4 @@ pub mod Tables
 -- laws
 pub mod TablesLaws
 pub mod TableLengthLaws
+pub mod WrittenLaws

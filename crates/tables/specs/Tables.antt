@@ -11,23 +11,40 @@ use Rattle.layout.specs.Layout.{size, readAt}
 use Rattle.layout.specs.Rows.{rowsAt}
 use Rattle.codes.specs.Says.{Says, says, pick, guard}
 use Rattle.codes.specs.Answers.{saysRefusal}
-use Rattle.codes.specs.declared.answers.Refusal.the-variants.{TooMany, BadLength}
+use Rattle.codes.specs.declared.answers.Refusal.the-variants.{TooMany, BadLength, Short}
 use Rattle.records.specs.Records.{jackInfo, pcmInfo, channelMap, jackInfoOf, pcmInfoOf, channelMapOf}
 use Rattle.records.specs.declared.info.JackInfo.{JackInfo}
 use Rattle.records.specs.declared.info.PcmInfo.{PcmInfo}
 use Rattle.records.specs.declared.info.ChannelMap.{ChannelMap}
 use Rattle.tables.specs.declared.verdict.Verdict.{Verdict}
 use Rattle.tables.specs.declared.verdict.Verdict.the-variants.{Good, Status, Refused}
+use Rattle.tables.specs.declared.verdict.Written.{Written}
+use Rattle.tables.specs.declared.verdict.Written.the-variants.{InFull, Bytes}
+
+-- ---- "trust only what was written": each feed carries the length that the device wrote, or the page counts as written in full
+
+-- the first k bytes of a page were written
+abbrev pub covers : Written → ℕ → Bool
+covers InFull k = true
+covers (Bytes w) k = leb k w
+
+-- a page of 4,096 bytes, and no more bytes written than that
+abbrev pub pageOk : Written → List ℕ → Bool
+pageOk InFull page = eqb (length page) pageSize
+pageOk (Bytes w) page = eqb (length page) pageSize && leb w pageSize
 
 -- ---- the verdict: "The header is judged before the count."
 
--- a page of n records of so many bytes: 10 for its length, then its header, then 5 where the records do not fit
-unfoldable pub judged : List ℕ → ℕ → ℕ → Verdict
-judged page n bytes =
-    guard (eqb (length page) pageSize) (Refused BadLength)
+-- a page of n records of so many bytes: 10 for lengths, 11 where its header was not written, then the header, 5 where the records do not fit,
+-- and 11 where they were not all written
+unfoldable pub judged : Written → List ℕ → ℕ → ℕ → Verdict
+judged w page n bytes =
+    guard (pageOk w page) (Refused BadLength)
+    (guard (covers w 4) (Refused Short)
     (guard (eqb (numAt 0 4 page) 0x8000) (Status (numAt 0 4 page))
     (guard (leb (4 + n * bytes) pageSize) (Refused TooMany)
-    Good))
+    (guard (covers w (4 + n * bytes)) (Refused Short)
+    Good))))
 
 abbrev pub isGood : Verdict → Bool
 isGood Good = true

@@ -20,7 +20,7 @@ use Rattle.core.specs.Plan.{ownSet, beginOf, readTo, afterStreams, answerOf}
 use Rattle.core.specs.Reply.{messageAfter, saysReply, replyOf}
 use Rattle.exchange.specs.State.{newSound, withCore}
 use Rattle.exchange.specs.Exchange.{callOf, feedOf}
-use Rattle.worked.specs.Types.{Going, Done, Ended, Completed, Call, SetParams, Streams, StreamsAsked, Sound}
+use Rattle.worked.specs.Types.{InFull, Going, Done, Ended, Completed, Call, SetParams, Streams, StreamsAsked, Sound}
 
 -- a state of n streams whose set-up is done
 abbrev ready : ℕ → Sound
@@ -42,7 +42,7 @@ sets buffer period = SetParams 1 (askedParams buffer period 0 2 5 7)
 
 -- the bytes of a header and n records of streams, and what a page with an ok header and zeros answers to the query of n streams
 abbrev feeds : ℕ → ℕ × ℕ
-feeds n = (4 + n * size pcmInfo, saysReply (replyOf (feedOf (asking n) (0x00 ∷ 0x80 ∷ replicate 4094 0) 24 .say)) .number)
+feeds n = (4 + n * size pcmInfo, saysReply (replyOf (feedOf InFull (asking n) (0x00 ∷ 0x80 ∷ replicate 4094 0) 24 .say)) .number)
 
 pub examples :
     -- "set parameters, stream 1, buffer 8192, period 2048, features 0, 2 channels, S16, 48000:

@@ -33,7 +33,7 @@ use Rattle.exchange.specs.Tables.{lookOf, soundAfter}
 use Rattle.exchange.specs.Exchange.{listed, stepOf, callOf, feedOf}
 use Rattle.model.specs.Control.{laid, ok, keptBy, outcomeOf}
 use Rattle.model.specs.ModelLaws.{command-answer}
-use Rattle.worked.specs.Types.{Verdict, Good, Track, Params, Kind, Prepare, Release, Start, Stop, Call, SetParams, Idle, Sent, Core, Request, Nothing, Plan, Sound, Held, Device}
+use Rattle.worked.specs.Types.{InFull, Verdict, Good, Track, Params, Kind, Prepare, Release, Start, Stop, Call, SetParams, Idle, Sent, Core, Request, Nothing, Plan, Sound, Held, Device}
 use Rattle.worked.specs.Talk.{Talk, talkOf, opened, relay, Fitting, countsOf, Settled, Took}
 use Rattle.worked.specs.TalkLaws.{length-laid, asking, after, feeds, relays, good-page, calls}
 
@@ -65,10 +65,10 @@ module _ (s : Sound) (t : Track) (d : Device) (call : Call) (q : Request) (page 
   ok-whole : length (okPage page) ≡ 4096
   ok-whole = length-laid (le 4 0x8000) page (omega (arith, length-le 4 0x8000, o .lent .whole)) ∙ o .lent .whole
 
-  ok-good : judged (okPage page) 0 0 ≡ Good
+  ok-good : judged InFull (okPage page) 0 0 ≡ Good
   ok-good = good-page (drop (length (le 4 0x8000)) page) 0 0 ok-whole (omega arith)
 
-  ok-feed : feedOf (waiting s call) (okPage page) (length (laid (requestBytes q) m)) ≡ donePlan s call
+  ok-feed : feedOf InFull (waiting s call) (okPage page) (length (laid (requestBytes q) m)) ≡ donePlan s call
   unfolding afterSent guard
   ok-feed =
       feeds (waiting s call) (okPage page) (length (laid (requestBytes q) m)) ok-whole long (waiting-kept .consistent)
@@ -91,7 +91,7 @@ module _ (s : Sound) (t : Track) (d : Device) (call : Call) (q : Request) (page 
         let core : z .core ≡ c = after-core (effectOf call) c (waiting s call) (okPage page) in
         subst (λ (y : Talk). Settled (y .driver .sound) t (y .device) (y .page) (y .message)) (sym result)
         (record {
-          state = subst (λ (p : Plan). Kept (stepOf p (waiting s call) (okPage page) .sound)) ok-feed (feed-kept (waiting s call) (paged (okPage page) (length (laid (requestBytes q) m))) waiting-kept);
+          state = subst (λ (p : Plan). Kept (stepOf p (waiting s call) (okPage page) .sound)) ok-feed (feed-kept (waiting s call) (paged InFull (okPage page) (length (laid (requestBytes q) m))) waiting-kept);
           ready = ap (λ (x : Core). x .ready) core ∙ o .ready;
           closed = ap (λ (x : Core). x .stage) core;
           counts = ap (λ (x : Core). x .counts) core ∙ o .counts ∙ n;

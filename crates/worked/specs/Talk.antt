@@ -19,7 +19,7 @@ use Rattle.exchange.specs.Kept.{Kept}
 use Rattle.exchange.specs.Exchange.{stepOf, callOf, feedOf}
 use Rattle.model.specs.Device.{withinOf}
 use Rattle.model.specs.Control.{controlOf}
-use Rattle.worked.specs.Types.{Track, Call, Idle, Plan, Reply, Sound, Step, Device}
+use Rattle.worked.specs.Types.{InFull, Track, Call, Idle, Plan, Reply, Sound, Step, Device}
 
 -- where both stand: what the driver gave last (its state, its reply, its list of streams), the device, the answer page, and the message buffer
 pub record Talk : Type 0 where
@@ -41,7 +41,7 @@ abbrev pub fedWith : List ℕ → Talk → Talk
 fedWith request x =
     let s = x .driver .sound in
     let g = controlOf (x .device) request (x .page) in
-    talkOf (feedOf s (g .lent) (length (x .message))) s (g .lent) (g .answered .device) (g .lent) (x .message)
+    talkOf (feedOf InFull s (g .lent) (length (x .message))) s (g .lent) (g .answered .device) (g .lent) (x .message)
 
 -- ONE EXCHANGE: of a request of n bytes the first n of the message go to the device; after a result there is none. The page carries over
 abbrev pub relayBy : Reply → Talk → Talk

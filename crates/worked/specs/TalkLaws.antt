@@ -21,6 +21,7 @@ use Rattle.codes.specs.declared.requests.RequestCode.{RequestCode}
 use Rattle.records.specs.Records.{query}
 use Rattle.tables.specs.Tables.{judged, isGood, fits, filled}
 use Rattle.tables.specs.TablesLaws.{good-fits}
+use Rattle.tables.specs.WrittenLaws.{in-full}
 use Rattle.turns.specs.Calls.{idleOf}
 use Rattle.turns.specs.Consistent as ring
 use Rattle.core.specs.Consistent.{callOk, consistentOf}
@@ -35,7 +36,7 @@ use Rattle.exchange.specs.Exchange.{callOf, feedOf}
 use Rattle.model.specs.Device.{withinOf}
 use Rattle.model.specs.Control.{Outcome, Given, laid, rowsIn, outcomeOf, controlOf}
 use Rattle.model.specs.ModelLaws.{Answers, control-answers}
-use Rattle.worked.specs.Types.{Verdict, Good, Track, Call, Idle, Request, Plan, Sound, StreamList, Device}
+use Rattle.worked.specs.Types.{InFull, Verdict, Good, Track, Call, Idle, Request, Plan, Sound, StreamList, Device}
 use Rattle.worked.specs.Talk.{Talk, talkOf, fedWith, relay}
 
 -- bytes over the front of others
@@ -56,17 +57,17 @@ after p s d page m = talkOf p s page d page m
 
 -- a page of the right length, in a consistent state
 pub feeds : (s : Sound) (page : List ℕ) (n : ℕ) → length page ≡ 4096 → 24 ≤ n → consistentOf (s .core) ≡ true
-    → feedOf s page n ≡ answerBy (s .core .stage) (s .core) (verdictBy (s .core .stage) (s .core .counts) page) (pendingLook (s .core .stage) s)
+    → feedOf InFull s page n ≡ answerBy (s .core .stage) (s .core) (verdictBy InFull (s .core .stage) (s .core .counts) page) (pendingLook (s .core .stage) s)
 unfolding feedOf answerOf
 feeds s page n l m e =
     let long = both-of (eqb (length page) 4096) (leb 24 n) (eq-eqb _ _ l) (le-leb _ _ m) in
-    sym (passes _ _ _ long (passes _ _ _ (ap not (long-verdict s (paged page n) long .1)) (passes _ _ _ e refl)))
+    sym (passes _ _ _ long (passes _ _ _ (ap not (long-verdict s (paged InFull page n) long .1)) (passes _ _ _ e refl)))
 
 -- THE LAW OF AN EXCHANGE: the device answers with bytes b, and the driver goes on as it decides on the page that begins with them
 module _ (s : Sound) (q : Request) (l : StreamList) (d e : Device) (page m b : List ℕ) (w : withinOf (d .counts) ≡ true) (whole : length page ≡ 4096)
     (long : 24 ≤ length (laid (requestBytes q) m)) (out : outcomeOf (requestBytes q) d ≡ record { device = e; bytes = b }) (small : length b ≤ 4096) (ok : consistentOf (s .core) ≡ true) where
   pub relays : relay (asking s q l d page m)
-      ≡ after (answerBy (s .core .stage) (s .core) (verdictBy (s .core .stage) (s .core .counts) (laid b page)) (pendingLook (s .core .stage) s)) s e (laid b page) (laid (requestBytes q) m)
+      ≡ after (answerBy (s .core .stage) (s .core) (verdictBy InFull (s .core .stage) (s .core .counts) (laid b page)) (pendingLook (s .core .stage) s)) s e (laid b page) (laid (requestBytes q) m)
   unfolding relay
   relays =
       let r = requestBytes q in
@@ -75,7 +76,7 @@ module _ (s : Sound) (q : Request) (l : StreamList) (d e : Device) (page m b : L
       let device : controlOf d r page .answered .device ≡ e = ap (λ (g : Given). g .answered .device) a ∙ ap (λ (o : Outcome). o .device) out in
       let told : controlOf d r page .lent ≡ laid b page = ap (λ (g : Given). g .lent) a ∙ ap (λ (o : Outcome). laid (o .bytes) page) out in
       ap (λ (x : List ℕ). fedWith x (asking s q l d page m)) (take-append-seam r (drop (length r) m))
-      ∙ (λ i. after (feedOf s (told i) (length n)) s (device i) (told i) n)
+      ∙ (λ i. after (feedOf InFull s (told i) (length n)) s (device i) (told i) n)
       ∙ ap (λ (p : Plan). after p s e (laid b page) n) (feeds s (laid b page) (length n) (length-laid b page (rw whole small) ∙ whole) long ok)
 
 -- ---- a page that begins with a status: ok, and then anything
@@ -85,14 +86,13 @@ header r =
     ap (λ (k : List ℕ). getD k 0 0)
     (ap (λ (b : List ℕ). read (4 ∷ []) (b ++ r)) (sym (append-nil (le 4 0x8000))) ∙ read-write (4 ∷ []) (0x8000 ∷ []) r (lit< tt, tt))
 
-pub good-page : (r : List ℕ) (n size : ℕ) → length (le 4 0x8000 ++ r) ≡ 4096 → 4 + n * size ≤ 4096 → judged (le 4 0x8000 ++ r) n size ≡ Good
-unfolding judged
-good-page r n size l h = sym (passes _ _ _ (eq-eqb _ _ l) (passes _ _ _ (eq-eqb _ _ (header r)) (passes _ _ _ (le-leb _ _ h) refl)))
+pub good-page : (r : List ℕ) (n size : ℕ) → length (le 4 0x8000 ++ r) ≡ 4096 → 4 + n * size ≤ 4096 → judged InFull (le 4 0x8000 ++ r) n size ≡ Good
+good-page r n size l h = in-full (le 4 0x8000 ++ r) n size ∙ sym (passes _ _ _ (eq-eqb _ _ l) (passes _ _ _ (eq-eqb _ _ (header r)) (passes _ _ _ (le-leb _ _ h) refl)))
 
 -- a page that answers a query: it is whole and good, and n records are read from it
 pub record Told {A : Type 0} (f : ℕ → List ℕ → A) (size n : ℕ) (rows : List A) (page : List ℕ) : Type 0 where
   pub whole : length page ≡ 4096
-  pub good : judged page n size ≡ Good
+  pub good : judged InFull page n size ≡ Good
   pub same : (old : List A) → take n (pick (fits page n size) (filled f size page n old) old) ≡ take n rows
 
 -- THE LAW OF A QUERY, over the table: so is the page that the device answers in, and the records are those of the device
@@ -107,11 +107,11 @@ module _ {A : Type 0} {c : RequestCode} {ws : List ℕ} {values : A → List ℕ
   told-whole : length (laid bytes page) ≡ 4096
   told-whole = length-laid bytes page (omega (arith, small)) ∙ whole
 
-  told-good : judged (laid bytes page) n (size ws) ≡ Good
+  told-good : judged InFull (laid bytes page) n (size ws) ≡ Good
   told-good =
       let r = rowsBytes (λ (x : A). write ws (values x)) (take n (drop 0 rows)) in
       let e : laid bytes page ≡ le 4 0x8000 ++ (r ++ drop (length bytes) page) = append-assoc (le 4 0x8000) r (drop (length bytes) page) in
-      ap (λ (p : List ℕ). judged p n (size ws)) e ∙ good-page (r ++ drop (length bytes) page) n (size ws) (sym (ap length e) ∙ told-whole) (a .fits)
+      ap (λ (p : List ℕ). judged InFull p n (size ws)) e ∙ good-page (r ++ drop (length bytes) page) n (size ws) (sym (ap length e) ∙ told-whole) (a .fits)
 
   pub told : (z : A) → ((i : ℕ) → i < n → Fit ws (values (getD rows i z))) → Told (λ (o : ℕ) (s : List ℕ). of (readAt o ws s)) (size ws) n rows (laid bytes page)
   told z fit =
@@ -120,14 +120,14 @@ module _ {A : Type 0} {c : RequestCode} {ws : List ℕ} {values : A → List ℕ
         whole = told-whole;
         good = told-good;
         same = λ old.
-            ap (take n) (picks _ _ _ (good-fits (laid bytes page) n (size ws) (ap isGood told-good)))
+            ap (take n) (picks _ _ _ (good-fits InFull (laid bytes page) n (size ws) (ap isGood told-good)))
             ∙ take-at (rowsAt one (size ws) 4 n (laid bytes page)) (drop n old) n (length-rows one (size ws) 4 n (laid bytes page))
             ∙ a .back z (drop (length bytes) page) fit;
       }
 
   -- the exchange of a query, in a state that waits for its answer
   pub queried : (s : Sound) (l : StreamList) (m : List ℕ) → withinOf (d .counts) ≡ true → 24 ≤ length m → consistentOf (s .core) ≡ true
-      → ((p : List ℕ) → verdictBy (s .core .stage) (s .core .counts) p ≡ judged p n (size ws))
+      → ((p : List ℕ) → verdictBy InFull (s .core .stage) (s .core .counts) p ≡ judged InFull p n (size ws))
       → let q = queryOf (requestCode c) n (size ws) in
       relay (asking s q l d page m) ≡ after (answerBy (s .core .stage) (s .core) Good (pendingLook (s .core .stage) s)) s d (laid bytes page) (laid (requestBytes q) m)
   queried s l m w long ok asked =

@@ -2,6 +2,7 @@
 -- Assumes nothing.
 pub use Rattle.tables.specs.declared.verdict.Verdict.{Verdict}
 pub use Rattle.tables.specs.declared.verdict.Verdict.the-variants.{Good}
+pub use Rattle.tables.specs.declared.verdict.Written.the-variants.{InFull}
 pub use Rattle.turns.specs.declared.ring.Slot.{Slot}
 pub use Rattle.turns.specs.declared.ring.Track.{Track}
 pub use Rattle.turns.specs.declared.ring.Ring.{Ring}

@@ -51,6 +51,7 @@ fn name(r: Refusal) {
         Refusal::Busy => text(b"Busy"),
         Refusal::OutOfTurns => text(b"OutOfTurns"),
         Refusal::BadLength => text(b"BadLength"),
+        Refusal::Short => text(b"Short"),
     }
 }
 

@@ -19,6 +19,9 @@ device that is set up once: a page for each, and a closing line.
   --fail-at N        the device fails period N (the first is 1)
   --wrong-slot-at N  the device names a wrong slot at its completion N
   --budget N         turns allowed to an announcement (periods * G + 1)
+  --strict           read of each answer only what the device wrote
+  --short-jacks      the device answers the query of its jack by a header alone,
+                     in a page that holds an old jack; a remap is then asked for
   --accepted FILE    write the bytes that the device had accepted when the
                      transfer answered: compare FILE with the frames
   --log FILE         write one JSON object: the page's facts, every period

@@ -2,7 +2,7 @@
 use crate::account::{Gap, Part, Same};
 use crate::json::{self, Object};
 use crate::report::{Built, Report};
-use crate::told::{Fault, Period, What, When};
+use crate::told::{Control, Fault, Jacks, Period, What, When};
 
 /// The form of the log; a change that a reader would notice counts it up.
 const VERSION: u64 = 1;
@@ -34,6 +34,12 @@ fn before(to: &mut Object, report: &Report) {
     to.text("sha256", &recording.sha256);
     to.seconds("seconds", Some(report.seconds()));
     to.texts("warnings", &recording.warnings(options));
+    to.truth("strict", options.strict);
+    to.list("controls", &told.controls, control);
+    match &told.jacks {
+        Some(told) => to.object("jacks", |to| jacks(to, told)),
+        None => to.null("jacks"),
+    }
     match told.stream {
         Some(stream) => to.object("stream", |to| {
             to.number("number", stream.into());
@@ -51,6 +57,21 @@ fn before(to: &mut Object, report: &Report) {
     });
     let periods = recording.frames.len().div_ceil(options.period as usize);
     to.number("period_count", periods as u64);
+}
+
+fn control(to: &mut Object, control: &Control) {
+    to.number("code", control.code.into());
+    to.number("written", control.written as u64);
+}
+
+fn jacks(to: &mut Object, jacks: &Jacks) {
+    to.number("written", jacks.written as u64);
+    to.number("whole", jacks.whole as u64);
+    to.truth("remap_sent", jacks.sent);
+    to.object("remap_answer", |to| {
+        to.number("number", jacks.answer.number().into());
+        to.text("name", jacks.answer.name());
+    });
 }
 
 fn device(to: &mut Object, report: &Report) {

@@ -45,6 +45,10 @@ pub struct Options {
     pub fail_at: Option<u64>,
     pub wrong_slot_at: Option<u64>,
     pub budget: Option<u64>,
+    /// Feeds carry the length that the device wrote.
+    pub strict: bool,
+    /// The jack query is answered by its header alone.
+    pub short_jacks: bool,
     pub accepted: Option<PathBuf>,
     pub log: Option<PathBuf>,
     pub picture: Option<PathBuf>,
@@ -63,6 +67,8 @@ impl Options {
             fail_at: None,
             wrong_slot_at: None,
             budget: None,
+            strict: false,
+            short_jacks: false,
             accepted: None,
             log: None,
             picture: None,
@@ -100,7 +106,9 @@ pub fn parse(words: &[OsString]) -> Result<Asked, String> {
         let (name, value) = parted(word);
         match name {
             "--help" | "-h" if value.is_none() => return Ok(Asked::Help(HELP)),
-            "--help" | "-h" => return Err(format!("{name} takes no value")),
+            "--strict" if value.is_none() => options.strict = true,
+            "--short-jacks" if value.is_none() => options.short_jacks = true,
+            "--help" | "-h" | "--strict" | "--short-jacks" => return Err(format!("{name} takes no value")),
             "--" if value.is_none() => words.by_ref().try_for_each(|word| take_file(&mut options, word))?,
             name if name.len() > 1 && name.starts_with('-') => {
                 let value = || {

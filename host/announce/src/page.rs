@@ -2,7 +2,7 @@
 use crate::account::{Gap, Part, Same};
 use crate::options::Options;
 use crate::report::{Built, Report};
-use crate::told::Told;
+use crate::told::{Jacks, Told};
 use std::fmt::Write;
 
 /// The page: one fact a line, its name first.
@@ -54,6 +54,12 @@ fn before(lines: &mut Lines, report: &Report) {
     for warning in recording.warnings(options) {
         lines.line("warning", &warning);
     }
+    if options.strict {
+        lines.line("mode", "strict: of each answer only what the device wrote was read");
+    }
+    if let Some(told) = &report.told.jacks {
+        lines.line("jacks", &jacks(told));
+    }
     lines.line("stream", &stream(&report.told));
     lines.line("parameters", &parameters(options));
     lines.line("periods", &periods(bytes, options.period as usize));
@@ -104,6 +110,18 @@ fn after(lines: &mut Lines, report: &Report) {
 fn count(number: u64, thing: &str) -> String {
     let ending = if number == 1 { "" } else { "s" };
     format!("{number} {thing}{ending}")
+}
+
+/// The auditor's question: did the console act on what the device did not say?
+fn jacks(told: &Jacks) -> String {
+    let Jacks { written, whole, .. } = told;
+    let query = format!("the device wrote {written} of {whole} bytes to their query");
+    let (known, remap) = if told.sent {
+        ("1, left in the page from before", "was sent, and answered")
+    } else {
+        ("none", "was not sent")
+    };
+    format!("{known}: {query}; a remap of jack 0 {remap}: {}", told.answer)
 }
 
 fn stream(told: &Told) -> String {

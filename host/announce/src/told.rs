@@ -81,11 +81,33 @@ pub struct Period {
     pub payload: Option<Vec<u8>>,
 }
 
+/// A control request, by its code, and how many bytes the device wrote of its answer.
+#[derive(Clone, Copy, PartialEq, Eq, Debug)]
+pub struct Control {
+    pub code: u32,
+    pub written: usize,
+}
+
+/// A jack query that was answered by its header alone, and what came of a remap of jack 0.
+#[derive(Clone, Copy, PartialEq, Eq, Debug)]
+pub struct Jacks {
+    pub written: usize,
+    /// What the whole answer would have been.
+    pub whole: usize,
+    /// Whether the remap went out, and so a jack was known.
+    pub sent: bool,
+    pub answer: Answer,
+}
+
 /// The call that was refused, and with what.
 pub type Refused = (&'static str, Refusal);
 
 #[derive(Default)]
 pub struct Told {
+    /// Known where the device cuts its answer to the query of jacks.
+    pub jacks: Option<Jacks>,
+    /// In the order in which they were sent, since the announcement before.
+    pub controls: Vec<Control>,
     pub stream: Option<u32>,
     pub channels: ChannelRange,
     pub refused: Option<Refused>,

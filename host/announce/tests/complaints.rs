@@ -35,6 +35,8 @@ fn bad_options() {
     complaint("--loud=3", "unknown option --loud; see --help");
     complaint("-l", "unknown option -l; see --help");
     complaint("--help=3", "--help takes no value");
+    complaint("--strict=yes", "--strict takes no value");
+    complaint("--short-jacks=1", "--short-jacks takes no value");
     complaint("--slow", "--slow needs a value; see --help");
     complaint("--slow 0", "--slow takes a number from 1 to 1000000, not '0'");
     complaint("--slow=", "--slow takes a number from 1 to 1000000, not ''");

@@ -92,6 +92,44 @@ fn two_faults_and_a_drain() {
     assert_eq!(numbers(completed, ["turn", "status"]), [20, 0x8003]);
 }
 
+/// The codes of control requests with how many bytes were written to each.
+fn controls(announcement: &Json) -> Vec<[u64; 2]> {
+    let all = announcement.at("controls").list().iter();
+    all.map(|control| numbers(control, ["code", "written"])).collect()
+}
+
+/// The mode, the lengths, and what came of the jacks, of the first announcement; the second asks no query again.
+#[test]
+fn lengths_and_jacks() {
+    let folder = Folder::new("log-strict");
+    folder.write("a.raw", &frames(10));
+    let own = [0x0101, 0x0102, 0x0104, 0x0105, 0x0103].map(|code| [code, 4]);
+    let queries = |jacks| [[1, jacks], [0x0100, 68], [0x0200, 4]];
+    for (strict, remap, answer) in [(false, &[[2, 4]][..], (0, "Ok")), (true, &[], (4, "NoInfo"))] {
+        let words = if strict { "--strict" } else { "" };
+        let log = log(&folder, &format!("a.raw a.raw --short-jacks {words}"));
+        let [first, second] = log.at("announcements").list() else {
+            panic!("two announcements")
+        };
+        assert_eq!(first.at("strict"), &Json::Truth(strict));
+        assert_eq!(controls(first), [&queries(4)[..], remap, &own].concat());
+        assert_eq!(controls(second), own);
+        let jacks = first.at("jacks");
+        assert_eq!(
+            (jacks, numbers(jacks, ["written", "whole"])),
+            (second.at("jacks"), [4, 28])
+        );
+        assert_eq!(jacks.at("remap_sent"), &Json::Truth(!strict));
+        let said = jacks.at("remap_answer");
+        assert_eq!((said.at("number").number(), said.at("name").text()), answer);
+    }
+    let log = log(&folder, "a.raw");
+    let announcement = &log.at("announcements").list()[0];
+    assert_eq!(announcement.at("strict"), &Json::Truth(false));
+    assert_eq!(announcement.at("jacks"), &Json::Null);
+    assert_eq!(controls(announcement), [&queries(4)[..], &own].concat());
+}
+
 /// Strings are escaped: the name comes back as the page has it.
 #[test]
 fn several_and_odd_names() {

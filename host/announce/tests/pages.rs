@@ -97,6 +97,25 @@ fn a_small_budget() {
     page("budget-enough", "--budget 1000", 0);
 }
 
+/// Nothing else of the page is another: the model device writes its answers whole.
+#[test]
+fn strict_mode() {
+    page("strict", "--strict", 0);
+    let mode = "mode         strict: of each answer only what the device wrote was read\n";
+    let stored = |name: &str| std::fs::read_to_string(format!("{}/tests/pages/{name}", env!("CARGO_MANIFEST_DIR")));
+    let strict = stored("strict").unwrap();
+    assert!(strict.contains(mode));
+    assert_eq!(strict.replace(mode, ""), stored("good").unwrap());
+}
+
+/// The customer's story: a jack query that returns its header alone, and an old jack in the page. Read whole, the old jack is used; in strict mode there
+/// is none.
+#[test]
+fn a_jack_query_of_its_header_alone() {
+    page("short-jacks", "--short-jacks --seconds 1", 0);
+    page("short-jacks-strict", "--short-jacks --strict --seconds 1", 0);
+}
+
 #[test]
 fn other_parameters() {
     page(

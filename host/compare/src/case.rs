@@ -10,6 +10,8 @@ pub struct Case {
     pub tokens: Tokens,
     /// the seed of a model device's tables, each as long as configured
     pub model: Option<u64>,
+    /// each feed carries the length that the device wrote
+    pub strict: bool,
     pub steps: Vec<Step>,
 }
 
@@ -54,8 +56,9 @@ impl Frames {
 /// What the device makes of a control request.
 #[derive(Clone, Debug, PartialEq, Eq)]
 pub enum Answer {
-    /// it writes the first `wrote` bytes of a status and a body; the rest of the page stays as it was
-    Wrote { status: u32, body: Body, wrote: u16 },
+    /// it writes the first `wrote` bytes of a status and a body; the rest of the page stays as it was. More than a page is what the queue
+    /// says, and a page is written
+    Wrote { status: u32, body: Body, wrote: u64 },
     /// the queue reports failure
     Failed,
     /// the model device answers

@@ -17,6 +17,8 @@ pub struct Seen {
     pub requests: Vec<Vec<u8>>,
     /// the status in the page after each answer, none for the queue's failure
     pub heard: Vec<Option<u32>>,
+    /// whether each strict feed's length covers what is read of its answer
+    pub covered: bool,
     /// answers that nobody asked for
     pub unread: usize,
     pub turns: u64,
@@ -32,7 +34,20 @@ pub struct Seen {
 impl Seen {
     pub fn new(end: End, values: Vec<u64>) -> Self {
         let (requests, heard, log, sent, in_flight, stray) = Default::default();
-        Seen { end, values, requests, heard, unread: 0, turns: 0, log, sent, in_flight, model: None, stray }
+        Seen {
+            end,
+            values,
+            requests,
+            heard,
+            covered: true,
+            unread: 0,
+            turns: 0,
+            log,
+            sent,
+            in_flight,
+            model: None,
+            stray,
+        }
     }
 }
 

@@ -30,6 +30,7 @@ pub trait Entries {
     fn count(&self, which: usize, result: &mut [u8]) -> u64;
     fn call(&mut self, call: Call, message: &mut [u8], result: &mut [u8]) -> u64;
     fn feed(&mut self, page: &[u8], message: &mut [u8], result: &mut [u8]) -> u64;
+    fn feed_written(&mut self, page: &[u8], written: u64, message: &mut [u8], result: &mut [u8]) -> u64;
     fn feed_failure(&mut self, message: &mut [u8], result: &mut [u8]) -> u64;
     fn xfer_start(&mut self, stream: u32, frames: &[u8], budget: u64, message: &mut [u8]) -> u64;
     fn offered(&self, frames: &[u8], result: &mut [u8]) -> u64;

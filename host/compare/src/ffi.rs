@@ -160,6 +160,17 @@ unsafe extern "C" {
         result: *mut u8,
         result_len: usize,
     ) -> u64;
+    pub fn snd_feed_written(
+        state: *mut u8,
+        state_len: usize,
+        page: *const u8,
+        page_len: usize,
+        written: u64,
+        message: *mut u8,
+        message_len: usize,
+        result: *mut u8,
+        result_len: usize,
+    ) -> u64;
     pub fn snd_feed_failure(
         state: *mut u8,
         state_len: usize,

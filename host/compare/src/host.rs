@@ -7,7 +7,7 @@ use oracle::{Control, End, Inside};
 use rules::entries::{Asked, GOING, NOTHING, RESULT_SIZE, SEND};
 use rules::sound::Call;
 use rules::wire::{u32_at, u64_at};
-use rules::{MESSAGE, PAGE};
+use rules::{BAD_LENGTH, MESSAGE, PAGE, SHORT};
 
 /// What lent buffers hold before a call, and bytes lent beyond what is asked for.
 const FILL: u8 = 0xc3;
@@ -17,6 +17,7 @@ pub struct Host<E> {
     pub entries: E,
     page: Vec<u8>,
     model: bool,
+    strict: bool,
     stray: Vec<String>,
 }
 
@@ -52,7 +53,7 @@ fn value(call: Option<Call>, result: &[u8]) -> (usize, Vec<u64>) {
 
 /// An answer's number as the way a call ended.
 fn end(number: u64) -> End {
-    if number <= 10 { End::Number(number as u8) } else { End::Panic(format!("answers {number}")) }
+    if number <= u64::from(SHORT) { End::Number(number as u8) } else { End::Panic(format!("answers {number}")) }
 }
 
 impl<E: Entries> Device for E {
@@ -78,7 +79,8 @@ impl<E: Entries> Host<E> {
             let tables = model_tables(case.counts, seed).map(|rows| rows.concat());
             assert_eq!(entries.model_new([&tables[0], &tables[1], &tables[2]]), 0, "good tables are taken");
         }
-        Host { entries, page: vec![0; PAGE], model: case.model.is_some(), stray: vec![] }
+        let (page, model) = (vec![0; PAGE], case.model.is_some());
+        Host { entries, page, model, strict: case.strict, stray: vec![] }
     }
 
     fn note(&mut self, fine: bool, what: &str) {
@@ -93,16 +95,38 @@ impl<E: Entries> Host<E> {
             let (request, rest) = lent.message.split_at((number - SEND).min(MESSAGE as u64) as usize);
             self.note(number <= SEND + MESSAGE as u64 && untouched(rest), "message written beyond the request");
             self.note(untouched(&lent.result), "result written with a request");
+            let request = request.to_vec();
             let device = self.model.then_some(&mut self.entries as &mut dyn Device);
-            let control = script.control(request, &mut self.page, device);
-            lent = Slices::new();
-            number = match control {
-                Control::NoAnswer => return None,
-                Control::Answered => self.entries.feed(&self.page, &mut lent.message, &mut lent.result),
-                Control::Failed => self.entries.feed_failure(&mut lent.message, &mut lent.result),
-            };
+            let mut control = script.control(&request, &mut self.page, device);
+            loop {
+                (number, lent) = self.feed(control, &request, script)?;
+                // a length that no page has: the exchange stays open, and the next answer is to the same request
+                if number != u64::from(BAD_LENGTH) {
+                    break;
+                }
+                let kept = untouched(&lent.message) && untouched(&lent.result);
+                self.note(kept, "message or result written with a bad length");
+                let device = self.model.then_some(&mut self.entries as &mut dyn Device);
+                control = script.answer(&request, &mut self.page, device);
+            }
         }
         self.note(untouched(&lent.message), "message written with a result");
+        Some((number, lent))
+    }
+
+    /// Feeds what came back. None where nothing did.
+    fn feed(&mut self, control: Control, request: &[u8], script: &mut Scripted) -> Option<(u64, Slices)> {
+        let mut lent = Slices::new();
+        let (message, result) = (&mut lent.message[..], &mut lent.result[..]);
+        let number = match control {
+            Control::NoAnswer => return None,
+            Control::Failed => self.entries.feed_failure(message, result),
+            Control::Answered if self.strict => {
+                script.feeds(request, &self.page);
+                self.entries.feed_written(&self.page, script.wrote, message, result)
+            }
+            Control::Answered => self.entries.feed(&self.page, message, result),
+        };
         Some((number, lent))
     }
 

@@ -14,6 +14,7 @@ use std::time::Instant;
 
 /// Random cases and sequences of entries that the gate runs.
 const CASES: Seeds = 1..=60_000;
+const STRICT: Seeds = 1..=10_000;
 const ENTRIES: Seeds = 1..=8_000;
 /// Entries in one sequence.
 const LENGTH: usize = 60;
@@ -37,8 +38,9 @@ fn main() {
         Run::Case(case) => finish(one(&case, with)),
         Run::Short => finish(short_cases(with)),
         Run::Differences => finish(shown::print() == 0),
-        Run::Random { cases, entries } => {
+        Run::Random { cases, strict, entries } => {
             let agreed = cases.is_none_or(|seeds| random_cases(with, seeds));
+            let agreed = agreed && strict.is_none_or(|seeds| strict_cases(with, seeds));
             finish(agreed && entries.is_none_or(random_entries))
         }
         Run::Gate { short } => finish(gate(with, short)),
@@ -58,7 +60,7 @@ fn finish(agreed: bool) -> ! {
 
 fn gate(with: With, short: bool) -> bool {
     let short = !short || short_cases(with);
-    let random = random_cases(with, CASES);
+    let random = random_cases(with, CASES) && strict_cases(with, STRICT);
     let entries = !with.port || entries_by_stage() && random_entries(ENTRIES);
     let recorded = !with.port || replay(RECORDED);
     short && random && entries && recorded
@@ -86,7 +88,7 @@ fn agrees(case: &Case, with: With, counts: &mut Counts) -> bool {
 
 fn short_cases(with: With) -> bool {
     let (mut counts, since, mut agreed) = (Counts::default(), Instant::now(), true);
-    for (_, group) in short::GROUPS {
+    for (_, group) in short::GROUPS.into_iter().chain(short::STRICT) {
         group(&mut |case| agreed = agreed && agrees(&case, with, &mut counts));
     }
     told("short cases", &counts, since);
@@ -104,14 +106,23 @@ fn masks() -> bool {
 }
 
 fn random_cases(with: With, seeds: Seeds) -> bool {
+    from_seeds("cases", compare::random::case, with, seeds)
+}
+
+fn strict_cases(with: With, seeds: Seeds) -> bool {
+    from_seeds("strict", compare::random::strict, with, seeds)
+}
+
+fn from_seeds(option: &str, made: fn(u64) -> Case, with: With, seeds: Seeds) -> bool {
     let (mut counts, since, first) = (Counts::default(), Instant::now(), *seeds.start());
     for seed in seeds {
-        if !agrees(&compare::random::case(seed), with, &mut counts) {
-            println!("repeat with --cases 1 --seed {seed}");
+        if !agrees(&made(seed), with, &mut counts) {
+            println!("repeat with --{option} 1 --seed {seed}");
             return false;
         }
     }
-    told(&format!("random cases from seed {first}"), &counts, since);
+    let name = if option == "strict" { "random cases in strict mode" } else { "random cases" };
+    told(&format!("{name} from seed {first}"), &counts, since);
     true
 }
 

@@ -7,6 +7,7 @@ use std::ops::RangeInclusive;
 pub const USAGE: &str = "\
 compare                      short cases, random cases, single entries, the recorded list (the gate)
 compare --cases N --seed S   N random cases from seed S; case i has seed S + i, so that `--cases 1 --seed S+i` repeats it
+compare --strict N --seed S  the same in strict mode
 compare --short              the short cases alone
 compare --entries N --seed S N sequences of single entries, the port against the rules
 compare --case TEXT          one case (src/text.rs)
@@ -20,9 +21,10 @@ pub enum Run {
         short: bool,
     },
     Short,
-    /// random cases and sequences of entries, by their seeds
+    /// random cases, those of strict mode, and sequences of entries, by their seeds
     Random {
         cases: Option<Seeds>,
+        strict: Option<Seeds>,
         entries: Option<Seeds>,
     },
     Case(Case),
@@ -40,10 +42,11 @@ pub struct Options {
 }
 
 const WORDS: [&str; 5] = ["--short", "--differences", "--no-port", "--no-rust", "--no-short"];
-const WITH_VALUE: [&str; 7] = ["--cases", "--entries", "--seed", "--case", "--record", "--check", "--replay"];
-/// Of these one at a time, but that cases and entries go together.
-const RUNS: [&str; 8] =
-    ["--short", "--differences", "--cases", "--entries", "--case", "--record", "--check", "--replay"];
+const WITH_VALUE: [&str; 8] =
+    ["--cases", "--strict", "--entries", "--seed", "--case", "--record", "--check", "--replay"];
+/// These go together; of all others one at a time.
+const SEEDED: [&str; 3] = ["--cases", "--strict", "--entries"];
+const OTHERS: [&str; 6] = ["--short", "--differences", "--case", "--record", "--check", "--replay"];
 
 /// The options given, each with its value, if it takes one.
 struct Given(Vec<(String, String)>);
@@ -92,10 +95,10 @@ impl Given {
     }
 
     fn run(&self) -> Result<Run, String> {
-        let runs: Vec<&str> = RUNS.into_iter().filter(|name| self.has(name)).collect();
+        let runs: Vec<&str> = OTHERS.into_iter().chain(SEEDED).filter(|name| self.has(name)).collect();
         let file = |name| self.value(name).unwrap_or_default().to_string();
-        if self.has("--seed") && !self.has("--cases") && !self.has("--entries") {
-            return Err("--seed goes with --cases or --entries".into());
+        if self.has("--seed") && !SEEDED.iter().any(|name| self.has(name)) {
+            return Err("--seed goes with --cases, --strict or --entries".into());
         }
         Ok(match runs[..] {
             [] => Run::Gate { short: !self.has("--no-short") },
@@ -105,9 +108,11 @@ impl Given {
             ["--record"] => Run::Record(file("--record")),
             ["--check"] => Run::Check(file("--check")),
             ["--replay"] => Run::Replay(file("--replay")),
-            ["--cases"] | ["--entries"] | ["--cases", "--entries"] => {
-                Run::Random { cases: self.seeds("--cases")?, entries: self.seeds("--entries")? }
-            }
+            ref runs if runs.iter().all(|name| SEEDED.contains(name)) => Run::Random {
+                cases: self.seeds("--cases")?,
+                strict: self.seeds("--strict")?,
+                entries: self.seeds("--entries")?,
+            },
             _ => return Err(format!("{}: one of these at a time", runs.join(", "))),
         })
     }

@@ -2,7 +2,8 @@
 use crate::case::{Answer, Reading, Step};
 use crate::driver::{DIGEST, Seen, Sent, Turn, digest};
 use oracle::Control;
-use rules::wire::u32_at;
+use rules::PAGE;
+use rules::wire::{QUERIES, STATUS_OK, u32_at};
 use std::collections::VecDeque;
 use std::rc::Rc;
 
@@ -24,6 +25,9 @@ pub struct Scripted {
     pub event: Option<Vec<u8>>,
     requests: Vec<Vec<u8>>,
     heard: Vec<Option<u32>>,
+    /// what the queue says was written of the last answer
+    pub wrote: u64,
+    covered: bool,
     log: Vec<Turn>,
     sent: Vec<Sent>,
 }
@@ -39,6 +43,8 @@ impl Scripted {
             event: None,
             requests: vec![],
             heard: vec![],
+            wrote: 0,
+            covered: true,
             log: vec![],
             sent: vec![],
         };
@@ -57,6 +63,11 @@ impl Scripted {
 
     pub fn control(&mut self, request: &[u8], page: &mut [u8], device: Option<&mut dyn Device>) -> Control {
         self.requests.push(request.to_vec());
+        self.answer(request, page, device)
+    }
+
+    /// The next answer, to a request that was noted already.
+    pub fn answer(&mut self, request: &[u8], page: &mut [u8], device: Option<&mut dyn Device>) -> Control {
         let Some(answer) = self.answers.pop_front() else {
             return Control::NoAnswer;
         };
@@ -67,14 +78,24 @@ impl Scripted {
             }
             Answer::Wrote { status, body, wrote } => {
                 let mut bytes = [&status.to_le_bytes()[..], &body.bytes()].concat();
-                bytes.truncate(wrote as usize);
+                bytes.truncate(wrote.min(PAGE as u64) as usize);
+                self.wrote = wrote;
                 bytes
             }
-            Answer::Model => device.expect("the case has a model").control(request),
+            Answer::Model => {
+                let bytes = device.expect("the case has a model").control(request);
+                self.wrote = bytes.len() as u64;
+                bytes
+            }
         };
         page[..bytes.len()].copy_from_slice(&bytes);
         self.heard.push(Some(u32_at(page, 0)));
         Control::Answered
+    }
+
+    /// Notes whether the length of a strict feed covers what is read of the page: the header, and the records of a table that is there.
+    pub fn feeds(&mut self, request: &[u8], page: &[u8]) {
+        self.covered &= (read_of(request, page)..=PAGE as u64).contains(&self.wrote);
     }
 
     pub fn turn(&mut self, free: usize) -> bool {
@@ -119,10 +140,21 @@ impl Scripted {
     pub fn tell(&mut self, seen: &mut Seen) {
         seen.requests = std::mem::take(&mut self.requests);
         seen.heard = std::mem::take(&mut self.heard);
+        seen.covered = self.covered;
         seen.unread = self.answers.len();
         seen.log = std::mem::take(&mut self.log);
         seen.sent = std::mem::take(&mut self.sent);
     }
+}
+
+/// How many bytes of an answer are read: the header, and after an ok the records of a query, if a page holds them.
+fn read_of(request: &[u8], page: &[u8]) -> u64 {
+    const HEADER: u64 = 4;
+    if !QUERIES.contains(&u32_at(request, 0)) || u32_at(page, 0) != STATUS_OK {
+        return HEADER;
+    }
+    let whole = HEADER + u64::from(u32_at(request, 8)) * u64::from(u32_at(request, 12));
+    if whole > PAGE as u64 { HEADER } else { whole }
 }
 
 /// A reading, given the slots in flight; the device's own is told elsewhere.

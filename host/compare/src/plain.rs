@@ -71,6 +71,9 @@ impl Entries for Plain {
     fn feed(&mut self, page: &[u8], message: &mut [u8], result: &mut [u8]) -> u64 {
         number(e::feed(self.state().0, Fed::Page(page), message, result))
     }
+    fn feed_written(&mut self, page: &[u8], written: u64, message: &mut [u8], result: &mut [u8]) -> u64 {
+        number(e::feed_written(self.state().0, page, written, message, result))
+    }
     fn feed_failure(&mut self, message: &mut [u8], result: &mut [u8]) -> u64 {
         number(e::feed(self.state().0, Fed::Failure, message, result))
     }

@@ -117,6 +117,11 @@ impl Entries for Port {
         let ((m, mn), (o, on)) = (lend!(mut message), lend!(mut result));
         unsafe { snd_feed(s, sn, p, pn, m, mn, o, on) }
     }
+    fn feed_written(&mut self, page: &[u8], written: u64, message: &mut [u8], result: &mut [u8]) -> u64 {
+        let ((s, sn), (p, pn)) = (lend!(mut self.state[LEAD..][..self.lent.state]), lend!(page));
+        let ((m, mn), (o, on)) = (lend!(mut message), lend!(mut result));
+        unsafe { snd_feed_written(s, sn, p, pn, written, m, mn, o, on) }
+    }
     fn feed_failure(&mut self, message: &mut [u8], result: &mut [u8]) -> u64 {
         let (s, sn) = lend!(mut self.state[LEAD..][..self.lent.state]);
         let ((m, mn), (o, on)) = (lend!(mut message), lend!(mut result));

@@ -27,6 +27,7 @@ pub enum What {
     Count(usize),
     Call(Call),
     Feed { status: u32, body: Body, len: usize },
+    FeedWritten { status: u32, body: Body, len: usize, written: u64 },
     FeedFailure,
     Start { stream: u32, frames: u32, budget: u64 },
     Offered { frames: u32 },
@@ -74,6 +75,7 @@ fn enter<E: Entries>(e: &mut E, op: &Op) -> Left {
         What::Count(which) => e.count(*which, o),
         What::Call(call) => e.call(*call, m, o),
         What::Feed { status, body, len } => e.feed(&page(*status, body, *len), m, o),
+        What::FeedWritten { status, body, len, written } => e.feed_written(&page(*status, body, *len), *written, m, o),
         What::FeedFailure => e.feed_failure(m, o),
         What::Start { stream, frames: len, budget } => e.xfer_start(*stream, &frames(*len), *budget, m),
         What::Offered { frames: len } => e.offered(&frames(*len), o),
@@ -105,7 +107,7 @@ fn keeps(what: &What, number: u64, left: &Left, open: bool) -> bool {
     match what {
         What::New(_) | What::RingNew | What::ModelNew(_) => number != 0,
         What::Call(_) => number < 256 && number != 0,
-        What::Feed { .. } | What::FeedFailure => number == 10 || (number == 1 && !open),
+        What::Feed { .. } | What::FeedWritten { .. } | What::FeedFailure => number == 10 || (number == 1 && !open),
         What::Start { .. } => number < 256,
         What::Turn { .. } => number == 1 || number == 10,
         What::Drain { kind, .. } => number != 0 || *kind == 0,
@@ -119,7 +121,9 @@ fn keeps(what: &What, number: u64, left: &Left, open: bool) -> bool {
 /// Which stores an entry may write at all: state, ring, model.
 fn writes(what: &What) -> [bool; 3] {
     match what {
-        What::New(_) | What::Call(_) | What::Feed { .. } | What::FeedFailure => [true, false, false],
+        What::New(_) | What::Call(_) | What::Feed { .. } | What::FeedWritten { .. } | What::FeedFailure => {
+            [true, false, false]
+        }
         What::RingNew | What::Turn { .. } | What::Drain { .. } => [false, true, false],
         What::Start { .. } => [true, true, false],
         What::ModelNew(_) | What::ModelControl { .. } | What::ModelTransfer { .. } => [false, false, true],
@@ -304,7 +308,18 @@ fn feed(rng: &mut Rng, guide: &Plain) -> What {
         _ => 3,
     };
     let status = if rng.one_in(8) { rng.pick(&STATUSES) } else { wire::STATUS_OK };
-    What::Feed { status, body: Body::of(kinds[at], rng.below(1 << 16)), len: length(rng, PAGE, 20) }
+    let (body, len) = (Body::of(kinds[at], rng.below(1 << 16)), length(rng, PAGE, 20));
+    if rng.one_in(2) {
+        return What::Feed { status, body, len };
+    }
+    let rows = guide.sound.counts.get(at).copied().unwrap_or_default();
+    let whole = 4 + u64::from(rows) * wire::SIZES.get(at).copied().unwrap_or_default() as u64;
+    let written = match rng.below(6) {
+        0 => rng.pick(&[0, 3, 4, whole - 1, whole + 1, 4095, 4097, (1 << 32) + 4, u64::MAX]),
+        1 | 2 => whole,
+        _ => 4096,
+    };
+    What::FeedWritten { status, body, len, written }
 }
 
 fn start(rng: &mut Rng, guide: &Plain) -> What {
@@ -431,7 +446,7 @@ fn on_any_bytes(port: &mut Port, op: &Op) -> Result<(), String> {
     let left = enter(port, op);
     let mut again = before.clone();
     let twice = enter(&mut again, op);
-    let known = matches!(left.number, 0..=10 | 512 | 513) || (257..=256 + MESSAGE as u64).contains(&left.number);
+    let known = matches!(left.number, 0..=11 | 512 | 513) || (257..=256 + MESSAGE as u64).contains(&left.number);
     if !known {
         return Err(format!("{op:?}\n  port answers {}", left.number));
     }

@@ -82,8 +82,11 @@ impl Trial {
 
     fn hold_rust(&mut self, case: &Case, step: &Step, rules: &Seen, counts: &mut Counts) -> Result<(), String> {
         let Some(rust) = &mut self.rust else { return Ok(()) };
-        if let Some(why) = out_of_domain(step, rust.owes()) {
+        if let Some(why) = out_of_domain(step, rules, rust.owes()) {
             *counts.outside.entry(why).or_default() += 1;
+            if !why.in_step() {
+                self.rust = None;
+            }
             return Ok(());
         }
         let Some(seen) = rust.step(step) else { return Ok(()) };

@@ -1,5 +1,5 @@
 //! Short inputs, all of them: every format and rate number, every status class at every place, every count and length around each
-//! boundary, every pair of calls on a small device, every short script.
+//! boundary, every pair of calls on a small device, every short script. Then the same and more in strict mode.
 use crate::case::{Answer, Body, Case, Frames, Kind, Reading, Step};
 use crate::random::STATUSES;
 use oracle::Tokens;
@@ -7,9 +7,11 @@ use rules::sound::{Call, Params};
 use rules::wire;
 
 pub type Sink<'a> = &'a mut dyn FnMut(Case);
+/// A group of cases, by name.
+pub type Group = (&'static str, fn(Sink));
 
 fn device(counts: [u32; 3], steps: Vec<Step>) -> Case {
-    Case { counts, tokens: Tokens::Descriptors, model: None, steps }
+    Case { counts, tokens: Tokens::Descriptors, model: None, strict: false, steps }
 }
 
 fn control(call: Call, answers: Vec<Answer>) -> Step {
@@ -264,7 +266,7 @@ pub fn drains(sink: Sink) {
 
 /// The model device: every code near the known ones, every length, ranges around its tables.
 pub fn model(sink: Sink) {
-    let case = |steps| Case { counts: [3, 2, 2], tokens: Tokens::Slots, model: Some(11), steps };
+    let case = |steps| Case { counts: [3, 2, 2], tokens: Tokens::Slots, model: Some(11), strict: false, steps };
     let codes = (0..=5).chain(0xfe..=0x108).chain(0x1fe..=0x203).chain([0x8000, 0x1000, u32::MAX, 0x0100_0001]);
     for code in codes {
         let mut steps = vec![];
@@ -314,13 +316,105 @@ pub fn announcements(sink: Sink) {
         steps.extend([command(wire::RELEASE), call(Call::OutputStreams), call(Call::InputStreams)]);
         steps.extend([call(Call::Rates(1)), call(Call::Remap { jack: 0, association: 1, sequence: 2 })]);
         steps.push(Step::ModelTransfer(wire::words(&[1])));
-        sink(Case { counts: [2, 3, 1], tokens: Tokens::Descriptors, model: Some(seed), steps });
+        sink(Case { counts: [2, 3, 1], tokens: Tokens::Descriptors, model: Some(seed), strict: false, steps });
     }
 }
 
-/// Every group, by name.
-#[allow(clippy::type_complexity)]
-pub const GROUPS: [(&str, fn(Sink)); 13] = [
+/// The cases of a group, fed in strict mode.
+fn in_strict_mode(group: fn(Sink), sink: Sink) {
+    group(&mut |case| sink(Case { strict: true, ..case }));
+}
+
+/// Pages written whole: all is as before.
+pub fn as_before(sink: Sink) {
+    in_strict_mode(statuses, sink);
+    in_strict_mode(counts, sink);
+}
+
+/// Old records in the page, and lengths that do and do not cover them.
+pub fn strict_stale(sink: Sink) {
+    in_strict_mode(stale, sink);
+}
+
+/// Lengths around the header, around the records, around a page, and such as would seem good with fewer bits.
+fn lengths_around(whole: u64) -> Vec<u64> {
+    let mut all = vec![0, 3, 4, whole.saturating_sub(1), whole, whole + 1, 4095, 4096];
+    all.extend([4097, (1 << 16) + 4, (1 << 32) + 4, (1 << 32) + whole, u64::MAX]);
+    all
+}
+
+const BOTH: [u32; 2] = [wire::STATUS_OK, wire::STATUS_BAD];
+const REMAP: Call = Call::Remap { jack: 0, association: 1, sequence: 2 };
+
+/// Good tables, and jack 0 can be remapped.
+fn remappable() -> Vec<Answer> {
+    let body = Body { damage: vec![(4, 1)], ..Body::of(Kind::Jacks, 3) };
+    let mut all = tables();
+    all[0] = Answer::Wrote { status: wire::STATUS_OK, body, wrote: 4096 };
+    all
+}
+
+/// At each table, with counts up to and past what a page holds, ok and not, and at own requests: each length.
+pub fn boundaries(sink: Sink) {
+    for table in 0..3 {
+        let fit = rules::FIT[table];
+        for count in [0, 1, 2, fit, fit + 1] {
+            let mut counts = [1, 1, 1];
+            counts[table] = count;
+            for wrote in lengths_around(4 + u64::from(count) * wire::SIZES[table] as u64) {
+                for status in BOTH {
+                    sink(Case { strict: true, ..device(counts, table_cut(table, status, wrote)) });
+                }
+            }
+        }
+    }
+    let start = Call::Command { code: wire::START, stream: 0 };
+    for call in [Call::SetParams { stream: 0, params: params(8, 2) }, REMAP, start] {
+        for wrote in lengths_around(24) {
+            for status in BOTH {
+                sink(Case { strict: true, ..device([1, 1, 0], own_cut(call, status, wrote)) });
+            }
+        }
+    }
+}
+
+/// The page is filled with a jack, and set-up fails at the streams. Then one table's answer is cut; a right one follows, for a length that is refused.
+/// Then calls show what was made of it.
+fn table_cut(table: usize, status: u32, wrote: u64) -> Vec<Step> {
+    let header = Answer::Wrote { status: wire::STATUS_BAD, body: Body::ZERO, wrote: 4 };
+    let filled = vec![remappable()[0].clone(), header];
+    let mut answers = remappable();
+    answers.insert(table, Answer::Wrote { status, body: Body::of(Kind::Streams, 5), wrote });
+    vec![
+        control(Call::OutputStreams, filled),
+        control(REMAP, answers),
+        control(REMAP, remappable()),
+        control(Call::Features(0), tables()),
+    ]
+}
+
+/// A call's own answer is cut, after a good set-up with other parameters: the transfer shows whose period counts.
+fn own_cut(call: Call, status: u32, wrote: u64) -> Vec<Step> {
+    let old = Call::SetParams { stream: 0, params: params(4, 4) };
+    let cut = Answer::Wrote { status, body: Body::ZERO, wrote };
+    vec![control(old, remappable()), control(call, vec![cut, Answer::ok()]), transfer(7, 3, vec![])]
+}
+
+/// The model device's own lengths.
+pub fn own_lengths(sink: Sink) {
+    in_strict_mode(announcements, sink);
+}
+
+/// Every group of strict mode.
+pub const STRICT: [Group; 4] = [
+    ("strict, as before", as_before),
+    ("strict, stale pages", strict_stale),
+    ("strict, boundaries", boundaries),
+    ("strict, announcements", own_lengths),
+];
+
+/// Every other group.
+pub const GROUPS: [Group; 13] = [
     ("numbers", numbers),
     ("periods", periods),
     ("statuses", statuses),

@@ -11,7 +11,7 @@ use crate::text::{case_of, step_text};
 
 /// A name, the case, and the entry of the closed list that its last step shows (none: the step is outside the domain, or the
 /// difference is in how the number is come by).
-pub const ROWS: [(&str, &str, Option<Intended>); 25] = [
+pub const ROWS: [(&str, &str, Option<Intended>); 26] = [
     ("too many jacks", "171 0 0 slots | outputs < 8000", Some(Intended::TooMany)),
     ("too many streams", "0 128 0 slots | outputs < 8000 8000", Some(Intended::TooMany)),
     ("too many maps", "0 0 171 slots | outputs < 8000 8000 8000", Some(Intended::TooMany)),
@@ -79,6 +79,11 @@ pub const ROWS: [(&str, &str, Option<Intended>); 25] = [
     (
         "a transfer, one of ten owed completes",
         "0 1 0 descriptors | set 0 1 1 0 0 0 0 < 8000 8000 8000 8000 ; xfer 0 10.0 10 ; xfer 0 1.0 1 s32",
+        None,
+    ),
+    (
+        "strict, a jack query of its header alone",
+        "1 0 0 slots strict | outputs < 8000~4=1 8001/4 ; remap 0 1 2 < 8000/4 8000/4 8000/4 8000/4",
         None,
     ),
 ];

@@ -92,6 +92,13 @@ fn others() -> Vec<What> {
         let request = wire::query(1, 2);
         all.push(What::ModelControl { request, page: len });
     }
+    // streams 2 and maps 1 need 68 and 28 bytes, jacks 52
+    for written in [0, 3, 4, 27, 28, 51, 52, 67, 68, 4096, 4097, (1 << 32) + 4, u64::MAX] {
+        all.push(What::FeedWritten { status: wire::STATUS_OK, body: Body::of(Kind::Streams, 9), len: PAGE, written });
+    }
+    for (written, len) in [(3, PAGE), (4, PAGE), (4, PAGE - 1), (4097, PAGE + 1)] {
+        all.push(What::FeedWritten { status: wire::STATUS_BAD, body: Body::ZERO, len, written });
+    }
     all.extend([0, 7, 8, 9].map(|n| What::Event(wire::words(&[0x1101, 5, 6])[..n].to_vec())));
     for answer in [0, 7, 8, 9] {
         all.push(What::ModelTransfer { request: wire::words(&[1, 2]), answer });

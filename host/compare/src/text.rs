@@ -1,4 +1,7 @@
-//! Cases as text, one a line: `JACKS STREAMS MAPS slots|descriptors [model SEED] | STEP ; STEP ..`
+//! Cases as text, one a line: `JACKS STREAMS MAPS slots|descriptors [model SEED] [strict] | STEP ; STEP ..`
+//!
+//! With `strict` each feed carries the length that was written: WROTE, a page where it is not named, or what the model says. One of more than a
+//! page is refused, and the next answer is to the same request.
 //!
 //! STEP = CALL [< ANSWER ..]. Calls: `remap JACK ASSOCIATION SEQUENCE`, `set STREAM BUFFER PERIOD FEATURES CHANNELS FORMAT RATE`,
 //! `prepare|release|start|stop STREAM`, `outputs`, `inputs`, `rates|formats|channels|features STREAM`, `counts`,
@@ -202,7 +205,8 @@ pub fn device_text(case: &Case) -> String {
     let [j, s, m] = case.counts;
     let tokens = if case.tokens == Tokens::Slots { "slots" } else { "descriptors" };
     let model = case.model.map_or(String::new(), |seed| format!(" model {seed}"));
-    format!("{j} {s} {m} {tokens}{model}")
+    let strict = if case.strict { " strict" } else { "" };
+    format!("{j} {s} {m} {tokens}{model}{strict}")
 }
 
 pub fn case_text(case: &Case) -> String {
@@ -215,7 +219,8 @@ pub fn case_of(text: &str) -> Case {
     let words: Vec<&str> = device.split_whitespace().collect();
     let counts = [number(words[0]), number(words[1]), number(words[2])];
     let tokens = if words[3] == "slots" { Tokens::Slots } else { Tokens::Descriptors };
-    let model = words.get(5).map(|seed| number(seed));
+    let model = words.iter().skip_while(|word| **word != "model").nth(1).map(|seed| number(seed));
+    let strict = words.contains(&"strict");
     let steps = steps.split(';').map(str::trim).filter(|step| !step.is_empty()).map(step_of).collect();
-    Case { counts, tokens, model, steps }
+    Case { counts, tokens, model, strict, steps }
 }

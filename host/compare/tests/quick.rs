@@ -13,8 +13,9 @@ fn agrees(case: compare::case::Case) {
 #[test]
 fn a_case_is_its_text() {
     for seed in 0..400 {
-        let case = random::case(seed);
-        assert_eq!(text::case_of(&text::case_text(&case)), case);
+        for case in [random::case(seed), random::strict(seed)] {
+            assert_eq!(text::case_of(&text::case_text(&case)), case);
+        }
     }
 }
 
@@ -26,6 +27,10 @@ fn drivers_agree() {
     short::announcements(&mut agrees);
     short::budgets(&mut agrees);
     (0..300).for_each(|seed| agrees(random::case(seed)));
+    short::strict_stale(&mut agrees);
+    short::boundaries(&mut agrees);
+    short::own_lengths(&mut agrees);
+    (0..100).for_each(|seed| agrees(random::strict(seed)));
 }
 
 #[test]

@@ -3,7 +3,7 @@
 #![no_std]
 use snd::{
     Features, Format, Formats, Model, Page, Params, Rate, Rates, Reading, Refusal, Ring, Sound, Started, Step,
-    StreamList, Value, latest_notification,
+    StreamList, Unfed, Value, latest_notification,
 };
 
 unsafe extern "C" {
@@ -92,16 +92,29 @@ fn supported(console: &mut Console) -> u64 {
 }
 
 fn feeds(console: &mut Console) -> u64 {
-    let Console { sound, ring, page, .. } = console;
+    let Console {
+        sound,
+        ring,
+        page,
+        number,
+        ..
+    } = console;
     let fed = match sound.output_streams(ring) {
         Ok(Step::Send(exchange)) => length(sound.feed(exchange, page)),
+        _ => 0,
+    };
+    let written = match sound.input_streams(ring) {
+        Ok(Step::Send(exchange)) => match sound.feed_written(exchange, page, *number as usize) {
+            Err(Unfed::TooLong(exchange)) => sum(exchange.bytes()),
+            other => length(other.map_err(Refusal::from)),
+        },
         _ => 0,
     };
     let failed = match sound.pcm_stop(ring, 0) {
         Ok(Step::Send(exchange)) => length(sound.feed_failure(exchange)),
         _ => 0,
     };
-    fed ^ failed ^ u64::from(sound.abandon().is_ok())
+    fed ^ written ^ failed ^ u64::from(sound.abandon().is_ok())
 }
 
 fn lists(console: &mut Console) -> u64 {

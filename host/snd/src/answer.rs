@@ -1,10 +1,10 @@
-//! What a call says: document 01's table.
+//! What a call says: document 01's table, and document 02's.
 use core::fmt;
 
 /// The table stands here once; both enums, their numbers and their names are made from it.
 macro_rules! table {
     ($($(#[$doc:meta])* $name:ident = $number:literal,)*) => {
-        /// What a call says, by document 01's names and numbers.
+        /// What a call says, by document 01's names and numbers, and document 02's.
         ///
         /// ```
         /// use snd::{Answer, Refusal};
@@ -49,7 +49,7 @@ macro_rules! table {
                 }
             }
 
-            /// Its name in document 01.
+            /// Its name in the documents.
             #[must_use]
             pub const fn name(self) -> &'static str {
                 match self {
@@ -69,7 +69,7 @@ macro_rules! table {
         }
 
         impl Answer {
-            /// Its name in document 01.
+            /// Its name in the documents.
             #[must_use]
             pub const fn name(self) -> &'static str {
                 match self {
@@ -102,12 +102,14 @@ table! {
     Busy = 8,
     /// The turn budget is used up.
     OutOfTurns = 9,
-    /// A lent slice has a wrong length.
+    /// A lent slice has a wrong length, or a device is said to have written more than a page.
     BadLength = 10,
+    /// In strict mode ([`crate::Sound::feed_written`]): the device wrote fewer bytes than its answer needs.
+    Short = 11,
 }
 
 impl Answer {
-    /// Its number in document 01.
+    /// Its number in the documents.
     #[must_use]
     pub const fn number(self) -> u32 {
         self as u32
@@ -115,7 +117,7 @@ impl Answer {
 }
 
 impl Refusal {
-    /// Its number in document 01.
+    /// Its number in the documents.
     #[must_use]
     pub const fn number(self) -> u32 {
         self as u32
@@ -187,7 +189,7 @@ mod tests {
 
     #[test]
     fn a_number_outside_the_table_is_unknown() {
-        for number in [11, 255, 514, u64::MAX] {
+        for number in [12, 255, 514, u64::MAX] {
             assert_eq!(Said::of(number), Said::Refused(Refusal::Unknown));
         }
         assert_eq!(Said::done(512), Err(Refusal::Unknown));

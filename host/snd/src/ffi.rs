@@ -98,6 +98,8 @@ entries! {
 
     /// The answer page of the request that is out.
     fn snd_feed(state: &mut [u8], page: &[u8], message: &mut [u8], result: &mut [u8],);
+    /// The same in strict mode: of the page so many bytes were written.
+    fn snd_feed_written(state: &mut [u8], page: &[u8], written: u64, message: &mut [u8], result: &mut [u8],);
     /// The queue failed the request that is out.
     fn snd_feed_failure(state: &mut [u8], message: &mut [u8], result: &mut [u8],);
 

@@ -26,6 +26,8 @@
 //! # Ok::<(), snd::Refusal>(())
 //! ```
 //!
+//! Where a device may write less than it is asked for, feed by [`Sound::feed_written`]: what stood in the page before is then not read.
+//!
 //! A transfer goes turn by turn, and keeps its frames until no device reads them: see [`Transfer`].
 //!
 //! With the feature `alloc` frames may be a `Vec<u8>` or a `Box<[u8]>`; else the crate needs no allocator.
@@ -67,7 +69,7 @@ pub use params::{Format, Params, Rate};
 pub use records::{ChannelMap, JackInfo, PcmInfo};
 pub use ring::{Carried, Offer, Reading, Ring, Turn};
 pub use sound::Sound;
-pub use step::{Exchange, Message, Page, Step, StreamList, Value};
+pub use step::{Exchange, Message, Page, Step, StreamList, Unfed, Value};
 pub use supported::{ChannelRange, Features, Formats, Rates};
 pub use transfer::{Frames, Started, Transfer};
 

@@ -2,11 +2,11 @@
 use crate::answer::Said;
 use crate::bytes::Results;
 use crate::layout::{new_state, open, set_up};
-use crate::step::{Exchange, Page, Step, Value, narrow, told};
+use crate::step::{Exchange, Page, Step, Unfed, Value, narrow, told};
 use crate::{
     ChannelRange, Features, Formats, Frames, Params, Rates, Refusal, Ring, Started, StreamList, Transfer, ffi,
 };
-use crate::{MESSAGE_SIZE, RESULT_SIZE, RING_SIZE, STATE_SIZE};
+use crate::{MESSAGE_SIZE, PAGE_SIZE, RESULT_SIZE, RING_SIZE, STATE_SIZE};
 use core::borrow::{Borrow, BorrowMut};
 use core::fmt;
 
@@ -265,11 +265,62 @@ impl<S: BorrowMut<[u8; STATE_SIZE]>> Sound<S> {
 /// # Ok::<(), Refusal>(())
 /// ```
 impl<S: BorrowMut<[u8; STATE_SIZE]>> Sound<S> {
-    /// Feeds the answer page of the request that is out. An exchange that is not this state's open one is [`Refusal::InvalidParam`].
+    /// Feeds the answer page of the request that is out. The whole page is read: see [`Sound::feed_written`] for a device that may write less.
+    /// An exchange that is not this state's open one is [`Refusal::InvalidParam`].
     pub fn feed<T: Value>(&mut self, exchange: Exchange<T>, page: &Page) -> Result<Step<T>, Refusal> {
         self.fed(exchange, |state, message, result| {
             ffi::snd_feed(state, page.bytes(), message, result)
         })
+    }
+
+    /// Feeds the answer page of the request that is out, and how many bytes of it the device wrote: strict mode. No byte past them is looked
+    /// at, so what a page holds from before plays no part. Each feed is judged by itself, and may be strict or not.
+    ///
+    /// `written` is what the queue reports as written to the page, from its first byte on. Under 4 it is [`Refusal::Short`], whatever the
+    /// page says; so it is for a query that was answered ok with fewer bytes than its records have. For jacks and channel maps that means an
+    /// empty table, as a query that failed, and set-up goes on. Elsewhere the call ends with it, and the state is as after
+    /// [`Refusal::QueueFailed`]. An exchange that is not this state's open one is [`Refusal::InvalidParam`].
+    ///
+    /// A length above 4,096 is tested first and is [`Unfed::TooLong`]: nothing is fed, and the exchange comes back, still open.
+    ///
+    /// ```
+    /// use snd::{JackInfo, Model, Page, PcmInfo, Refusal, Ring, Sound, Step, Unfed};
+    ///
+    /// let jack = JackInfo { features: JackInfo::REMAP, ..JackInfo::default() };
+    /// let mut device = Model::new(&[jack.to_bytes()], &[PcmInfo::output(1, 2).to_bytes()], &[])?;
+    /// let (mut sound, ring, mut page) = (Sound::new(1, 1, 0), Ring::new(), Page::new());
+    ///
+    /// // the page holds the jack, but of this answer the device is said to have written the header alone
+    /// let Step::Send(jacks) = sound.jack_remap(&ring, 0, 1, 2)? else { unreachable!() };
+    /// assert_eq!(device.control(jacks.bytes(), &mut page)?, 4 + 24);
+    /// let mut step = sound.feed_written(jacks, &page, 4);
+    ///
+    /// // a length that no page has
+    /// let Ok(Step::Send(streams)) = step else { unreachable!() };
+    /// let written = device.control(streams.bytes(), &mut page)?;
+    /// step = sound.feed_written(streams, &page, 4097);
+    /// let Err(Unfed::TooLong(streams)) = step else { unreachable!() };
+    ///
+    /// // from here on the device's own lengths: no jack is known, and no remap is sent
+    /// step = sound.feed_written(streams, &page, written);
+    /// let Ok(Step::Send(maps)) = step else { unreachable!() };
+    /// let written = device.control(maps.bytes(), &mut page)?;
+    /// assert_eq!(sound.feed_written(maps, &page, written), Err(Unfed::Refused(Refusal::NoInfo)));
+    /// # Ok::<(), Refusal>(())
+    /// ```
+    pub fn feed_written<T: Value>(
+        &mut self,
+        exchange: Exchange<T>,
+        page: &Page,
+        written: usize,
+    ) -> Result<Step<T>, Unfed<T>> {
+        if written > PAGE_SIZE {
+            return Err(Unfed::TooLong(exchange));
+        }
+        let fed = self.fed(exchange, |state, message, result| {
+            ffi::snd_feed_written(state, page.bytes(), written as u64, message, result)
+        });
+        fed.map_err(Unfed::Refused)
     }
 
     /// Says that the queue failed the request that is out. An exchange that is not this state's open one is [`Refusal::InvalidParam`].

@@ -83,8 +83,8 @@ impl Default for Page {
 
 /// An open exchange: the request that is out, and `T`, what its call gives in the end.
 ///
-/// [`crate::Sound::feed`] and [`crate::Sound::feed_failure`] consume it, so its answer is fed once and is read as the result of the call
-/// that asked. Rates are no list of streams:
+/// [`crate::Sound::feed`], [`crate::Sound::feed_written`] and [`crate::Sound::feed_failure`] consume it, so its answer is fed once and is
+/// read as the result of the call that asked. Rates are no list of streams:
 ///
 /// ```compile_fail,E0308
 /// # use snd::{Page, Ring, Sound, Step, StreamList};
@@ -152,7 +152,8 @@ impl<T> fmt::Debug for Exchange<T> {
 #[derive(PartialEq, Eq, Debug)]
 #[must_use = "a call may have a request to send before it is done"]
 pub enum Step<T> {
-    /// Send its bytes on the control queue, then feed the answer with [`crate::Sound::feed`] or [`crate::Sound::feed_failure`].
+    /// Send its bytes on the control queue, then feed the answer with [`crate::Sound::feed`], [`crate::Sound::feed_written`] or
+    /// [`crate::Sound::feed_failure`].
     Send(Exchange<T>),
     /// The call is done, with its result.
     Done(T),
@@ -178,6 +179,42 @@ impl<T: Value> Step<T> {
         }
     }
 }
+
+/// Why [`crate::Sound::feed_written`] gave no step. `?` makes the [`Refusal`] of it, and drops the exchange with it where there is one.
+#[derive(PartialEq, Eq, Debug)]
+#[must_use = "an exchange that was not fed is still open"]
+pub enum Unfed<T> {
+    /// 10: a page has no more than 4,096 bytes, so no device can have written as many as were named. Nothing was fed, and here is the exchange,
+    /// still open: feed it with the right length, or say that the queue failed.
+    TooLong(Exchange<T>),
+    /// The feed was refused with this, as [`crate::Sound::feed`] may be.
+    Refused(Refusal),
+}
+
+impl<T> Unfed<T> {
+    /// What it was refused with.
+    #[must_use]
+    pub fn refusal(&self) -> Refusal {
+        match self {
+            Self::TooLong(_) => Refusal::BadLength,
+            Self::Refused(refusal) => *refusal,
+        }
+    }
+}
+
+impl<T> From<Unfed<T>> for Refusal {
+    fn from(unfed: Unfed<T>) -> Self {
+        unfed.refusal()
+    }
+}
+
+impl<T> fmt::Display for Unfed<T> {
+    fn fmt(&self, f: &mut fmt::Formatter<'_>) -> fmt::Result {
+        self.refusal().fmt(f)
+    }
+}
+
+impl<T: fmt::Debug> core::error::Error for Unfed<T> {}
 
 /// What a call gives when it is done. Implemented by the results of calls, and by nothing else.
 pub trait Value: sealed::Read {}

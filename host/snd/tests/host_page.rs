@@ -1,6 +1,8 @@
-//! The audio loop of docs/HOST.md runs, and the page shows the text that ran.
+//! The audio loop and the strict feed of docs/HOST.md run, and the page shows the texts that ran.
 #[path = "../examples/audio_loop.rs"]
 mod audio_loop;
+#[path = "../examples/strict_mode.rs"]
+mod strict_mode;
 
 #[test]
 fn the_audio_loop_speaks() {
@@ -8,10 +10,21 @@ fn the_audio_loop_speaks() {
 }
 
 #[test]
-fn the_page_shows_the_text_that_ran() {
+fn the_strict_feed_believes_what_was_written() {
+    assert_eq!(strict_mode::main(), Ok(()));
+}
+
+#[test]
+fn the_page_shows_the_texts_that_ran() {
     let page = include_str!("../../../docs/HOST.md");
-    let text = include_str!("../examples/audio_loop.rs");
-    let shown = page.split("```").nth(1).and_then(|block| block.strip_prefix("rust\n"));
-    let shown = shown.expect("the page shows a loop");
-    assert!(text.contains(shown), "docs/HOST.md and examples/audio_loop.rs differ");
+    let texts = [
+        include_str!("../examples/audio_loop.rs"),
+        include_str!("../examples/strict_mode.rs"),
+    ];
+    let blocks: Vec<_> = page.split("```").skip(1).step_by(2).collect();
+    assert_eq!(blocks.len(), texts.len());
+    for (text, block) in texts.iter().zip(blocks) {
+        let shown = block.strip_prefix("rust\n").expect("the page shows Rust");
+        assert!(text.contains(shown), "docs/HOST.md and an example differ:\n{shown}");
+    }
 }

@@ -36,12 +36,31 @@ fn a_short_slice_is_10_and_leaves_every_byte() {
 
 #[test]
 fn a_page_of_4097_bytes_is_10() {
-    for name in ["snd_feed", "snd_model_control"] {
+    for name in ["snd_feed", "snd_feed_written", "snd_model_control"] {
         let mut lent = Lent::asking();
         lent.page.push(0);
         let before = lent.clone();
         assert_eq!((entry(name).call)(&mut lent), 10, "{name}");
         assert!(lent == before, "{name} changed a byte");
+    }
+}
+
+#[test]
+fn a_page_of_which_more_than_4096_bytes_were_written_is_10() {
+    for written in [4097, (1 << 32) + 4, u64::MAX] {
+        // the exchange stays open; with none open, and in a store that is inconsistent, the length still comes first
+        let mut inconsistent = Lent::asking();
+        inconsistent.state.fill(0xff);
+        for mut lent in [Lent::asking(), Lent::idle(), inconsistent] {
+            lent.written = written;
+            let before = lent.clone();
+            assert_eq!(
+                (entry("snd_feed_written").call)(&mut lent),
+                10,
+                "{written} bytes written"
+            );
+            assert!(lent == before, "{written} bytes written changed a byte");
+        }
     }
 }
 

@@ -1,7 +1,7 @@
-//! Every refusal of document 01 but 10, each way to it.
+//! Every refusal but 10, each way to it.
 mod common;
 use common::{Desk, PARAMS, sent};
-use snd::{Model, Page, Params, PcmInfo, Reading, Refusal, Ring, STATUS_OK, Sound, Step};
+use snd::{Model, Page, Params, PcmInfo, Reading, Refusal, Ring, STATUS_OK, Sound, Step, Unfed};
 
 const OK: Reading = Reading::Completed {
     slot: 0,
@@ -60,6 +60,7 @@ fn invalid_param_1_where_nothing_is_open() {
     let mut desk = Desk::with_params();
     let mut asking = common::lent::Lent::idle();
     assert_eq!((common::entries::entry("snd_feed").call)(&mut asking), 1);
+    assert_eq!((common::entries::entry("snd_feed_written").call)(&mut asking), 1);
     assert_eq!((common::entries::entry("snd_feed_failure").call)(&mut asking), 1);
     assert_eq!(desk.ring.turn(b"", Reading::Quiet), Err(Refusal::InvalidParam));
     assert_eq!(desk.ring.offered(b""), Err(Refusal::InvalidParam));
@@ -244,6 +245,25 @@ fn out_of_turns_9() {
 }
 
 #[test]
+fn short_11() {
+    // of the call's own answer, and of the query of streams, under 4 bytes and under 4 + count * size
+    for written in 0..4 {
+        let mut desk = Desk::with_params();
+        let prepare = sent(desk.sound.pcm_prepare(&desk.ring, 0));
+        let fed = desk.sound.feed_written(prepare, &desk.page, written);
+        assert_eq!(fed, Err(Unfed::Refused(Refusal::Short)));
+    }
+    for written in [0, 3, 4, 4 + 2 * 32 - 1] {
+        let mut desk = Desk::new();
+        let jacks = sent(desk.sound.pcm_prepare(&desk.ring, 0));
+        let streams = sent(desk.sound.feed_failure(jacks));
+        desk.device.control(streams.bytes(), &mut desk.page).unwrap();
+        let fed = desk.sound.feed_written(streams, &desk.page, written);
+        assert_eq!(fed, Err(Unfed::Refused(Refusal::Short)));
+    }
+}
+
+#[test]
 fn a_model_with_too_many_records_is_refused() {
     assert!(Model::new(&[[0; 24]; 171], &[], &[]).is_err());
     assert!(Model::new(&[], &[PcmInfo::output(1, 1).to_bytes(); 128], &[]).is_err());
@@ -252,7 +272,7 @@ fn a_model_with_too_many_records_is_refused() {
 }
 
 #[test]
-fn answers_have_document_01s_numbers() {
+fn answers_have_the_documents_numbers() {
     let names = [
         "InvalidParam",
         "IoError",
@@ -264,6 +284,7 @@ fn answers_have_document_01s_numbers() {
         "Busy",
         "OutOfTurns",
         "BadLength",
+        "Short",
     ];
     for (number, name) in (1..).zip(names) {
         let refusal = Refusal::from_number(number);
@@ -275,5 +296,5 @@ fn answers_have_document_01s_numbers() {
         );
     }
     assert_eq!((snd::Answer::Ok.number(), snd::Answer::Ok.name()), (0, "Ok"));
-    assert_eq!(Refusal::from_number(11), Refusal::Unknown);
+    assert_eq!(Refusal::from_number(12), Refusal::Unknown);
 }

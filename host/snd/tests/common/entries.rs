@@ -16,7 +16,7 @@ macro_rules! entries {
     };
 }
 
-/// The 43 entries, in the header's order.
+/// The 44 entries, in the header's order.
 pub const ENTRIES: &[Entry] = entries! {
     snd_state_size [] |_l| ();
     snd_ring_size [] |_l| ();
@@ -46,6 +46,7 @@ pub const ENTRIES: &[Entry] = entries! {
         |l| (&mut l.state, &l.ring, l.numbers[0], &mut l.message, &mut l.result);
     snd_features_supported [State Ring Message Result] |l| (&mut l.state, &l.ring, l.numbers[0], &mut l.message, &mut l.result);
     snd_feed [State Page Message Result] |l| (&mut l.state, &l.page, &mut l.message, &mut l.result);
+    snd_feed_written [State Page Message Result] |l| (&mut l.state, &l.page, l.written, &mut l.message, &mut l.result);
     snd_feed_failure [State Message Result] |l| (&mut l.state, &mut l.message, &mut l.result);
     snd_pcm_xfer_start [State Ring Message]
         |l| (&mut l.state, &mut l.ring, l.numbers[0], &l.frames, l.budget, &mut l.message);

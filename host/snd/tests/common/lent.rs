@@ -24,6 +24,7 @@ pub struct Lent {
     pub numbers: [u32; 4],
     pub narrow: [u8; 3],
     pub budget: u64,
+    pub written: u64,
 }
 
 /// Which slice of [`Lent`].
@@ -90,6 +91,7 @@ impl Lent {
             numbers: [0, 8, 4, 0],
             narrow: [2, 5, 7],
             budget: 1000,
+            written: PAGE_SIZE as u64,
         }
     }
 
