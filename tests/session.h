@@ -133,6 +133,23 @@ static void strict(void) {
     CALL(snd_feed_written, STATE, PAGE, 4, MESSAGE, RESULT); /* nothing is open */
 }
 
+/* Under the guard: what the lifecycle does not permit, and what it does. */
+static void guarded(void) {
+    CALL(snd_new_guarded, STATE, JACKS, STREAMS, MAPS);
+    answered(CALL(snd_pcm_start, STATE, RING, 0, MESSAGE, RESULT)); /* never prepared: set-up, and BadState */
+    answered(CALL(snd_pcm_set_params, STATE, RING, 0, 8192, 2048, 0, 2, 5, 7, MESSAGE, RESULT));
+    CALL(snd_pcm_xfer_start, STATE, RING, 0, frames, sizeof frames, 9, MESSAGE); /* BadState */
+    answered(CALL(snd_pcm_prepare, STATE, RING, STREAMS, MESSAGE, RESULT));      /* no such stream */
+    answered(CALL(snd_pcm_prepare, STATE, RING, 0, MESSAGE, RESULT));
+    answered(CALL(snd_pcm_stop, STATE, RING, 0, MESSAGE, RESULT)); /* BadState */
+    answered(CALL(snd_pcm_start, STATE, RING, 0, MESSAGE, RESULT));
+    CALL(snd_pcm_xfer_start, STATE, RING, 0, frames, sizeof frames, 0, MESSAGE);                 /* taken, but for its budget */
+    answered(CALL(snd_pcm_set_params, STATE, RING, 0, 8192, 2048, 0, 2, 5, 7, MESSAGE, RESULT)); /* BadState */
+    answered(CALL(snd_pcm_release, STATE, RING, 0, MESSAGE, RESULT));                            /* BadState */
+    answered(CALL(snd_pcm_stop, STATE, RING, 0, MESSAGE, RESULT));
+    answered(CALL(snd_pcm_release, STATE, RING, 0, MESSAGE, RESULT));
+}
+
 static void refusals(void) {
     CALL(snd_feed, STATE, PAGE, MESSAGE, RESULT);                      /* nothing is open */
     CALL(snd_turn, RING, frames, sizeof frames, 0, 0, 0);              /* nothing runs */
@@ -162,6 +179,7 @@ static void session(void) {
     transfer(100, 7);
     transfer(5, ~0u);
     others();
+    guarded();
     strict();
     refusals();
 }

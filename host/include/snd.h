@@ -1,7 +1,7 @@
 /* The driver's C entries. docs/BOUNDARY.md says what each answers and writes.
  *
  * Every entry answers one number: the answer's number in its low 32 bits, 0 above. 0 to 10 are
- * document 01's answers, 11 is document 02's; a request of n bytes to send is SND_SEND + n; a turn
+ * document 01's answers, 11 and 12 are document 02's; a request of n bytes to send is SND_SEND + n; a turn
  * that goes on is SND_GOING; an event that says nothing is SND_NOTHING.
  *
  * A slice is a pointer and a length; an empty one may have any pointer but NULL. Slices that are
@@ -30,7 +30,7 @@ extern "C" {
 /* The version of this header and of the archive beside it: docs/BOUNDARY.md says when it changes.
  * As one number it can be compared by #if. */
 #define SND_VERSION_MAJOR 0u
-#define SND_VERSION_MINOR 2u
+#define SND_VERSION_MINOR 3u
 #define SND_VERSION_PATCH 0u
 #define SND_VERSION (SND_VERSION_MAJOR * 1000000u + SND_VERSION_MINOR * 1000u + SND_VERSION_PATCH)
 
@@ -46,12 +46,13 @@ extern "C" {
 #define SND_OUT_OF_TURNS 9u
 #define SND_BAD_LENGTH 10u
 #define SND_SHORT 11u
+#define SND_BAD_STATE 12u
 #define SND_SEND 256u
 #define SND_GOING 512u
 #define SND_NOTHING 513u
 
 /* Sizes of the stores and buffers, the same as the entries below hand out. */
-#define SND_STATE_SIZE 14320u
+#define SND_STATE_SIZE 14447u
 #define SND_RING_SIZE 608u
 #define SND_MESSAGE_SIZE 24u
 #define SND_RESULT_SIZE 512u
@@ -65,8 +66,13 @@ uint64_t snd_result_size(void);
 uint64_t snd_page_size(void);
 uint64_t snd_model_size(void);
 
-/* A new state from the configured counts; a new ring. */
+/* A new state from the configured counts; a new ring.
+ *
+ * A state made by snd_new_guarded keeps to the standard's lifecycle of a PCM stream, for good: a
+ * command that the stream's last ok command does not permit is not sent, a transfer is taken of a
+ * prepared or started stream alone, and what is not permitted is 12. docs/BOUNDARY.md has the table. */
 uint64_t snd_new(uint8_t *state, size_t state_len, uint32_t jacks, uint32_t streams, uint32_t chmaps);
+uint64_t snd_new_guarded(uint8_t *state, size_t state_len, uint32_t jacks, uint32_t streams, uint32_t chmaps);
 uint64_t snd_ring_new(uint8_t *ring, size_t ring_len);
 
 /* The configured counts: 8 bytes of result. */

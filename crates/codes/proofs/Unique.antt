@@ -53,6 +53,8 @@ use Rattle.codes.proofs.requests.RequestCode.from_code.Reads as request
 use Rattle.codes.proofs.statuses.StatusCode.code.Reads as status-code
 use Rattle.codes.proofs.statuses.StatusCode.from_code.Reads as status-from-code
 use Rattle.codes.proofs.statuses.FoundStatus.is_ok.Reads as status-is-ok
+use Rattle.codes.proofs.life.permits.Reads as permits
+use Rattle.codes.proofs.life.takes.Reads as takes
 use Rattle.codes.proofs.tests.both.Reads as both
 use Rattle.codes.proofs.flags.JackFeatures.from_bits_retain.Reads as jack-features-from-bits-retain
 use Rattle.codes.proofs.flags.JackFeatures.has_remap.Reads as jack-features-has-remap
@@ -269,3 +271,9 @@ status-is-ok-one κs a r₁ r₂ e₁ e₂ p q = same p q
 
 pub both-one : (κs : _) (a : _) (r₁ r₂ : _) (e₁ e₂ : _) → both.Post κs a r₁ e₁ → both.Post κs a r₂ e₂ → r₁ ≡ r₂
 both-one κs a r₁ r₂ e₁ e₂ p q = same p q
+
+pub permits-one : (κs : _) (a : _) (r₁ r₂ : _) (e₁ e₂ : _) → permits.Post κs a r₁ e₁ → permits.Post κs a r₂ e₂ → r₁ ≡ r₂
+permits-one κs a r₁ r₂ e₁ e₂ p q = same p q
+
+pub takes-one : (κs : _) (a : _) (r₁ r₂ : _) (e₁ e₂ : _) → takes.Post κs a r₁ e₁ → takes.Post κs a r₂ e₂ → r₁ ≡ r₂
+takes-one κs a r₁ r₂ e₁ e₂ p q = same p q

@@ -22,3 +22,4 @@ numbered refusal.Busy = record { least = omega arith; small = omega arith }
 numbered refusal.OutOfTurns = record { least = omega arith; small = omega arith }
 numbered refusal.BadLength = record { least = omega arith; small = omega arith }
 numbered refusal.Short = record { least = omega arith; small = omega arith }
+numbered refusal.BadState = record { least = omega arith; small = omega arith }

@@ -8,6 +8,7 @@ pub mod Events
 pub mod Requests
 pub mod Statuses
 pub mod Answers
+pub mod Life
 -- laws
 pub mod SaysLaws
 pub mod CodesLaws
@@ -16,3 +17,4 @@ pub mod TableLaws
 pub mod RatesLaws
 pub mod AnswersLaws
 pub mod StatusesLaws
+pub mod LifeLaws

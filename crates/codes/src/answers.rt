@@ -14,6 +14,7 @@ pub enum Refusal {
     OutOfTurns,
     BadLength,
     Short,
+    BadState,
 }
 
 impl Refusal {
@@ -32,6 +33,7 @@ impl Refusal {
             Refusal::OutOfTurns => 9,
             Refusal::BadLength => 10,
             Refusal::Short => 11,
+            Refusal::BadState => 12,
         }
     }
 }

@@ -5,6 +5,7 @@ pub mod direction;
 mod events;
 mod flags;
 mod formats;
+pub mod life;
 pub mod position;
 mod rates;
 mod requests;

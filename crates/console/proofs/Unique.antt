@@ -17,6 +17,7 @@ use Rattle.console.proofs.sizes.snd_result_size.Reads as result-size
 use Rattle.console.proofs.sizes.snd_page_size.Reads as page-size
 use Rattle.console.proofs.sizes.snd_model_size.Reads as model-size
 use Rattle.console.proofs.stores.snd_new.Reads as new
+use Rattle.console.proofs.stores.snd_new_guarded.Reads as new-guarded
 use Rattle.console.proofs.stores.snd_jacks.Reads as jacks
 use Rattle.console.proofs.stores.snd_streams.Reads as streams
 use Rattle.console.proofs.stores.snd_chmaps.Reads as chmaps
@@ -88,6 +89,9 @@ model-size-one κs a r₁ r₂ e₁ e₂ p q = same p q
 -- lent: state
 pub new-one : (κs : _) (a : _) (r₁ r₂ : _) (e₁ e₂ : _) → new.Post κs a r₁ e₁ → new.Post κs a r₂ e₂ → (r₁ ≡ r₂) × (now (e₁ .0) ≡ now (e₂ .0))
 new-one κs a r₁ r₂ e₁ e₂ p q = made-one p q
+
+pub new-guarded-one : (κs : _) (a : _) (r₁ r₂ : _) (e₁ e₂ : _) → new-guarded.Post κs a r₁ e₁ → new-guarded.Post κs a r₂ e₂ → (r₁ ≡ r₂) × (now (e₁ .0) ≡ now (e₂ .0))
+new-guarded-one κs a r₁ r₂ e₁ e₂ p q = made-one p q
 
 -- lent: result
 pub jacks-one : (κs : _) (a : _) (r₁ r₂ : _) (e₁ e₂ : _) → jacks.Post κs a r₁ e₁ → jacks.Post κs a r₂ e₂ → (r₁ ≡ r₂) × (now (e₁ .1 .0) ≡ now (e₂ .1 .0))

@@ -1,13 +1,21 @@
 // A new state, and the configured counts.
 ghost use mathlib.Core.Path.{_≡_};
+ghost use mathlib.Core.Bool.{true, false};
 ghost use Rattle.layout.specs.Lent.{made, shown};
 ghost use Rattle.state_store.specs.Calls.{newIn, jackCount, streamCount, mapCount, countIn};
 
 #[no_mangle]
 pub extern "C" fn snd_new(state: &mut [u8], jacks: u32, streams: u32, chmaps: u32) -> u64
-    ensures { λ r. ⌜ made r (now (state .exit)) ≡ newIn (now (state .entry)) jacks streams chmaps ⌝ }
+    ensures { λ r. ⌜ made r (now (state .exit)) ≡ newIn false (now (state .entry)) jacks streams chmaps ⌝ }
 {
     state_store::new(state, jacks, streams, chmaps)
+}
+
+#[no_mangle]
+pub extern "C" fn snd_new_guarded(state: &mut [u8], jacks: u32, streams: u32, chmaps: u32) -> u64
+    ensures { λ r. ⌜ made r (now (state .exit)) ≡ newIn true (now (state .entry)) jacks streams chmaps ⌝ }
+{
+    state_store::new_guarded(state, jacks, streams, chmaps)
 }
 
 #[no_mangle]

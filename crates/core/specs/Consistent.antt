@@ -23,21 +23,25 @@ callOk (Streams direction) = true
 callOk (Supported field stream) = true
 callOk (Xfer stream) = true
 
--- a call whose own request is out: set parameters that pass every test, a command, or a remap
-abbrev pub sentOk : Call → ℕ → Bool
-sentOk (SetParams stream to) streams = numbersOk to && (periodOk (to .buffer) (to .period) && ltb stream streams)
-sentOk (Command kind stream) streams = true
-sentOk (Remap jack association sequence) streams = true
-sentOk (Streams direction) streams = false
-sentOk (Supported field stream) streams = false
-sentOk (Xfer stream) streams = false
+-- a test that is made under the guard alone: "Guard off, all reads as before"
+abbrev pub heldTo : Bool → Bool → Bool
+heldTo guard test = pick guard test true
 
-abbrev pub stageOk : Stage → ℕ → Bool
-stageOk Idle streams = true
-stageOk (JacksAsked call) streams = callOk call
-stageOk (StreamsAsked call) streams = callOk call
-stageOk (MapsAsked call) streams = callOk call
-stageOk (Sent call) streams = sentOk call streams
+-- a call whose own request is out: set parameters that pass every test, a command (under the guard to a stream that there is), or a remap
+abbrev pub sentOk : Bool → Call → ℕ → Bool
+sentOk guard (SetParams stream to) streams = numbersOk to && (periodOk (to .buffer) (to .period) && ltb stream streams)
+sentOk guard (Command kind stream) streams = heldTo guard (ltb stream streams)
+sentOk guard (Remap jack association sequence) streams = true
+sentOk guard (Streams direction) streams = false
+sentOk guard (Supported field stream) streams = false
+sentOk guard (Xfer stream) streams = false
+
+abbrev pub stageOk : Bool → Stage → ℕ → Bool
+stageOk guard Idle streams = true
+stageOk guard (JacksAsked call) streams = callOk call
+stageOk guard (StreamsAsked call) streams = callOk call
+stageOk guard (MapsAsked call) streams = callOk call
+stageOk guard (Sent call) streams = sentOk guard call streams
 
 -- how many of the three queries are behind
 abbrev pub queriesAnswered : Stage → Bool → ℕ
@@ -68,7 +72,7 @@ bothOrNeither a b = pick a b (not b)
 unfoldable pub consistentOf : Core → Bool
 consistentOf c =
     let n = queriesAnswered (c .stage) (c .ready) in
-    bothOrNeither (c .ready) (eqb n 3) && (tablesOk (c .read) (c .counts) n && stageOk (c .stage) (c .read .streams))
+    bothOrNeither (c .ready) (eqb n 3) && (tablesOk (c .read) (c .counts) n && stageOk (c .guard) (c .stage) (c .read .streams))
 
 -- THE TEST that the start of a transfer makes besides, of its own stream alone: parameters that are set pass the period rule, and their numbers are in range
 abbrev pub paramsOk : Params → Bool

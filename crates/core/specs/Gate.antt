@@ -1,4 +1,4 @@
--- The checks of a transfer: "Busy (8), set-up, stream range (1), parameters set (2)".
+-- The checks of a transfer: "Busy (8), set-up, stream range (1), parameters set (2)"; under the guard "12 BadState, right after the stream range check".
 -- Assumes nothing.
 use mathlib.Core.Bool.{Bool, not, _&&_}
 use mathlib.Core.List.{[], _∷_}
@@ -6,28 +6,30 @@ use Prim.Native.Nat.{ℕ}
 use lib.Dec.{ltb, eqb}
 use Rattle.codes.specs.Says.{Says, says, guard}
 use Rattle.codes.specs.Answers.{saysRefusal}
+use Rattle.codes.specs.Life.{takesOf}
 use Rattle.turns.specs.Calls.{idleOf}
 use Rattle.turns.specs.Consistent as ring
-use Rattle.core.specs.Consistent.{consistentOf, streamOk}
+use Rattle.core.specs.Consistent.{consistentOf, streamOk, heldTo}
 use Rattle.core.specs.Plan.{isIdle}
-use Rattle.core.specs.Types.{Refusal, InvalidParam, IoError, Busy, BadLength, Track, Core, Params, Gate, Shut, SetUp, Open}
+use Rattle.core.specs.Types.{Refusal, InvalidParam, IoError, Busy, BadLength, BadState, Track, Core, Params, Gate, Shut, SetUp, Open}
 
--- what is left of the checks once state and ring are at rest: set-up, range, parameters
-abbrev pub restBy : {A : Type 0} → Core → Params → ℕ → (Refusal → A) → A → (ℕ → A) → A
-restBy c p stream refuse setUp go =
+-- what is left of the checks once state and ring are at rest: set-up, range, where the stream is in its lifecycle, parameters
+abbrev pub restBy : {A : Type 0} → Core → Params → ℕ → ℕ → (Refusal → A) → A → (ℕ → A) → A
+restBy c p life stream refuse setUp go =
     guard (c .ready) setUp
     (guard (ltb stream (c .counts .streams)) (refuse InvalidParam)
+    (guard (heldTo (c .guard) (takesOf life)) (refuse BadState)
     (guard (not (eqb (p .known) 0)) (refuse IoError)
-    (go (p .period))))
+    (go (p .period)))))
 
 -- THE CHECKS, in their order, over what is done at each end: the lengths, the consistency of state, ring and stream, Busy, and the rest.
--- They look at the core and at the stream's own parameters alone
-abbrev pub gateBy : {A : Type 0} → Bool → Core → Params → Track → ℕ → (Refusal → A) → A → (ℕ → A) → A
-gateBy lengths c p t stream refuse setUp go =
+-- They look at the core, at the stream's own parameters and at its place in its lifecycle alone
+abbrev pub gateBy : {A : Type 0} → Bool → Core → Params → ℕ → Track → ℕ → (Refusal → A) → A → (ℕ → A) → A
+gateBy lengths c p life t stream refuse setUp go =
     guard lengths (refuse BadLength)
     (guard (consistentOf c && (ring.consistentOf t && streamOk c p stream)) (refuse InvalidParam)
     (guard (isIdle (c .stage) && idleOf t) (refuse Busy)
-    (restBy c p stream refuse setUp go)))
+    (restBy c p life stream refuse setUp go)))
 
 -- its number and values: a refusal's own; where set-up goes first, a request is sent, as for a call; else 0 and the period
 abbrev pub saysGate : Gate → Says

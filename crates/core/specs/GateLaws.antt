@@ -10,12 +10,13 @@ use Rattle.codes.specs.Answers.{saysRefusal}
 use Rattle.core.specs.Gate.{gateBy, saysGate}
 use Rattle.core.specs.Types.{Track, Core, Params, Shut, SetUp, Open}
 
-pub gate-says : (lengths : Bool) (c : Core) (p : Params) (t : Track) (stream : ℕ)
-    → saysGate (gateBy lengths c p t stream Shut SetUp Open) ≡ gateBy lengths c p t stream saysRefusal (saysGate SetUp) (λ (n : ℕ). says 0 (n ∷ []))
-gate-says lengths c p t stream =
+pub gate-says : (lengths : Bool) (c : Core) (p : Params) (life : ℕ) (t : Track) (stream : ℕ)
+    → saysGate (gateBy lengths c p life t stream Shut SetUp Open) ≡ gateBy lengths c p life t stream saysRefusal (saysGate SetUp) (λ (n : ℕ). says 0 (n ∷ []))
+gate-says lengths c p life t stream =
     guard-ap saysGate _ _ _
     ∙ ap (guard _ _) (guard-ap saysGate _ _ _
     ∙ ap (guard _ _) (guard-ap saysGate _ _ _
     ∙ ap (guard _ _) (guard-ap saysGate _ _ _
     ∙ ap (guard _ _) (guard-ap saysGate _ _ _
-    ∙ ap (guard _ _) (guard-ap saysGate _ _ _)))))
+    ∙ ap (guard _ _) (guard-ap saysGate _ _ _
+    ∙ ap (guard _ _) (guard-ap saysGate _ _ _))))))

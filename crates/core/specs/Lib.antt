@@ -8,3 +8,5 @@ pub mod Gate
 -- laws
 pub mod ReplyLaws
 pub mod GateLaws
+-- theorems
+pub mod Unguarded

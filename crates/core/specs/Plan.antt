@@ -8,16 +8,17 @@ use Rattle.records.specs.Records.{jackInfo, pcmInfo, channelMap}
 use Rattle.layout.specs.Layout.{size}
 use Rattle.codes.specs.Says.{pick, guard}
 use Rattle.codes.specs.Flags.{hasBit, remapFeature}
+use Rattle.codes.specs.Life.{permitsOf, takesOf}
 use Rattle.tables.specs.Tables.{judged, isGood, refusedBy}
 use Rattle.tables.specs.declared.verdict.Verdict.the-variants as verdict
 use Rattle.turns.specs.Calls.{idleOf}
 use Rattle.turns.specs.Consistent as ring
 use Rattle.core.specs.State.{none, withStage}
-use Rattle.core.specs.Consistent.{periodOk, callOk, consistentOf}
+use Rattle.core.specs.Consistent.{periodOk, callOk, heldTo, consistentOf}
 use Rattle.core.specs.declared.plan.Request.the-variants as request
 use Rattle.core.specs.declared.plan.Value.the-variants as value
 use Rattle.core.specs.declared.plan.Look.the-variants as look
-use Rattle.core.specs.Types.{Written, Refusal, InvalidParam, IoError, Unsupported, NoInfo, TooMany, Busy, BadLength, SetParameters, Verdict, Track, Counts, Params, Kind, Prepare, Release, Start, Stop, Call, SetParams, Command, Remap, Streams, Supported, Xfer, Stage, Idle, JacksAsked, StreamsAsked, MapsAsked, Sent, Core, Request, Value, Look, Say, Send, Done, Refused, Effect, Nothing, FillJacks, FillStreams, FillMaps, Store, Plan}
+use Rattle.core.specs.Types.{Written, Refusal, InvalidParam, IoError, Unsupported, NoInfo, TooMany, Busy, BadLength, BadState, SetParameters, Verdict, Track, Counts, Params, Kind, Prepare, Release, Start, Stop, Call, SetParams, Command, Remap, Streams, Supported, Xfer, Stage, Idle, JacksAsked, StreamsAsked, MapsAsked, Sent, Core, Request, Value, Look, Say, Send, Done, Refused, Effect, Nothing, FillJacks, FillStreams, FillMaps, Store, Move, Plan}
 
 -- ---- four ways to go on
 
@@ -35,7 +36,7 @@ refuseOf c r = record { core = c; say = Refused r; effect = Nothing }
 
 -- "A set-up cut short leaves all three tables empty, and the next call begins it again."
 abbrev pub cutShortOf : Core → Refusal → Plan
-cutShortOf c r = record { core = record { counts = c .counts; read = none; ready = false; stage = Idle }; say = Refused r; effect = Nothing }
+cutShortOf c r = record { core = record { counts = c .counts; guard = c .guard; read = none; ready = false; stage = Idle }; say = Refused r; effect = Nothing }
 
 -- ---- requests
 
@@ -48,6 +49,13 @@ kindCode Prepare = 0x0102
 kindCode Release = 0x0103
 kindCode Start = 0x0104
 kindCode Stop = 0x0105
+
+-- the state that an ok command leads to: its code less 0x0101
+abbrev pub kindLife : Kind → ℕ
+kindLife Prepare = 1
+kindLife Release = 2
+kindLife Start = 3
+kindLife Stop = 4
 
 abbrev pub setOf : ℕ → Params → SetParameters
 setOf stream p =
@@ -63,28 +71,46 @@ setOf stream p =
       zero = 0;
     }
 
--- ---- WHAT ONE LOOK FOUND: a jack's features, or the field of a stream's record that is asked for
+-- ---- WHAT ONE LOOK FOUND: a jack's features, the field of a stream's record that is asked for, or where a stream is in its lifecycle
 
 abbrev pub canRemap : Look → Bool
 canRemap look.Nothing = false
 canRemap (look.Jack features) = hasBit remapFeature features
 canRemap (look.Stream v) = false
+canRemap (look.Life l) = false
 
 abbrev pub foundOf : Look → Value
 foundOf look.Nothing = value.Nothing
 foundOf (look.Jack features) = value.Nothing
 foundOf (look.Stream v) = v
+foundOf (look.Life l) = value.Nothing
+
+-- any other look is no state, which permits nothing
+abbrev pub lifeIn : Look → ℕ
+lifeIn look.Nothing = 5
+lifeIn (look.Jack features) = 5
+lifeIn (look.Stream v) = 5
+lifeIn (look.Life l) = l
 
 -- ---- THE CALL'S OWN PART, once set-up is done: "the call's own checks in the order written here"
 
 abbrev pub refusing : Core → Refusal → Plan
 refusing c r = endOf c (Refused r) Nothing
 
-unfoldable pub ownSet : Core → ℕ → Params → Plan
-ownSet c stream to =
+-- "12 BadState, right after the stream range check": what the lifecycle's table does not permit is not sent, under the guard
+unfoldable pub ownSet : Core → ℕ → Params → Look → Plan
+ownSet c stream to look =
     guard (periodOk (to .buffer) (to .period)) (refusing c InvalidParam)
     (guard (ltb stream (c .counts .streams)) (refusing c InvalidParam)
-    (sendOf c (Sent (SetParams stream to)) (request.Set (setOf stream to)) Nothing))
+    (guard (heldTo (c .guard) (permitsOf (lifeIn look) 0)) (refusing c BadState)
+    (sendOf c (Sent (SetParams stream to)) (request.Set (setOf stream to)) Nothing)))
+
+-- ".. which the four commands gain under the guard"; with it off "sent with any stream id"
+unfoldable pub ownCommand : Core → Kind → ℕ → Look → Plan
+ownCommand c kind stream look =
+    guard (heldTo (c .guard) (ltb stream (c .counts .streams))) (refusing c InvalidParam)
+    (guard (heldTo (c .guard) (permitsOf (lifeIn look) (kindLife kind))) (refusing c BadState)
+    (sendOf c (Sent (Command kind stream)) (request.Command (record { code = kindCode kind; stream = stream })) Nothing))
 
 -- "Remap: no jacks or id too high 1; table empty 4; no REMAP bit 3; then sent."
 unfoldable pub ownRemap : Core → ℕ → ℕ → ℕ → Look → Plan
@@ -99,16 +125,19 @@ unfoldable pub ownSupported : Core → ℕ → Look → Plan
 ownSupported c stream look = guard (ltb stream (c .counts .streams)) (refusing c InvalidParam) (endOf c (Done (foundOf look)) Nothing)
 
 -- a transfer that had to begin set-up: in a state that calls left no stream has parameters yet (`Kept`), so it never runs
-unfoldable pub ownXfer : Core → ℕ → Plan
-ownXfer c stream = guard (ltb stream (c .counts .streams)) (refusing c InvalidParam) (refusing c IoError)
+unfoldable pub ownXfer : Core → ℕ → Look → Plan
+ownXfer c stream look =
+    guard (ltb stream (c .counts .streams)) (refusing c InvalidParam)
+    (guard (heldTo (c .guard) (takesOf (lifeIn look))) (refusing c BadState)
+    (refusing c IoError))
 
 abbrev pub ownOf : Core → Call → Look → Plan
-ownOf c (SetParams stream to) look = ownSet c stream to
-ownOf c (Command kind stream) look = sendOf c (Sent (Command kind stream)) (request.Command (record { code = kindCode kind; stream = stream })) Nothing
+ownOf c (SetParams stream to) look = ownSet c stream to look
+ownOf c (Command kind stream) look = ownCommand c kind stream look
 ownOf c (Remap jack association sequence) look = ownRemap c jack association sequence look
 ownOf c (Streams direction) look = endOf c (Done (value.Streams direction)) Nothing
 ownOf c (Supported field stream) look = ownSupported c stream look
-ownOf c (Xfer stream) look = ownXfer c stream
+ownOf c (Xfer stream) look = ownXfer c stream look
 
 -- ---- A NEW CALL. "Order: BadLength, 1 for a state or ring that fails the consistency test, Busy, format or rate number out of range, set-up,
 -- then the call's own checks."
@@ -141,7 +170,7 @@ refusalOf status (verdict.Refused r) = r
 
 -- the core once the jacks, the streams, the maps are read
 abbrev pub readTo : Core → ℕ → ℕ → ℕ → Bool → Core
-readTo c jacks streams maps ready = record { counts = c .counts; read = record { jacks = jacks; streams = streams; maps = maps }; ready = ready; stage = c .stage }
+readTo c jacks streams maps ready = record { counts = c .counts; guard = c .guard; read = record { jacks = jacks; streams = streams; maps = maps }; ready = ready; stage = c .stage }
 
 -- "A status not ok or queue failure on jacks or channel maps gives an empty table and set-up goes on." An ok header with too many records ends it with 5
 unfoldable pub afterJacks : Core → Call → Verdict → Plan
@@ -176,10 +205,10 @@ storedOf p =
       rate = p .rate;
     }
 
--- "Status ok stores all seven values; else 2."
+-- "Status ok stores all seven values; else 2." An ok command moves its stream
 abbrev pub effectOf : Call → Effect
 effectOf (SetParams stream to) = Store stream (storedOf to)
-effectOf (Command kind stream) = Nothing
+effectOf (Command kind stream) = Move stream (kindLife kind)
 effectOf (Remap jack association sequence) = Nothing
 effectOf (Streams direction) = Nothing
 effectOf (Supported field stream) = Nothing

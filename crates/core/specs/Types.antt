@@ -1,7 +1,7 @@
 -- The types of the code, and their cases, as definitions and laws name them. Where two bear one name, the other stands beside its use.
 -- Assumes nothing.
 pub use Rattle.codes.specs.declared.answers.Refusal.{Refusal}
-pub use Rattle.codes.specs.declared.answers.Refusal.the-variants.{InvalidParam, IoError, Busy, BadLength, Unsupported, NoInfo, TooMany}
+pub use Rattle.codes.specs.declared.answers.Refusal.the-variants.{InvalidParam, IoError, Busy, BadLength, Unsupported, NoInfo, TooMany, BadState}
 pub use Rattle.records.specs.declared.control.SetParameters.{SetParameters}
 pub use Rattle.tables.specs.declared.verdict.Verdict.{Verdict}
 pub use Rattle.tables.specs.declared.verdict.Written.{Written}
@@ -23,6 +23,6 @@ pub use Rattle.core.specs.declared.plan.Look.{Look}
 pub use Rattle.core.specs.declared.plan.Say.{Say}
 pub use Rattle.core.specs.declared.plan.Say.the-variants.{Send, Done, Refused}
 pub use Rattle.core.specs.declared.plan.Effect.{Effect}
-pub use Rattle.core.specs.declared.plan.Effect.the-variants.{Nothing, FillJacks, FillStreams, FillMaps, Store}
+pub use Rattle.core.specs.declared.plan.Effect.the-variants.{Nothing, FillJacks, FillStreams, FillMaps, Store, Move}
 pub use Rattle.core.specs.declared.plan.Plan.{Plan}
 pub use Rattle.core.specs.declared.reply.Reply.{Reply}

@@ -5,7 +5,7 @@ ghost use mathlib.Core.Path.{_≡_};
 ghost use mathlib.Core.Bool.{_&&_, _||_};
 ghost use lib.Dec.{ltb};
 ghost use Rattle.codes.specs.Says.{pick};
-ghost use Rattle.core.specs.Consistent.{periodOk, numbersOk, callOk, sentOk, stageOk, queriesAnswered, exactly, noneOrAll, tablesOk, bothOrNeither, consistentOf, paramsOk, streamOk};
+ghost use Rattle.core.specs.Consistent.{periodOk, numbersOk, callOk, heldTo, sentOk, stageOk, queriesAnswered, exactly, noneOrAll, tablesOk, bothOrNeither, consistentOf, paramsOk, streamOk};
 use crate::state::Call;
 use crate::state::Core;
 use crate::state::Counts;
@@ -29,6 +29,13 @@ fn both_or_neither(a: bool, b: bool) -> bool
     ensures { λ r. ⌜ r ≡ bothOrNeither a b ⌝ }
 {
     if a { b } else { !b }
+}
+
+// A test that is made under the guard alone.
+pub(crate) fn held_to(guard: bool, test: bool) -> bool
+    ensures { λ r. ⌜ r ≡ heldTo guard test ⌝ }
+{
+    if guard { test } else { true }
 }
 
 // The period rule.
@@ -77,12 +84,12 @@ fn set_ok(stream: u32, to: Params, streams: u32) -> bool
 }
 
 // A call whose own request is out.
-fn sent_ok(call: Call, streams: u32) -> bool
-    ensures { λ r. ⌜ r ≡ sentOk call streams ⌝ }
+fn sent_ok(guard: bool, call: Call, streams: u32) -> bool
+    ensures { λ r. ⌜ r ≡ sentOk guard call streams ⌝ }
 {
     match call {
         Call::SetParams { stream, to } => set_ok(stream, to, streams),
-        Call::Command { kind: _, stream: _ } => true,
+        Call::Command { kind: _, stream } => held_to(guard, stream < streams),
         Call::Remap {
             jack: _,
             association: _,
@@ -97,15 +104,15 @@ fn sent_ok(call: Call, streams: u32) -> bool
     }
 }
 
-fn stage_ok(g: Stage, streams: u32) -> bool
-    ensures { λ r. ⌜ r ≡ stageOk g streams ⌝ }
+fn stage_ok(guard: bool, g: Stage, streams: u32) -> bool
+    ensures { λ r. ⌜ r ≡ stageOk guard g streams ⌝ }
 {
     match g {
         Stage::Idle => true,
         Stage::JacksAsked(call) => call_ok(call),
         Stage::StreamsAsked(call) => call_ok(call),
         Stage::MapsAsked(call) => call_ok(call),
-        Stage::Sent(call) => sent_ok(call, streams),
+        Stage::Sent(call) => sent_ok(guard, call, streams),
     }
 }
 
@@ -156,7 +163,7 @@ pub fn consistent(c: Core) -> bool
     let n = queries_answered(stage, c.ready);
     let done = both_or_neither(c.ready, n == 3);
     let tables = tables_ok(c.read, c.counts, n);
-    both(done, both(tables, stage_ok(stage, c.read.streams)))
+    both(done, both(tables, stage_ok(c.guard, stage, c.read.streams)))
 }
 
 // Parameters that are set pass the period rule, and their numbers are in range.

@@ -3,13 +3,14 @@ ghost use mathlib.Core.Path.{_≡_};
 ghost use Rattle.records.specs.Records.{jackInfo};
 ghost use Rattle.layout.specs.Layout.{size};
 ghost use Rattle.codes.specs.Says.{pick};
-ghost use Rattle.core.specs.Plan.{sendOf, endOf, refuseOf, cutShortOf, queryOf, kindCode, setOf, ownSet, ownRemap, ownSupported, ownXfer, ownOf, isIdle, setUpOf, beginOf, refusalOf, afterJacks, afterStreams, afterMaps, storedOf, effectOf, afterSent, answerBy, answerOf, canRemap, foundOf, statusRefusal};
-ghost use Rattle.core.specs.declared.state.Call.the-variants.{Command};
-ghost use Rattle.core.specs.declared.state.Stage.the-variants.{JacksAsked, Sent};
-ghost use Rattle.core.specs.declared.plan.Request.the-variants as request;
+ghost use Rattle.codes.specs.Life.{permitsOf};
+ghost use Rattle.core.specs.Consistent.{heldTo};
+ghost use Rattle.core.specs.Plan.{sendOf, endOf, refuseOf, cutShortOf, queryOf, kindCode, kindLife, setOf, lifeIn, ownSet, ownCommand, ownRemap, ownSupported, ownXfer, ownOf, isIdle, setUpOf, beginOf, refusalOf, afterJacks, afterStreams, afterMaps, storedOf, effectOf, afterSent, answerBy, answerOf, canRemap, foundOf, statusRefusal};
+ghost use Rattle.core.specs.declared.state.Stage.the-variants.{JacksAsked};
 ghost use Rattle.core.specs.declared.plan.Effect.the-variants as done;
 use crate::consistency::call_ok;
 use crate::consistency::consistent;
+use crate::consistency::held_to;
 use crate::consistency::period_ok;
 use crate::plan::Effect;
 use crate::plan::Look;
@@ -26,6 +27,7 @@ use crate::state::Stage;
 use codes::JackFeatures;
 use codes::Refusal;
 use codes::both;
+use codes::life;
 use records::ChannelMap;
 use records::JackInfo;
 use records::PcmCommand;
@@ -129,6 +131,18 @@ fn kind_code(kind: Kind) -> u32
     }
 }
 
+// The state that an ok command leads to.
+fn kind_life(kind: Kind) -> u8
+    ensures { λ r. ⌜ r ≡ kindLife kind ⌝ }
+{
+    match kind {
+        Kind::Prepare => life::PREPARE,
+        Kind::Release => life::RELEASE,
+        Kind::Start => life::START,
+        Kind::Stop => life::STOP,
+    }
+}
+
 fn set_parameters(stream: u32, p: Params) -> SetParameters
     ensures { λ r. ⌜ r ≡ setOf stream p ⌝ }
 {
@@ -147,9 +161,29 @@ fn set_parameters(stream: u32, p: Params) -> SetParameters
 
 // ---- the call's own part, once set-up is done
 
-fn own_set(c: Core, stream: u32, to: Params) -> Plan
-    ensures { λ r. ⌜ r ≡ ownSet c stream to ⌝ }
+// Where the stream is in its lifecycle; any other look is no state.
+fn life_in(look: Look) -> u8
+    ensures { λ r. ⌜ r ≡ lifeIn look ⌝ }
 {
+    match look {
+        Look::Nothing => 5,
+        Look::Jack { features: _ } => 5,
+        Look::Stream(_) => 5,
+        Look::Life(life) => life,
+    }
+}
+
+// The lifecycle's table permits a command of the stream that was looked at, or there is no guard.
+fn may(guard: bool, look: Look, command: u8) -> bool
+    ensures { λ r. ⌜ r ≡ heldTo guard (permitsOf (lifeIn look) command) ⌝ }
+{
+    held_to(guard, life::permits(life_in(look), command))
+}
+
+fn own_set(c: Core, stream: u32, to: Params, look: Look) -> Plan
+    ensures { λ r. ⌜ r ≡ ownSet c stream to look ⌝ }
+{
+    let permitted = may(c.guard, look, life::SET_PARAMETERS);
     if !period_ok(to.buffer, to.period) {
         return end(c, Say::Refused(Refusal::InvalidParam), Effect::Nothing);
     }
@@ -157,14 +191,25 @@ fn own_set(c: Core, stream: u32, to: Params) -> Plan
     if streams <= stream {
         return end(c, Say::Refused(Refusal::InvalidParam), Effect::Nothing);
     }
+    if !permitted {
+        return end(c, Say::Refused(Refusal::BadState), Effect::Nothing);
+    }
     let q = Request::Set(set_parameters(stream, to));
     let sent = Stage::Sent(Call::SetParams { stream, to });
     send(c, sent, q, Effect::Nothing)
 }
 
-fn own_command(c: Core, kind: Kind, stream: u32) -> Plan
-    ensures { λ r. ⌜ r ≡ sendOf c (Sent (Command kind stream)) (request.Command (record { code = kindCode kind; stream = stream })) done.Nothing ⌝ }
+fn own_command(c: Core, kind: Kind, stream: u32, look: Look) -> Plan
+    ensures { λ r. ⌜ r ≡ ownCommand c kind stream look ⌝ }
 {
+    let there = held_to(c.guard, stream < c.counts.streams);
+    let permitted = may(c.guard, look, kind_life(kind));
+    if !there {
+        return end(c, Say::Refused(Refusal::InvalidParam), Effect::Nothing);
+    }
+    if !permitted {
+        return end(c, Say::Refused(Refusal::BadState), Effect::Nothing);
+    }
     let q = Request::Command(PcmCommand {
         code: kind_code(kind),
         stream,
@@ -184,6 +229,7 @@ fn can_remap(look: Look) -> bool
         Look::Nothing => false,
         Look::Jack { features } => JackFeatures::from_bits_retain(features).has_remap(),
         Look::Stream(_) => false,
+        Look::Life(_) => false,
     }
 }
 
@@ -220,6 +266,7 @@ fn found(look: Look) -> Value
         Look::Nothing => Value::Nothing,
         Look::Jack { features: _ } => Value::Nothing,
         Look::Stream(value) => value,
+        Look::Life(_) => Value::Nothing,
     }
 }
 
@@ -234,11 +281,15 @@ fn own_supported(c: Core, stream: u32, look: Look) -> Plan
 
 // A transfer that had to begin set-up never runs: in a state that calls left no stream has
 // parameters yet.
-fn own_xfer(c: Core, stream: u32) -> Plan
-    ensures { λ r. ⌜ r ≡ ownXfer c stream ⌝ }
+fn own_xfer(c: Core, stream: u32, look: Look) -> Plan
+    ensures { λ r. ⌜ r ≡ ownXfer c stream look ⌝ }
 {
+    let taken = held_to(c.guard, life::takes(life_in(look)));
     if c.counts.streams <= stream {
         return end(c, Say::Refused(Refusal::InvalidParam), Effect::Nothing);
+    }
+    if !taken {
+        return end(c, Say::Refused(Refusal::BadState), Effect::Nothing);
     }
     end(c, Say::Refused(Refusal::IoError), Effect::Nothing)
 }
@@ -247,8 +298,8 @@ fn own(c: Core, call: Call, look: Look) -> Plan
     ensures { λ r. ⌜ r ≡ ownOf c call look ⌝ }
 {
     match call {
-        Call::SetParams { stream, to } => own_set(c, stream, to),
-        Call::Command { kind, stream } => own_command(c, kind, stream),
+        Call::SetParams { stream, to } => own_set(c, stream, to, look),
+        Call::Command { kind, stream } => own_command(c, kind, stream, look),
         Call::Remap {
             jack,
             association,
@@ -258,7 +309,7 @@ fn own(c: Core, call: Call, look: Look) -> Plan
             end(c, Say::Done(Value::Streams { direction }), Effect::Nothing)
         }
         Call::Supported { field: _, stream } => own_supported(c, stream, look),
-        Call::Xfer { stream } => own_xfer(c, stream),
+        Call::Xfer { stream } => own_xfer(c, stream, look),
     }
 }
 
@@ -421,7 +472,7 @@ fn stored(p: Params) -> Params
     Params { known: 1, ..p }
 }
 
-// Parameters are stored when the answer is ok, and not before.
+// Parameters are stored, and a stream is moved, when the answer is ok, and not before.
 fn effect_of(call: Call) -> Effect
     ensures { λ r. ⌜ r ≡ effectOf call ⌝ }
 {
@@ -432,7 +483,12 @@ fn effect_of(call: Call) -> Effect
                 to: stored(to),
             }
         }
-        Call::Command { kind: _, stream: _ } => Effect::Nothing,
+        Call::Command { kind, stream } => {
+            Effect::Move {
+                stream,
+                life: kind_life(kind),
+            }
+        }
         Call::Remap {
             jack: _,
             association: _,

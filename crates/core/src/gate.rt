@@ -1,14 +1,16 @@
-// The checks of a transfer, on the core and on its stream's own parameters.
+// The checks of a transfer, on the core, on its stream's own parameters and its place in its lifecycle.
 ghost use mathlib.Core.Path.{_≡_};
 ghost use Rattle.core.specs.Gate.{gateBy, restBy};
 ghost use Rattle.core.specs.declared.gate.Gate.the-variants.{Shut, SetUp, Open};
 use crate::consistency::consistent;
+use crate::consistency::held_to;
 use crate::consistency::stream_ok;
 use crate::decide::is_idle_stage;
 use crate::state::Core;
 use crate::state::Params;
 use codes::Refusal;
 use codes::both;
+use codes::life::takes;
 use turns::Track;
 use turns::is_consistent;
 use turns::is_idle;
@@ -20,15 +22,19 @@ pub enum Gate {
     Open(u32),
 }
 
-// Set-up, then the stream's range, then its parameters.
-fn checked_by(c: Core, stream: u32, p: Params) -> Gate
-    ensures { λ r. ⌜ r ≡ restBy c p stream Shut SetUp Open ⌝ }
+// Set-up, then the stream's range, its place in its lifecycle, and its parameters.
+fn checked_by(c: Core, stream: u32, p: Params, life: u8) -> Gate
+    ensures { λ r. ⌜ r ≡ restBy c p life stream Shut SetUp Open ⌝ }
 {
+    let taken = held_to(c.guard, takes(life));
     if !c.ready {
         return Gate::SetUp;
     }
     if c.counts.streams <= stream {
         return Gate::Shut(Refusal::InvalidParam);
+    }
+    if !taken {
+        return Gate::Shut(Refusal::BadState);
     }
     if p.known == 0 {
         return Gate::Shut(Refusal::IoError);
@@ -38,8 +44,8 @@ fn checked_by(c: Core, stream: u32, p: Params) -> Gate
 
 // The checks of a transfer, with the stream's own parameters: lengths, then consistency, then Busy,
 // then the rest.
-pub fn xfer_gate(lengths: bool, c: Core, p: Params, t: Track, stream: u32) -> Gate
-    ensures { λ r. ⌜ r ≡ gateBy lengths c p t stream Shut SetUp Open ⌝ }
+pub fn xfer_gate(lengths: bool, c: Core, p: Params, life: u8, t: Track, stream: u32) -> Gate
+    ensures { λ r. ⌜ r ≡ gateBy lengths c p life t stream Shut SetUp Open ⌝ }
 {
     let stage = c.stage;
     let own = stream_ok(c, stream, p);
@@ -54,5 +60,5 @@ pub fn xfer_gate(lengths: bool, c: Core, p: Params, t: Track, stream: u32) -> Ga
     if !free {
         return Gate::Shut(Refusal::Busy);
     }
-    checked_by(c, stream, p)
+    checked_by(c, stream, p, life)
 }

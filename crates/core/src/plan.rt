@@ -23,12 +23,13 @@ pub enum Value {
     Streams { direction: u8 },
 }
 
-// What a call looks up in a table before it is decided: a jack's features, or the field of a stream's
-// record that is asked for.
+// What a call looks up in a table before it is decided: a jack's features, the field of a stream's
+// record that is asked for, or where a stream is in its lifecycle.
 pub enum Look {
     Nothing,
     Jack { features: u32 },
     Stream(Value),
+    Life(u8),
 }
 
 pub enum Say {
@@ -37,7 +38,7 @@ pub enum Say {
     Refused(Refusal),
 }
 
-// The one change to tables and parameters.
+// The one change to tables, parameters and lifecycles.
 pub enum Effect {
     Nothing,
     // So many records of the page that was judged.
@@ -45,6 +46,8 @@ pub enum Effect {
     FillStreams(u32),
     FillMaps(u32),
     Store { stream: u32, to: Params },
+    // To where an ok command moves its stream, under the guard.
+    Move { stream: u32, life: u8 },
 }
 
 pub struct Plan {

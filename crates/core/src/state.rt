@@ -76,6 +76,8 @@ pub enum Stage {
 pub struct Core {
     // As configured.
     pub counts: Counts,
+    // Commands are held to the standard's lifecycle. Fixed when the state is made.
+    pub guard: bool,
     // As read: how many records of each table count.
     pub read: Counts,
     // Set-up is done.
@@ -84,9 +86,9 @@ pub struct Core {
 }
 
 impl Core {
-    // The core before any call, from the configured counts.
-    pub fn new(jacks: u32, streams: u32, maps: u32) -> Core
-        ensures { λ r. ⌜ r ≡ newCore jacks streams maps ⌝ }
+    // The core before any call, with the guard or without, from the configured counts.
+    pub fn new(guard: bool, jacks: u32, streams: u32, maps: u32) -> Core
+        ensures { λ r. ⌜ r ≡ newCore guard jacks streams maps ⌝ }
     {
         Core {
             counts: Counts {
@@ -94,6 +96,7 @@ impl Core {
                 streams,
                 maps,
             },
+            guard,
             read: Counts {
                 jacks: 0,
                 streams: 0,

@@ -11,6 +11,7 @@ use Rattle.exchange.specs.State.{saysConfigured}
 use Rattle.exchange.specs.Types.{Configured}
 use Rattle.exchange.specs.declared.state.Configured.the-variants as configured
 use Rattle.exchange.proofs.state.Sound.new.Reads as new
+use Rattle.exchange.proofs.state.Sound.new_guarded.Reads as new-guarded
 use Rattle.exchange.proofs.state.Sound.jacks.Reads as jacks
 use Rattle.exchange.proofs.state.Sound.streams.Reads as streams
 use Rattle.exchange.proofs.state.Sound.chmaps.Reads as chmaps
@@ -34,6 +35,9 @@ use Rattle.exchange.proofs.xfer.pcm_xfer.Reads as pcm-xfer
 
 pub new-one : (κs : _) (a : _) (r₁ r₂ : _) (e₁ e₂ : _) → new.Post κs a r₁ e₁ → new.Post κs a r₂ e₂ → r₁ ≡ r₂
 new-one κs a r₁ r₂ e₁ e₂ p q = same p q
+
+pub new-guarded-one : (κs : _) (a : _) (r₁ r₂ : _) (e₁ e₂ : _) → new-guarded.Post κs a r₁ e₁ → new-guarded.Post κs a r₂ e₂ → r₁ ≡ r₂
+new-guarded-one κs a r₁ r₂ e₁ e₂ p q = same p q
 
 unConfigured : Says → Configured
 unConfigured s = pick (eqb (s .number) 0) (configured.Is (getD (s .values) 0 0)) configured.InvalidParam

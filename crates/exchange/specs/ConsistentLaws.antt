@@ -24,7 +24,7 @@ either-of false b e = e
 pub record At (c : Core) (g : Stage) : Type 0 where
   pub done : bothOrNeither (c .ready) (eqb (queriesAnswered g (c .ready)) 3) ≡ true
   pub tables : tablesOk (c .read) (c .counts) (queriesAnswered g (c .ready)) ≡ true
-  pub call : stageOk g (c .read .streams) ≡ true
+  pub call : stageOk (c .guard) g (c .read .streams) ≡ true
 
 pub facts : (c : Core) → consistentOf c ≡ true → At c (c .stage)
 unfolding consistentOf

@@ -66,8 +66,8 @@ none-left (Sent call) h = absurd (omega arith)
 
 -- a call's own part sends at most one, and then waits for its answer alone
 own-asks : {c : Core} {look : Look} {call : Call} {p : Plan} → Own c look call p → (asked (replyOf (p .say)) ≤ 1) × (waits (p .core .stage) ≤ 1)
-own-asks (sets _ _) = (omega arith, omega arith)
-own-asks commands = (omega arith, omega arith)
+own-asks (sets _ _ _) = (omega arith, omega arith)
+own-asks (commands _ _) = (omega arith, omega arith)
 own-asks (remaps _ _ _) = (omega arith, omega arith)
 own-asks lists = (omega arith, omega arith)
 own-asks (tells _) = (omega arith, omega arith)

@@ -56,12 +56,12 @@ One n (x ∷ xs) = (n ≡ x) ⊎ One n xs
 
 -- with what a call may be refused once set-up is done
 abbrev pub ownRefusals : Call → List ℕ
-ownRefusals (SetParams stream to) = 1 ∷ []
-ownRefusals (Command kind stream) = []
+ownRefusals (SetParams stream to) = 1 ∷ 12 ∷ []
+ownRefusals (Command kind stream) = 1 ∷ 12 ∷ []
 ownRefusals (Remap jack association sequence) = 1 ∷ 3 ∷ 4 ∷ []
 ownRefusals (Streams direction) = []
 ownRefusals (Supported field stream) = 1 ∷ []
-ownRefusals (Xfer stream) = 1 ∷ 2 ∷ []
+ownRefusals (Xfer stream) = 1 ∷ 2 ∷ 12 ∷ []
 
 -- a query of set-up is out
 abbrev pub asking : Stage → Bool

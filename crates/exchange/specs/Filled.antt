@@ -22,7 +22,7 @@ use Rattle.exchange.specs.Feed.{Feed, paged, failed, pageOf, planOf, fed
 use Rattle.exchange.specs.StayLaws.{called-stays, called-quiet, fed-stays}
 use Rattle.exchange.specs.Xfer.{startOf, xferOf}
 use Rattle.exchange.specs.XferLaws.{start-by, script-by}
-use Rattle.exchange.specs.Types.{Written, Verdict, Track, Ring, Counts, Call, SetParams, Command, Remap, Streams, Supported, Xfer, Stage, StreamsAsked, Core, Sound, Effect, Nothing, FillJacks, FillStreams, FillMaps, Store, Look, Plan}
+use Rattle.exchange.specs.Types.{Written, Verdict, Track, Ring, Counts, Call, SetParams, Command, Remap, Streams, Supported, Xfer, Stage, StreamsAsked, Core, Sound, Effect, Nothing, FillJacks, FillStreams, FillMaps, Store, Move, Look, Plan}
 
 -- the stream table is that of a page
 abbrev pub Filled : Sound → List ℕ → Type 0
@@ -35,6 +35,7 @@ fills (FillJacks n) = false
 fills (FillStreams n) = true
 fills (FillMaps n) = false
 fills (Store stream to) = false
+fills (Move stream life) = false
 
 kept-table : (x : Effect) (c : Core) (s : Sound) (page old : List ℕ) → fills x ≡ false → c .counts .streams ≡ s .core .counts .streams → Filled s old → Filled (soundAfter x c s page) old
 kept-table Nothing c s page old e n f i h = f i (omega arith)
@@ -42,6 +43,7 @@ kept-table (FillJacks m) c s page old e n f i h = f i (omega arith)
 kept-table (FillStreams m) c s page old e n f i h = absurd (false≢true (sym e))
 kept-table (FillMaps m) c s page old e n f i h = f i (omega arith)
 kept-table (Store stream to) c s page old e n f i h = f i (omega arith)
+kept-table (Move stream life) c s page old e n f i h = f i (omega arith)
 
 new-table : (x : Effect) (c : Core) (s : Sound) (w : Written) (page : List ℕ) → x ≡ FillStreams (c .counts .streams) → isGood (judged w page (c .counts .streams) 32) ≡ true → Filled (soundAfter x c s page) page
 new-table x c s w page e g =

@@ -5,20 +5,20 @@ use mathlib.Core.Bool.{Bool, true, false, _&&_, false≢true}
 use mathlib.Core.List.{List}
 use Prim.Native.Nat.{ℕ, _≤_, _<_}
 use native.Mathlib.Omega.{arith}
-use lib.Dec.{eqb}
+use lib.Dec.{ltb, eqb}
 use borrow.Author.Tests.{lt-ltb}
 use Rattle.tables.specs.Tables.{isGood}
 use Rattle.tables.specs.TablesLaws.{good-whole}
 use Rattle.turns.specs.ConsistentLaws.{both}
 use Rattle.core.specs.State.{withStage}
-use Rattle.core.specs.Consistent.{periodOk, callOk, numbersOk, sentOk, queriesAnswered, exactly, noneOrAll, tablesOk, consistentOf, paramsOk}
+use Rattle.core.specs.Consistent.{periodOk, callOk, numbersOk, heldTo, sentOk, queriesAnswered, exactly, noneOrAll, tablesOk, consistentOf, paramsOk}
 use Rattle.exchange.specs.ConsistentLaws.{At, facts-at, ready-sent, full, exactly-self, noneOrAll-self, ready-tables, sent-facts}
 use Rattle.core.specs.Plan.{effectOf, verdictBy, readTo}
 use Rattle.exchange.specs.OwnLaws.{Own, sets, commands, remaps, lists, tells, refuses, picked-by}
 use Rattle.exchange.specs.PlanLaws.{Begun, bars, asks, goes, begun, counted, Answered, short, idle, asks-streams, asks-maps, cuts, finishes, ends, fails, fed}
 use Rattle.exchange.specs.Exchange.{callOf}
 use Rattle.exchange.specs.Feed.{Feed, paged, failed, planOf, verdictOf}
-use Rattle.exchange.specs.Types.{Written, Verdict, Track, Counts, Params, Call, SetParams, Command, Remap, Streams, Supported, Xfer, Stage, Idle, JacksAsked, StreamsAsked, MapsAsked, Sent, Core, Sound, Effect, Nothing, FillJacks, FillStreams, FillMaps, Store, Look, Plan}
+use Rattle.exchange.specs.Types.{Written, Verdict, Track, Counts, Params, Kind, Call, SetParams, Command, Remap, Streams, Supported, Xfer, Stage, Idle, JacksAsked, StreamsAsked, MapsAsked, Sent, Core, Sound, Effect, Nothing, FillJacks, FillStreams, FillMaps, Store, Move, Look, Plan}
 
 abbrev pub Allowed : Core → Effect → Type 0
 Allowed c Nothing = Unit {0}
@@ -26,6 +26,7 @@ Allowed c (FillJacks n) = Unit {0}
 Allowed c (FillStreams n) = Unit {0}
 Allowed c (FillMaps n) = Unit {0}
 Allowed c (Store stream to) = (paramsOk to ≡ true) × (c .ready ≡ true) × (stream < c .counts .streams)
+Allowed c (Move stream life) = c .ready ≡ true
 
 pub record Fine (c : Core) (p : Plan) : Type 0 where
   pub consistent : consistentOf (p .core) ≡ true
@@ -44,20 +45,23 @@ module _ (c : Core) (r : c .ready ≡ true) (t : tablesOk (c .read) (c .counts) 
   unfolding consistentOf
   idle-fine = rw (r, t)
 
-  sent-fine : (call : Call) → sentOk call (c .read .streams) ≡ true → consistentOf (withStage c (Sent call)) ≡ true
+  sent-fine : (call : Call) → sentOk (c .guard) call (c .read .streams) ≡ true → consistentOf (withStage c (Sent call)) ≡ true
   unfolding consistentOf
   sent-fine call h = rw (r, t, h)
 
   set-fine : (stream : ℕ) (to : Params) → numbersOk to ≡ true → periodOk (to .buffer) (to .period) ≡ true → stream < c .counts .streams
-      → sentOk (SetParams stream to) (c .read .streams) ≡ true
+      → sentOk (c .guard) (SetParams stream to) (c .read .streams) ≡ true
   set-fine stream to n p h =
       let f = full (c .read) (c .counts) t in
       let k = lt-ltb stream (c .read .streams) (omega (arith, f .streams)) in
       rw (n, p, k)
 
+  command-fine : (kind : Kind) (stream : ℕ) → heldTo (c .guard) (ltb stream (c .counts .streams)) ≡ true → sentOk (c .guard) (Command kind stream) (c .read .streams) ≡ true
+  command-fine kind stream h = ap (λ (n : ℕ). heldTo (c .guard) (ltb stream n)) (full (c .read) (c .counts) t .streams) ∙ h
+
   pub own-fine : {look : Look} {call : Call} {p : Plan} → callOk call ≡ true → Own c look call p → Fine c p
-  own-fine ok (sets {stream} {to} p h) = record { consistent = sent-fine (SetParams stream to) (set-fine stream to ok p h); effect = tt }
-  own-fine ok (commands {kind} {stream}) = record { consistent = sent-fine (Command kind stream) refl; effect = tt }
+  own-fine ok (sets {stream} {to} p h _) = record { consistent = sent-fine (SetParams stream to) (set-fine stream to ok p h); effect = tt }
+  own-fine ok (commands {kind} {stream} h _) = record { consistent = sent-fine (Command kind stream) (command-fine kind stream h); effect = tt }
   own-fine ok (remaps {jack} {association} {sequence} h _ b) = record { consistent = sent-fine (Remap jack association sequence) refl; effect = tt }
   own-fine ok lists = record { consistent = idle-fine; effect = tt }
   own-fine ok (tells h) = record { consistent = idle-fine; effect = tt }
@@ -96,7 +100,7 @@ effect-fine c (SetParams stream to) a =
     let p = f .1 in
     let k = full (c .read) (c .counts) (a .tables) in
     (rw (n, p), ready-sent c (SetParams stream to) a, omega (arith, f .2, k .streams))
-effect-fine c (Command kind stream) a = tt
+effect-fine c (Command kind stream) a = ready-sent c (Command kind stream) a
 effect-fine c (Remap jack association sequence) a = tt
 effect-fine c (Streams direction) a = tt
 effect-fine c (Supported field stream) a = tt

@@ -9,15 +9,15 @@ use lib.ListN.{length, getD, set, replicate, length-set}
 use lib.Seq.{getD-set-other}
 use Rattle.tables.specs.TableLengthLaws.{jacks-length, streams-length, maps-length}
 use Rattle.core.specs.State.{unset}
-use Rattle.exchange.specs.State.{newSound, paramsOf}
+use Rattle.exchange.specs.State.{newSound, paramsOf, lifeOf}
 use Rattle.core.specs.Consistent.{consistentOf, paramsOk}
-use Rattle.exchange.specs.Tables.{soundAfter}
+use Rattle.exchange.specs.Tables.{moved, soundAfter}
 use Rattle.exchange.specs.Exchange.{stepOf, callOf}
 use Rattle.exchange.specs.Kept.{Kept}
 use Rattle.exchange.specs.FineLaws.{Allowed, Fine, called-fine, fed-fine}
 use Rattle.exchange.specs.Feed.{Feed, pageOf, planOf, fedOf}
 use Rattle.exchange.specs.StayLaws.{Stays, called-stays, fed-stays}
-use Rattle.exchange.specs.Types.{Track, JackInfo, PcmInfo, ChannelMap, Counts, Params, Call, Core, Sound, Effect, Nothing, FillJacks, FillStreams, FillMaps, Store, Plan}
+use Rattle.exchange.specs.Types.{Track, JackInfo, PcmInfo, ChannelMap, Counts, Params, Call, Core, Sound, Effect, Nothing, FillJacks, FillStreams, FillMaps, Store, Move, Plan}
 
 unset-known : (n i : ℕ) → getD (replicate n unset) i unset ≡ unset
 unset-known zero i = refl
@@ -32,21 +32,32 @@ set-by Q (x ∷ l) zero (suc i) to a b = b
 set-by Q (x ∷ l) (suc k) zero to a b = b
 set-by Q (x ∷ l) (suc k) (suc i) to a b = set-by Q l k i to a b
 
+pub zero-life : (n i : ℕ) → _≡_ {A = ℕ} (getD (replicate n 0) i 0) 0
+zero-life zero i = refl
+zero-life (suc n) zero = refl
+zero-life (suc n) (suc i) = zero-life n i
+
+moved-length : (guard : Bool) (l : List ℕ) (stream life : ℕ) → length (moved guard l stream life) ≡ length l
+moved-length true l stream life = length-set l stream life
+moved-length false l stream life = refl
+
 -- ---- a new state
 
-pub new-kept : (jacks streams maps : ℕ) → Kept (newSound jacks streams maps)
+pub new-kept : (guard : Bool) (jacks streams maps : ℕ) → Kept (newSound guard jacks streams maps)
 unfolding consistentOf
-new-kept jacks streams maps =
-    let p : (i : ℕ) → paramsOf (newSound jacks streams maps) i ≡ unset = unset-known 127 in
+new-kept guard jacks streams maps =
+    let p : (i : ℕ) → paramsOf (newSound guard jacks streams maps) i ≡ unset = unset-known 127 in
     record {
       consistent = refl;
       jacks = refl;
       pcms = refl;
       maps = refl;
       params = refl;
+      lives = refl;
       fine = λ i. ap paramsOk (p i);
       unset = λ _ i. ap (λ (q : Params). q .known) (p i);
       beyond = λ i _. ap (λ (q : Params). q .known) (p i);
+      early = λ _ i. zero-life 127 i;
     }
 
 -- ---- one step
@@ -61,7 +72,7 @@ module _ (s : Sound) (k : Kept s) (d : Core) (e : consistentOf d ≡ true) (n : 
 
   -- the tables may be others of their lengths
   tables-kept : (js : List JackInfo) (ps : List PcmInfo) (ms : List ChannelMap) → length js ≡ 170 → length ps ≡ 127 → length ms ≡ 170
-      → Kept (record { core = d; jacks = js; pcms = ps; maps = ms; params = s .params })
+      → Kept (record { core = d; jacks = js; pcms = ps; maps = ms; params = s .params; lives = s .lives })
   tables-kept js ps ms a b c =
       record {
         consistent = e;
@@ -69,14 +80,16 @@ module _ (s : Sound) (k : Kept s) (d : Core) (e : consistentOf d ≡ true) (n : 
         pcms = b;
         maps = c;
         params = k .params;
+        lives = k .lives;
         fine = k .fine;
         unset = λ h. k .unset (before (s .core .ready) (d .ready) r h);
         beyond = λ i h. k .beyond i (out i h);
+        early = λ h. k .early (before (s .core .ready) (d .ready) r h);
       }
 
   -- one stream's parameters are stored
   store-kept : (stream : ℕ) (to : Params) → paramsOk to ≡ true → s .core .ready ≡ true → stream < s .core .counts .streams
-      → Kept (record { core = d; jacks = s .jacks; pcms = s .pcms; maps = s .maps; params = set (s .params) stream to })
+      → Kept (record { core = d; jacks = s .jacks; pcms = s .pcms; maps = s .maps; params = set (s .params) stream to; lives = moved (d .guard) (s .lives) stream 0 })
   store-kept stream to ok done h =
       record {
         consistent = e;
@@ -84,9 +97,28 @@ module _ (s : Sound) (k : Kept s) (d : Core) (e : consistentOf d ≡ true) (n : 
         pcms = k .pcms;
         maps = k .maps;
         params = length-set (s .params) stream to ∙ k .params;
+        lives = moved-length (d .guard) (s .lives) stream 0 ∙ k .lives;
         fine = λ i. set-by (λ (p : Params). paramsOk p ≡ true) (s .params) stream i to ok (k .fine i);
         unset = λ f. absurd (false≢true (sym f ∙ r done));
         beyond = λ i b. ap (λ (p : Params). p .known) (getD-set-other (s .params) stream i to unset (λ x. omega (arith, out i b))) ∙ k .beyond i (out i b);
+        early = λ f. absurd (false≢true (sym f ∙ r done));
+      }
+
+  -- one stream is moved
+  move-kept : (stream life : ℕ) → s .core .ready ≡ true
+      → Kept (record { core = d; jacks = s .jacks; pcms = s .pcms; maps = s .maps; params = s .params; lives = moved (d .guard) (s .lives) stream life })
+  move-kept stream life done =
+      record {
+        consistent = e;
+        jacks = k .jacks;
+        pcms = k .pcms;
+        maps = k .maps;
+        params = k .params;
+        lives = moved-length (d .guard) (s .lives) stream life ∙ k .lives;
+        fine = k .fine;
+        unset = λ f. absurd (false≢true (sym f ∙ r done));
+        beyond = λ i h. k .beyond i (out i h);
+        early = λ f. absurd (false≢true (sym f ∙ r done));
       }
 
   effect-kept : (x : Effect) (page : List ℕ) → Allowed (s .core) x → Kept (soundAfter x d s page)
@@ -95,6 +127,7 @@ module _ (s : Sound) (k : Kept s) (d : Core) (e : consistentOf d ≡ true) (n : 
   effect-kept (FillStreams n) page a = tables-kept (s .jacks) _ (s .maps) (k .jacks) (streams-length page n (s .pcms) (k .pcms)) (k .maps)
   effect-kept (FillMaps n) page a = tables-kept (s .jacks) (s .pcms) _ (k .jacks) (k .pcms) (maps-length page n (s .maps) (k .maps))
   effect-kept (Store stream to) page a = store-kept stream to (a .0) (a .1) (a .2)
+  effect-kept (Move stream life) page a = move-kept stream life a
 
 pub step-kept : (s : Sound) (p : Plan) (page : List ℕ) → Kept s → Stays (s .core) p → Fine (s .core) p → Kept (soundAfter (p .effect) (p .core) s page)
 step-kept s p page k a f = effect-kept s k (p .core) (f .consistent) (a .counts) (a .ready) (p .effect) page (f .effect)

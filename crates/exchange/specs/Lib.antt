@@ -20,6 +20,7 @@ pub mod Fields
 pub mod Lists
 pub mod Reached
 pub mod Demand
+pub mod Lifecycle
 -- laws
 pub mod ConsistentLaws
 pub mod OwnLaws

@@ -1,13 +1,14 @@
 -- "A state and ring that calls left", word for word: made new and then called, fed and turned in any way. They have the invariant, and demand 3's premises can be met.
 -- Assumes nothing.
 use mathlib.Core.Path.{_≡_, refl}
-use mathlib.Core.Bool.{false}
+use mathlib.Core.Bool.{Bool, true, false, false≢true}
 use mathlib.Core.List.{List, [], _∷_}
 use Prim.Native.Nat.{ℕ}
 use native.Mathlib.Omega.{arith}
 use lib.ListN.{length, replicate}
 use Rattle.layout.specs.Bytes.{un, bytesAt, numAt}
 use Rattle.codes.specs.Says.{guard}
+use Rattle.codes.specs.Life.{takesOf}
 use Rattle.tables.specs.Tables.{judged}
 use Rattle.turns.specs.Calls.{turnCall, drainCall, turnedOf, startCall, startedOf}
 use Rattle.turns.specs.Script.{transferOf}
@@ -17,7 +18,7 @@ use Rattle.turns.specs.ConsistentLaws.{Consistent, consistent-facts, consistent
 use Rattle.turns.specs.StaysConsistentLaws.{call-keeps, drain-keeps, start-keeps, new-passes}
 use Rattle.turns.specs.DemandLaws.{script-keeps}
 use Rattle.turns.specs.Ring.{direct, newTrack, newRing}
-use Rattle.exchange.specs.State.{newSound, paramsOf}
+use Rattle.exchange.specs.State.{newSound, paramsOf, lifeOf}
 use Rattle.core.specs.Consistent.{consistentOf}
 use Rattle.core.specs.Plan.{ownSet, beginOf, afterJacks, afterStreams, afterMaps, afterSent, answerOf}
 use Rattle.exchange.specs.Exchange.{stepOf, callOf, feedOf, failOf}
@@ -30,7 +31,7 @@ use Rattle.exchange.specs.Feed.{Feed, paged, failed, fedOf}
 use Rattle.exchange.specs.Types.{InFull, Ring, Reading, Call, SetParams, Idle, Sound}
 
 pub data Reached : Sound → Ring → Type 0 where
-  fresh : (jacks streams maps : ℕ) → Reached (newSound jacks streams maps) (newRing direct)
+  fresh : (guard : Bool) (jacks streams maps : ℕ) → Reached (newSound guard jacks streams maps) (newRing direct)
   called : {s : Sound} {r : Ring} (call : Call) (n : ℕ) → Reached s r → Reached (stepOf (callOf s (r .track) call n) s [] .sound) r
   fed : {s : Sound} {r : Ring} (f : Feed) → Reached s r → Reached (fedOf s f .sound) r
   started : {s : Sound} {r : Ring} (stream len budget n : ℕ) → Reached s r → Reached (startOf s r stream len budget n .sound) (startOf s r stream len budget n .ring)
@@ -53,7 +54,7 @@ module _ (s : Sound) (r : Ring) (stream budget n : ℕ) (c : Consistent (r .trac
 
 -- what calls left has the invariant
 pub reached-kept : {s : Sound} {r : Ring} → Reached s r → Kept s × Consistent (r .track)
-reached-kept (fresh jacks streams maps) = (new-kept jacks streams maps, consistent-facts (newTrack direct) new-passes)
+reached-kept (fresh guard jacks streams maps) = (new-kept guard jacks streams maps, consistent-facts (newTrack direct) new-passes)
 reached-kept (called {s} {r} call n h) = let k = reached-kept h in (call-kept s (r .track) call n (k .0), k .1)
 reached-kept (fed {s} f h) = let k = reached-kept h in (feed-kept s f (k .0), k .1)
 reached-kept (started {s} {r} stream len budget n h) = let k = reached-kept h in (start-kept s r stream len budget n (k .0), start-ring s r stream budget n (k .1) len)
@@ -65,11 +66,11 @@ reached-kept (ran {r} stream period budget frames script h) = let k = reached-ke
 reached-kept (renewed h) = (reached-kept h .0, consistent-facts (newTrack direct) new-passes)
 
 -- so demand 3 speaks of every state and ring that calls left
-pub reached-playable : {s : Sound} {r : Ring} (stream : ℕ) → Reached s r → (paramsOf s stream .known ≡ 0 → ⊥) → s .core .stage ≡ Idle → r .track .running ≡ false
+pub reached-playable : {s : Sound} {r : Ring} (stream : ℕ) → Reached s r → (paramsOf s stream .known ≡ 0 → ⊥) → (s .core .guard ≡ true → takesOf (lifeOf s stream) ≡ true) → s .core .stage ≡ Idle → r .track .running ≡ false
     → r .track .inflight ≡ 0 → Playable s r stream
-reached-playable {r} stream h set closed still empty =
+reached-playable {r} stream h set live closed still empty =
     let k = reached-kept h in
-    record { state = k .0; ring = consistent-true (r .track) (k .1); set = set; closed = closed; still = still; empty = empty }
+    record { state = k .0; ring = consistent-true (r .track) (k .1); set = set; live = live; closed = closed; still = still; empty = empty }
 
 -- ---- and they can be met: 2 streams, set parameters of stream 1; the queries of jacks and maps fail, those of streams and the setting are answered with ok
 
@@ -80,7 +81,7 @@ abbrev first : Call
 first = SetParams 1 (record { known = 0; buffer = 8192; period = 2048; features = 0; channels = 2; format = 5; rate = 7 })
 
 abbrev asked : Sound
-asked = stepOf (callOf (newSound 0 2 0) (newTrack direct) first 24) (newSound 0 2 0) [] .sound
+asked = stepOf (callOf (newSound false 0 2 0) (newTrack direct) first 24) (newSound false 0 2 0) [] .sound
 
 abbrev parametersSet : Sound
 parametersSet = after asked (failed 24 ∷ ok ∷ failed 24 ∷ ok ∷ [])
@@ -89,4 +90,4 @@ pub premises-met : Playable parametersSet (newRing direct) 1
 unfolding after callOf feedOf failOf beginOf answerOf afterJacks afterStreams afterMaps afterSent ownSet consistentOf placedOf pacedOf guard judged numAt bytesAt un
 premises-met =
     let k : _≡_ {A = ℕ} (paramsOf parametersSet 1 .known) 1 = refl in
-    reached-playable 1 (fed ok (fed (failed 24) (fed ok (fed (failed 24) (called first 24 (fresh 0 2 0)))))) (λ e. omega (arith, k, e)) refl refl refl
+    reached-playable 1 (fed ok (fed (failed 24) (fed ok (fed (failed 24) (called first 24 (fresh false 0 2 0)))))) (λ e. omega (arith, k, e)) (λ g. absurd (false≢true g)) refl refl refl

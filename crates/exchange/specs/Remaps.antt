@@ -23,8 +23,8 @@ Remappable s c jack = (jack < c .counts .jacks) × (c .read .jacks ≡ 0 → ⊥
 
 own-remaps : (s : Sound) {c : Core} {look : Look} {call : Call} {p : Plan} (q : records.Remap) → look ≡ lookOf s call → p .say ≡ Send (request.Remap q) → Own c look call p
     → Remappable s c (q .jack)
-own-remaps s q l e (sets _ _) = absurd (wrong (cc))
-own-remaps s q l e commands = absurd (wrong (cc))
+own-remaps s q l e (sets _ _ _) = absurd (wrong (cc))
+own-remaps s q l e (commands _ _) = absurd (wrong (cc))
 own-remaps s {c} q l e (remaps {jack} h z b) =
     let j : jack ≡ q .jack = cc in
     subst (λ (k : ℕ). Remappable s c k) j (h, z, ap canRemap (sym l) ∙ b)

@@ -1,5 +1,6 @@
--- The state: a core on which every decision is made, three tables, and the parameters of each stream.
+-- The state: a core on which every decision is made, three tables, and of each stream its parameters and where it is in its lifecycle.
 -- Assumes nothing.
+use mathlib.Core.Bool.{Bool}
 use mathlib.Core.List.{[], _∷_}
 use Prim.Native.Nat.{ℕ}
 use lib.ListN.{getD, replicate}
@@ -11,9 +12,10 @@ use Rattle.core.specs.Consistent.{consistentOf}
 use Rattle.exchange.specs.Types.{JackInfo, PcmInfo, Core, Params, Sound, Configured}
 use Rattle.exchange.specs.declared.state.Configured.the-variants as configured
 
--- the state from the three configured counts, before any call
-abbrev pub newSound : ℕ → ℕ → ℕ → Sound
-newSound jacks streams maps = record { core = newCore jacks streams maps; jacks = noJacks; pcms = noStreams; maps = noMaps; params = replicate 127 unset }
+-- the state from the three configured counts, with the guard or without, before any call: "every stream record gains its state, starting at 'set parameters'"
+abbrev pub newSound : Bool → ℕ → ℕ → ℕ → Sound
+newSound guard jacks streams maps =
+    record { core = newCore guard jacks streams maps; jacks = noJacks; pcms = noStreams; maps = noMaps; params = replicate 127 unset; lives = replicate 127 0 }
 
 -- the only looks into a table
 abbrev pub jackOf : Sound → ℕ → JackInfo
@@ -25,9 +27,12 @@ pcmOf s i = getD (s .pcms) i (pcmInfoOf [])
 abbrev pub paramsOf : Sound → ℕ → Params
 paramsOf s i = getD (s .params) i unset
 
+abbrev pub lifeOf : Sound → ℕ → ℕ
+lifeOf s i = getD (s .lives) i 0
+
 -- the same state on another core
 abbrev pub withCore : Core → Sound → Sound
-withCore c s = record { core = c; jacks = s .jacks; pcms = s .pcms; maps = s .maps; params = s .params }
+withCore c s = record { core = c; jacks = s .jacks; pcms = s .pcms; maps = s .maps; params = s .params; lives = s .lives }
 
 -- ---- a configured count: no set-up, never Busy; a state that fails the test tells none
 

@@ -27,7 +27,7 @@ use Rattle.exchange.specs.Tables.{pendingLook, soundAfter}
 use Rattle.exchange.specs.Exchange.{stepOf, feedOf, failOf}
 use Rattle.exchange.specs.Feed.{paged, longOf, Long}
 use Rattle.exchange.specs.PlanLaws.{Answered, short, idle, asks-streams, asks-maps, cuts, finishes, ends, fails, fed, long-of, long-verdict}
-use Rattle.exchange.specs.Types.{Refusal, Written, InFull, Short, QueueFailed, InvalidParam, BadLength, Verdict, Call, SetParams, Command, Remap, Streams, Supported, Xfer, Stage, Idle, JacksAsked, StreamsAsked, MapsAsked, Sent, Counts, Core, Look, Plan, Say, Send, Done, Refused, Sound, Effect, Nothing, FillJacks, FillStreams, FillMaps, Store}
+use Rattle.exchange.specs.Types.{Refusal, Written, InFull, Short, QueueFailed, InvalidParam, BadLength, Verdict, Call, SetParams, Command, Remap, Streams, Supported, Xfer, Stage, Idle, JacksAsked, StreamsAsked, MapsAsked, Sent, Counts, Core, Look, Plan, Say, Send, Done, Refused, Sound, Effect, Nothing, FillJacks, FillStreams, FillMaps, Store, Move}
 
 -- how much of a page is read, by what was asked: the header, and the records of a table
 abbrev pub readsOf : Stage → Counts → ℕ
@@ -71,6 +71,7 @@ module _ (w : ℕ) where
   Reads (FillStreams n) = 4 + n * size pcmInfo ≤ w
   Reads (FillMaps n) = 4 + n * size channelMap ≤ w
   Reads (Store stream to) = Unit {0}
+  Reads (Move stream life) = Unit {0}
 
   reads-own : (call : Call) → Reads (effectOf call)
   reads-own (SetParams stream to) = tt
@@ -130,10 +131,11 @@ module _ (w : ℕ) (p q : List ℕ) (l : length p ≡ length q) (e : bytesAt 0 w
   sound-alike : (x : Effect) (c : Core) (s : Sound) → Reads w x → soundAfter x c s p ≡ soundAfter x c s q
   unfolding jacksRead streamsRead mapsRead
   sound-alike Nothing c s h = refl
-  sound-alike (FillJacks n) c s h = λ i. record { core = c; jacks = table-alike jackAt (size jackInfo) n (s .jacks) jack-own h i; pcms = s .pcms; maps = s .maps; params = s .params }
-  sound-alike (FillStreams n) c s h = λ i. record { core = c; jacks = s .jacks; pcms = table-alike pcmAt (size pcmInfo) n (s .pcms) pcm-own h i; maps = s .maps; params = s .params }
-  sound-alike (FillMaps n) c s h = λ i. record { core = c; jacks = s .jacks; pcms = s .pcms; maps = table-alike mapAt (size channelMap) n (s .maps) map-own h i; params = s .params }
+  sound-alike (FillJacks n) c s h = λ i. record { core = c; jacks = table-alike jackAt (size jackInfo) n (s .jacks) jack-own h i; pcms = s .pcms; maps = s .maps; params = s .params; lives = s .lives }
+  sound-alike (FillStreams n) c s h = λ i. record { core = c; jacks = s .jacks; pcms = table-alike pcmAt (size pcmInfo) n (s .pcms) pcm-own h i; maps = s .maps; params = s .params; lives = s .lives }
+  sound-alike (FillMaps n) c s h = λ i. record { core = c; jacks = s .jacks; pcms = s .pcms; maps = table-alike mapAt (size channelMap) n (s .maps) map-own h i; params = s .params; lives = s .lives }
   sound-alike (Store stream to) c s h = refl
+  sound-alike (Move stream life) c s h = refl
 
   pub written-only : (s : Sound) (n : ℕ) → stepOf (feedOf (Bytes w) s p n) s p ≡ stepOf (feedOf (Bytes w) s q n) s q
   unfolding v
@@ -189,6 +191,7 @@ eleven refusal.QueueFailed e = absurd (omega arith)
 eleven refusal.Busy e = absurd (omega arith)
 eleven refusal.OutOfTurns e = absurd (omega arith)
 eleven refusal.BadLength e = absurd (omega arith)
+eleven refusal.BadState e = absurd (omega arith)
 eleven refusal.Short e = refl
 
 -- the number of what is said, 0 where it is no refusal

@@ -1,7 +1,7 @@
 -- The types of the code, and their cases, as definitions and laws name them. Where two bear one name, the other stands beside its use.
 -- Assumes nothing.
 pub use Rattle.codes.specs.declared.answers.Refusal.{Refusal}
-pub use Rattle.codes.specs.declared.answers.Refusal.the-variants.{QueueFailed, BadLength, Short, InvalidParam, IoError, Unsupported, NoInfo, TooMany, Busy}
+pub use Rattle.codes.specs.declared.answers.Refusal.the-variants.{QueueFailed, BadLength, Short, BadState, InvalidParam, IoError, Unsupported, NoInfo, TooMany, Busy}
 pub use Rattle.records.specs.declared.info.PcmInfo.{PcmInfo}
 pub use Rattle.records.specs.declared.info.JackInfo.{JackInfo}
 pub use Rattle.records.specs.declared.info.ChannelMap.{ChannelMap}
@@ -31,7 +31,7 @@ pub use Rattle.core.specs.declared.plan.Say.the-variants.{Refused, Done, Send}
 pub use Rattle.core.specs.declared.state.Field.{Field}
 pub use Rattle.core.specs.declared.state.Field.the-variants.{Rates, Formats, Channels, Features}
 pub use Rattle.core.specs.declared.plan.Effect.{Effect}
-pub use Rattle.core.specs.declared.plan.Effect.the-variants.{Nothing, FillJacks, FillStreams, FillMaps, Store}
+pub use Rattle.core.specs.declared.plan.Effect.the-variants.{Nothing, FillJacks, FillStreams, FillMaps, Store, Move}
 pub use Rattle.core.specs.declared.state.Kind.{Kind}
 pub use Rattle.core.specs.declared.gate.Gate.{Gate}
 pub use Rattle.core.specs.declared.gate.Gate.the-variants.{Shut, SetUp, Open}

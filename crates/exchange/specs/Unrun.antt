@@ -6,7 +6,8 @@ use mathlib.Core.List.{List, [], _∷_}
 use mathlib.Core.Logic.{inl, inr}
 use Prim.Native.Nat.{ℕ}
 use Rattle.codes.specs.Answers.{saysRefusal}
-use Rattle.exchange.specs.State.{paramsOf}
+use Rattle.codes.specs.Life.{takesOf}
+use Rattle.exchange.specs.State.{paramsOf, lifeOf}
 use Rattle.exchange.specs.ConsistentLaws.{facts, not-ready}
 use Rattle.core.specs.Consistent.{consistentOf}
 use Rattle.exchange.specs.OwnLaws.{Own, refuses}
@@ -28,13 +29,21 @@ pub record Pending (g : Stage) (stream : ℕ) : Type 0 where
   pub asks : asking g ≡ true
   pub call : callAt g ≡ Xfer stream
 
--- how a feed then ends: with the next query of set-up, and the transfer still waits; or with 1, 2, 5, 7 or 11, and the exchange is closed
+-- how a feed then ends: with the next query of set-up, and the transfer still waits; or with 1, 2, 5, 7, 11 or 12, and the exchange is closed
 pub data Unrun (stream : ℕ) : Reply → Stage → Type 0 where
   on : {n : ℕ} {g : Stage} → Pending g stream → Unrun stream (reply.Send n) g
-  over : (r : Refusal) → One (saysRefusal r .number) (1 ∷ 2 ∷ 5 ∷ 7 ∷ 11 ∷ []) → Unrun stream (reply.Refused r) Idle
+  over : (r : Refusal) → One (saysRefusal r .number) (1 ∷ 2 ∷ 5 ∷ 7 ∷ 11 ∷ 12 ∷ []) → Unrun stream (reply.Refused r) Idle
 
 own-unrun : {c : Core} {look : Look} {stream : ℕ} {p : Plan} → Own c look (Xfer stream) p → Unrun stream (replyOf (p .say)) (p .core .stage)
-own-unrun (refuses r o) = over r (elim o [ inl e ↦ inl e | inr f ↦ elim f [ inl e ↦ inr (inl e) | inr z ↦ absurd z ] ])
+own-unrun (refuses r o) = over r (elim o [ inl e ↦ inl e | inr f ↦ elim f [ inl e ↦ inr (inl e) | inr g ↦ elim g [ inl e ↦ inr (inr (inr (inr (inr (inl e))))) | inr z ↦ absurd z ] ] ])
+
+-- what cuts set-up short is among them
+cut-among : {n : ℕ} → One n (2 ∷ 5 ∷ 7 ∷ 11 ∷ []) → One n (2 ∷ 5 ∷ 7 ∷ 11 ∷ 12 ∷ [])
+cut-among (inl e) = inl e
+cut-among (inr (inl e)) = inr (inl e)
+cut-among (inr (inr (inl e))) = inr (inr (inl e))
+cut-among (inr (inr (inr (inl e)))) = inr (inr (inr (inl e)))
+cut-among (inr (inr (inr (inr z)))) = absurd z
 
 never : {A : Type 0} {g h : Stage} {stream : ℕ} → Pending g stream → g ≡ h → asking h ≡ false → A
 never q e f = absurd (false≢true (sym f ∙ sym (ap asking e) ∙ q .asks))
@@ -45,7 +54,7 @@ module _ (c : Core) (v : Verdict) (look : Look) (long : Bool) (stream : ℕ) (e 
   unrun (idle g) = never q (g e) refl
   unrun (asks-streams _ g) = on (record { asks = refl; call = sym (ap callAt g) ∙ q .call })
   unrun (asks-maps _ g _) = on (record { asks = refl; call = sym (ap callAt g) ∙ q .call })
-  unrun (cuts r _ k _ _) = over r (inr (k w))
+  unrun (cuts r _ k _ _) = over r (inr (cut-among (k w)))
   unrun (finishes _ g o) = own-unrun (recall (sym (ap callAt g) ∙ q .call) o)
   unrun (ends _ g _) = never q g refl
   unrun (fails _ _ g) = never q g refl
@@ -67,12 +76,15 @@ module _ (s : Sound) (r : Ring) (stream len budget n m : ℕ) where
   pub script-asks : (script : List ℕ) → Asks (xferOf s r stream len budget script n)
   script-asks script = script-by Asks s r stream len budget n (λ _ e. absurd (wrong (cc))) (λ _ _ _ _. record { asks = refl; call = refl }) script (λ e. absurd (wrong (cc)))
 
--- it ends at a feed with 1, 2, 5, 7 or 11, and never runs
+-- it ends at a feed with 1, 2, 5, 7, 11 or 12, and never runs
 pub xfer-after-setup-never-runs : (s : Sound) (f : Feed) (stream : ℕ) → Kept s → Long f → Pending (s .core .stage) stream → Unrun stream (fedOf s f .reply) (fedOf s f .sound .core .stage)
 xfer-after-setup-never-runs s f stream k l q =
     let long = long-of f l in
     step-unrun s (planOf s f) (pageOf f) stream (unrun (s .core) (verdictOf s f) _ (longOf f) stream (k .consistent) long (long-verdict s f long .0) q (fed s f))
 
--- and 2 is right then: no stream has parameters
+-- and 2 is right then: no stream has parameters; so is 12 under the guard: no stream is prepared
 pub pending-unset : (s : Sound) (stream i : ℕ) → Kept s → Pending (s .core .stage) stream → paramsOf s i .known ≡ 0
 pending-unset s stream i k q = k .unset (not-ready (s .core) (s .core .stage) (facts (s .core) (k .consistent)) (q .asks)) i
+
+pub pending-unprepared : (s : Sound) (stream i : ℕ) → Kept s → Pending (s .core .stage) stream → takesOf (lifeOf s i) ≡ false
+pending-unprepared s stream i k q = ap takesOf (k .early (not-ready (s .core) (s .core .stage) (facts (s .core) (k .consistent)) (q .asks)) i)

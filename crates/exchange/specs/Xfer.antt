@@ -16,13 +16,13 @@ use Rattle.core.specs.State.{withStage}
 use Rattle.core.specs.Plan.{queryOf, sendOf}
 use Rattle.core.specs.Gate.{gateBy}
 use Rattle.core.specs.Reply.{messageAfter}
-use Rattle.exchange.specs.State.{paramsOf, withCore}
+use Rattle.exchange.specs.State.{paramsOf, lifeOf, withCore}
 use Rattle.exchange.specs.declared.xfer.XferReply.the-variants.{Send}
 use Rattle.exchange.specs.Types.{Refusal, Track, Ring, Turned, Transferred, Xfer, JacksAsked, Sound, Nothing, Plan, XferReply, Says, XferStep}
 use Rattle.turns.specs.Ring.{saysSaid}
 
 abbrev pub xferBy : {A : Type 0} → Bool → Sound → Track → ℕ → (Refusal → A) → A → (ℕ → A) → A
-xferBy lengths s t stream refuse setUp go = gateBy lengths (s .core) (paramsOf s stream) t stream refuse setUp go
+xferBy lengths s t stream refuse setUp go = gateBy lengths (s .core) (paramsOf s stream) (lifeOf s stream) t stream refuse setUp go
 
 -- the state waits for the answer to the first query of set-up
 abbrev pub setUpPlan : Sound → ℕ → Plan

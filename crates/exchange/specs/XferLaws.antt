@@ -9,12 +9,13 @@ use lib.ListN.{length}
 use borrow.Author.Tests.{le-leb, ltb-false, eqb-true, eq-eqb, ne-eqb}
 use Rattle.layout.specs.Lent.{messageSize}
 use Rattle.codes.specs.SaysLaws.{guarded-by, passes}
+use Rattle.codes.specs.Life.{takesOf}
 use Rattle.turns.specs.Calls.{idleOf, startCall, startedOf}
 use Rattle.turns.specs.Script.{transferOf}
 use Rattle.turns.specs.Consistent as ring
 use Rattle.turns.specs.ConsistentLaws.{both}
-use Rattle.exchange.specs.State.{paramsOf}
-use Rattle.core.specs.Consistent.{numbersOk, periodOk, paramsOk, consistentOf, streamOk}
+use Rattle.exchange.specs.State.{paramsOf, lifeOf}
+use Rattle.core.specs.Consistent.{numbersOk, periodOk, paramsOk, consistentOf, streamOk, heldTo}
 use Rattle.exchange.specs.ConsistentLaws.{both-of, either-of, Paced, period-facts}
 use Rattle.core.specs.Plan.{isIdle}
 use Rattle.exchange.specs.PlanLaws.{idle-is}
@@ -33,7 +34,7 @@ xfer-by P lengths s t stream refuse setUp go a b g =
     (λ _. guarded-by P _ _ _
     (λ ok. guarded-by P _ _ _
     (λ free. guarded-by P _ _ _
-    (λ _. guarded-by P _ _ _ (λ _. guarded-by P _ _ _ (λ _. g) (λ _. a _)) (λ _. a _))
+    (λ _. guarded-by P _ _ _ (λ _. guarded-by P _ _ _ (λ _. guarded-by P _ _ _ (λ _. g) (λ _. a _)) (λ _. a _)) (λ _. a _))
     (λ r.
     let e = both (consistentOf (s .core)) (ring.consistentOf t && streamOk (s .core) (paramsOf s stream) stream) ok .0 in
     let i = idle-is (s .core .stage) (both (isIdle (s .core .stage)) (idleOf t) free .0) in
@@ -58,7 +59,7 @@ module _ (P : XferStep → Type 0) (s : Sound) (r : Ring) (stream len budget n :
 
 module _ (s : Sound) (r : Ring) (stream len budget n : ℕ) (k : Kept s) where
   set-up-kept : consistentOf (s .core) ≡ true → s .core .stage ≡ Idle → s .core .ready ≡ false → Kept (setUpStep s r stream .sound)
-  set-up-kept e g f = step-kept s (setUpPlan s stream) [] k (record { counts = refl; ready = λ h. h }) (record { consistent = ask-fine (s .core) (Xfer stream) e g f refl; effect = tt })
+  set-up-kept e g f = step-kept s (setUpPlan s stream) [] k (record { counts = refl; guard = refl; ready = λ h. h }) (record { consistent = ask-fine (s .core) (Xfer stream) e g f refl; effect = tt })
 
   pub start-kept : Kept (startOf s r stream len budget n .sound)
   start-kept = start-by (λ x. Kept (x .sound)) s r stream len budget n (λ _. k) set-up-kept k
@@ -102,6 +103,11 @@ pub stream-fine : (s : Sound) (stream : ℕ) → Kept s → streamOk (s .core) (
 unfolding streamOk
 stream-fine s stream k = either-of (not (s .core .ready && ltb stream (s .core .counts .streams))) (paramsOk (paramsOf s stream)) (k .fine stream)
 
+-- a test that is made under the guard alone
+pub held : (guard test : Bool) → (guard ≡ true → test ≡ true) → heldTo guard test ≡ true
+held true test h = h refl
+held false test h = refl
+
 pub passed-all : {A : Type 0} (lengths : Bool) (s : Sound) (r : Ring) (stream : ℕ) (refuse : Refusal → A) (setUp : A) (go : ℕ → A) → lengths ≡ true → Playable s r stream
     → go (paramsOf s stream .period) ≡ xferBy lengths s (r .track) stream refuse setUp go
 passed-all lengths s r stream refuse setUp go long o =
@@ -110,7 +116,7 @@ passed-all lengths s r stream refuse setUp go long o =
     let ok = both-of (consistentOf (s .core)) (ring.consistentOf (r .track) && streamOk (s .core) (paramsOf s stream) stream) (k .consistent) (both-of (ring.consistentOf (r .track)) (streamOk (s .core) (paramsOf s stream) stream) (o .ring) fine) in
     let free : (isIdle (s .core .stage) && idleOf (r .track)) ≡ true = both-of (isIdle (s .core .stage)) (idleOf (r .track)) (ap isIdle (o .closed)) (both-of (not (r .track .running)) (eqb (r .track .inflight) 0) (ap not (o .still)) (eq-eqb _ _ (o .empty))) in
     let known : not (eqb (paramsOf s stream .known) 0) ≡ true = ap not (ne-eqb _ _ (o .set)) in
-    passes _ _ _ long (passes _ _ _ ok (passes _ _ _ free (passes _ _ _ (set-ready s k stream (o .set)) (passes _ _ _ (set-range s k stream (o .set)) (passes _ _ _ known refl)))))
+    passes _ _ _ long (passes _ _ _ ok (passes _ _ _ free (passes _ _ _ (set-ready s k stream (o .set)) (passes _ _ _ (set-range s k stream (o .set)) (passes _ _ _ (held (s .core .guard) (takesOf (lifeOf s stream)) (o .live)) (passes _ _ _ known refl))))))
 
 module _ (s : Sound) (r : Ring) (stream len budget n : ℕ) (o : Playable s r stream) (long : messageSize ≤ n) where
   pub start-is : startStep s r (startedOf r (startCall (r .track) stream len (paramsOf s stream .period) budget)) ≡ startOf s r stream len budget n

@@ -4,9 +4,10 @@ ghost use mathlib.Core.List.{[]};
 ghost use lib.ListN.{getD, set};
 ghost use Rattle.records.specs.Records.{jackInfoOf, pcmInfoOf};
 ghost use Rattle.core.specs.State.{unset};
-ghost use Rattle.exchange.specs.State.{jackOf, pcmOf, paramsOf};
-ghost use Rattle.exchange.specs.Tables.{fieldOf, lookOf, pendingLook, soundAfter};
+ghost use Rattle.exchange.specs.State.{jackOf, pcmOf, paramsOf, lifeOf};
+ghost use Rattle.exchange.specs.Tables.{fieldOf, lookOf, pendingLook, moved, soundAfter};
 use crate::state::Sound;
+use codes::life;
 use core::Call;
 use core::Core;
 use core::Effect;
@@ -101,6 +102,24 @@ pub(crate) fn params_of(s: Sound, stream: u32) -> Params
     params_at(params, stream)
 }
 
+fn life_at(lives: [u8; 127], stream: u32) -> u8
+    ensures { λ r. ⌜ r ≡ getD lives stream 0 ⌝ }
+{
+    let i = stream as usize;
+    if 127 <= i {
+        return life::SET_PARAMETERS;
+    }
+    lives[i]
+}
+
+// Where a stream is in its lifecycle.
+pub(crate) fn life_of(s: Sound, stream: u32) -> u8
+    ensures { λ r. ⌜ r ≡ lifeOf s stream ⌝ }
+{
+    let lives = s.lives;
+    life_at(lives, stream)
+}
+
 // The field of a stream's record that is asked for.
 fn field_of(field: Field, p: PcmInfo) -> Value
     ensures { λ r. ⌜ r ≡ fieldOf field p ⌝ }
@@ -121,8 +140,8 @@ pub(crate) fn look(s: Sound, call: Call) -> Look
     ensures { λ r. ⌜ r ≡ lookOf s call ⌝ }
 {
     match call {
-        Call::SetParams { stream: _, to: _ } => Look::Nothing,
-        Call::Command { kind: _, stream: _ } => Look::Nothing,
+        Call::SetParams { stream, to: _ } => Look::Life(life_of(s, stream)),
+        Call::Command { kind: _, stream } => Look::Life(life_of(s, stream)),
         Call::Remap {
             jack,
             association: _,
@@ -135,7 +154,7 @@ pub(crate) fn look(s: Sound, call: Call) -> Look
         }
         Call::Streams { direction: _ } => Look::Nothing,
         Call::Supported { field, stream } => Look::Stream(field_of(field, pcm_of(s, stream))),
-        Call::Xfer { stream: _ } => Look::Nothing,
+        Call::Xfer { stream } => Look::Life(life_of(s, stream)),
     }
 }
 
@@ -167,7 +186,23 @@ fn store(old: [Params; 127], stream: u32, to: Params) -> [Params; 127]
     params
 }
 
-// A table is read from the page, or parameters are stored.
+// An ok command is its stream's state, under the guard.
+fn move_to(guard: bool, old: [u8; 127], stream: u32, life: u8) -> [u8; 127]
+    ensures { λ r. ⌜ r ≡ moved guard old stream life ⌝ }
+{
+    let i = stream as usize;
+    if !guard {
+        return old;
+    }
+    if 127 <= i {
+        return old;
+    }
+    let mut lives = old;
+    lives[i] = life;
+    lives
+}
+
+// A table is read from the page, parameters are stored, or a stream is moved.
 pub(crate) fn apply(effect: Effect, c: Core, s: Sound, page: &[u8]) -> Sound
     ensures { λ r. ⌜ r ≡ soundAfter effect c s (now (page .entry)) ⌝ }
 {
@@ -194,10 +229,22 @@ pub(crate) fn apply(effect: Effect, c: Core, s: Sound, page: &[u8]) -> Sound
         }
         Effect::Store { stream, to } => {
             let old = s.params;
+            let before = s.lives;
             let params = store(old, stream, to);
+            let lives = move_to(c.guard, before, stream, life::SET_PARAMETERS);
             Sound {
                 core: c,
                 params,
+                lives,
+                ..s
+            }
+        }
+        Effect::Move { stream, life } => {
+            let old = s.lives;
+            let lives = move_to(c.guard, old, stream, life);
+            Sound {
+                core: c,
+                lives,
                 ..s
             }
         }

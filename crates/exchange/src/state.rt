@@ -1,8 +1,11 @@
-// The state: a core on which every decision is made, three tables, and parameters.
+// The state: a core on which every decision is made, three tables, and of each stream its parameters
+// and where it is in its lifecycle.
 ghost use mathlib.Core.Path.{_≡_};
+ghost use mathlib.Core.Bool.{true, false};
 ghost use lib.ListN.{replicate};
 ghost use Rattle.core.specs.State.{unset};
 ghost use Rattle.exchange.specs.State.{newSound, saysConfigured, configuredOf};
+use codes::life;
 use core::Core;
 use core::Params;
 use core::consistent;
@@ -19,6 +22,7 @@ pub struct Sound {
     pub pcms: [PcmInfo; 127],
     pub maps: [ChannelMap; 170],
     pub params: [Params; 127],
+    pub lives: [u8; 127],
 }
 
 fn no_params() -> [Params; 127]
@@ -52,18 +56,32 @@ fn count_told(c: Core, n: u32) -> Configured
     Configured::Is(n)
 }
 
+fn made(guard: bool, jacks: u32, streams: u32, chmaps: u32) -> Sound
+    ensures { λ r. ⌜ r ≡ newSound guard jacks streams chmaps ⌝ }
+{
+    Sound {
+        core: Core::new(guard, jacks, streams, chmaps),
+        jacks: no_jacks(),
+        pcms: no_streams(),
+        maps: no_maps(),
+        params: no_params(),
+        lives: [life::SET_PARAMETERS; 127],
+    }
+}
+
 impl Sound {
     // The state before any call, from the configured counts.
     pub fn new(jacks: u32, streams: u32, chmaps: u32) -> Sound
-        ensures { λ r. ⌜ r ≡ newSound jacks streams chmaps ⌝ }
+        ensures { λ r. ⌜ r ≡ newSound false jacks streams chmaps ⌝ }
     {
-        Sound {
-            core: Core::new(jacks, streams, chmaps),
-            jacks: no_jacks(),
-            pcms: no_streams(),
-            maps: no_maps(),
-            params: no_params(),
-        }
+        made(false, jacks, streams, chmaps)
+    }
+
+    // The same with the guard: commands are held to the standard's lifecycle.
+    pub fn new_guarded(jacks: u32, streams: u32, chmaps: u32) -> Sound
+        ensures { λ r. ⌜ r ≡ newSound true jacks streams chmaps ⌝ }
+    {
+        made(true, jacks, streams, chmaps)
     }
 
     // The configured counts.

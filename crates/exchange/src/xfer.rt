@@ -6,6 +6,7 @@ ghost use Rattle.layout.specs.Lent.{messageSize};
 ghost use Rattle.core.specs.Reply.{messageAfter};
 ghost use Rattle.core.specs.declared.gate.Gate.the-variants.{Shut, SetUp, Open};
 ghost use Rattle.exchange.specs.Xfer.{xferBy, setUpPlan, refusedStep, setUpStep, startStep, doneStep, startOf, xferOf, startSays, xferSays, Transfers};
+use crate::effect::life_of;
 use crate::effect::params_of;
 use crate::state::Sound;
 use codes::Refusal;
@@ -43,7 +44,8 @@ fn checked(lengths: bool, s: Sound, t: Track, stream: u32) -> Gate
     ensures { λ r. ⌜ r ≡ xferBy lengths s t stream Shut SetUp Open ⌝ }
 {
     let params = params_of(s, stream);
-    xfer_gate(lengths, s.core, params, t, stream)
+    let life = life_of(s, stream);
+    xfer_gate(lengths, s.core, params, life, t, stream)
 }
 
 fn refused(s: Sound, ring: Ring, refusal: Refusal) -> XferStep

@@ -73,6 +73,7 @@ refusal-bare refusal.Busy = refl
 refusal-bare refusal.OutOfTurns = refl
 refusal-bare refusal.BadLength = refl
 refusal-bare refusal.Short = refl
+refusal-bare refusal.BadState = refl
 
 -- one guard for two tests
 pub guards : {A : Type 0} (a b : Bool) (x y : A) → guard (a && b) x y ≡ guard a x (guard b x y)

@@ -16,6 +16,7 @@ use Rattle.state_store.proofs.calls.feed_written.Reads as feed-written
 use Rattle.state_store.proofs.calls.feed_failure.Reads as feed-failure
 use Rattle.state_store.proofs.calls.open.Reads as opening
 use Rattle.state_store.proofs.config.new.Reads as new
+use Rattle.state_store.proofs.config.new_guarded.Reads as new-guarded
 use Rattle.state_store.proofs.config.jacks.Reads as jacks
 use Rattle.state_store.proofs.config.streams.Reads as streams
 use Rattle.state_store.proofs.config.chmaps.Reads as chmaps
@@ -55,6 +56,9 @@ open-one κs a r₁ r₂ e₁ e₂ p q = opened-one p q
 -- state
 pub new-one : (κs : _) (a : _) (r₁ r₂ : _) (e₁ e₂ : _) → new.Post κs a r₁ e₁ → new.Post κs a r₂ e₂ → (r₁ ≡ r₂) × (now (e₁ .0) ≡ now (e₂ .0))
 new-one κs a r₁ r₂ e₁ e₂ p q = made-one p q
+
+pub new-guarded-one : (κs : _) (a : _) (r₁ r₂ : _) (e₁ e₂ : _) → new-guarded.Post κs a r₁ e₁ → new-guarded.Post κs a r₂ e₂ → (r₁ ≡ r₂) × (now (e₁ .0) ≡ now (e₂ .0))
+new-guarded-one κs a r₁ r₂ e₁ e₂ p q = made-one p q
 
 -- result
 pub jacks-one : (κs : _) (a : _) (r₁ r₂ : _) (e₁ e₂ : _) → jacks.Post κs a r₁ e₁ → jacks.Post κs a r₂ e₂ → (r₁ ≡ r₂) × (now (e₁ .1 .0) ≡ now (e₂ .1 .0))

@@ -1,5 +1,5 @@
 -- The calls on a state that stands in a lent byte store: the call by value on the state that the store holds, and the state that it leaves, written
--- over it. A store under 14,320 bytes, or a result slice under 512, gets 10 and nothing is looked at.
+-- over it. A store under 14,447 bytes, or a result slice under 512, gets 10 and nothing is looked at.
 -- Assumes nothing.
 use mathlib.Core.Bool.{Bool, _&&_}
 use mathlib.Core.List.{List, [], _∷_, _++_}
@@ -103,12 +103,12 @@ openIn s t stream m =
     xferBy (leb stateSize (length s) && leb messageSize (length m)) (soundOf s) t stream (shut s m) (settingUp s stream m)
     (λ period. record { opening = Open period; state = s; message = m })
 
--- ---- a new state, and the reads of the configured counts: 1 for a state that fails the consistency test
+-- ---- a new state, with the guard or without, and the reads of the configured counts: 1 for a state that fails the consistency test
 
-abbrev pub newIn : List ℕ → ℕ → ℕ → ℕ → Made
-newIn s jacks streams maps =
+abbrev pub newIn : Bool → List ℕ → ℕ → ℕ → ℕ → Made
+newIn on s jacks streams maps =
     guard (leb stateSize (length s)) (made 10 s)
-    (made 0 (sets s 0 (soundBytes (newSound jacks streams maps))))
+    (made 0 (sets s 0 (soundBytes (newSound on jacks streams maps))))
 
 abbrev pub jackCount : Counts → ℕ
 jackCount n = n .jacks

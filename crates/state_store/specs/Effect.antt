@@ -1,5 +1,6 @@
--- The effect of a plan on the store's bytes: a table's records are copied from the page, or a stream's parameters are stored.
+-- The effect of a plan on the store's bytes: a table's records are copied from the page, a stream's parameters are stored, or a stream is moved.
 -- Assumes nothing.
+use mathlib.Core.Bool.{Bool}
 use mathlib.Core.List.{List}
 use Prim.Native.Nat.{ℕ, _+_, _*_}
 use lib.Dec.{ltb}
@@ -9,17 +10,22 @@ use Rattle.layout.specs.Layout.{size}
 use Rattle.layout.specs.Bytes.{bytesAt}
 use Rattle.codes.specs.Says.{pick}
 use Rattle.tables.specs.Tables.{fits}
-use Rattle.state_store.specs.Types.{Effect, Nothing, FillJacks, FillStreams, FillMaps, Store}
-use Rattle.state_store.specs.Places.{headSize, pcmsPlace, mapsPlace, paramsPlace}
-use Rattle.state_store.specs.Store.{paramsBytes}
+use Rattle.state_store.specs.Types.{Effect, Nothing, FillJacks, FillStreams, FillMaps, Store, Move}
+use Rattle.state_store.specs.Places.{headSize, pcmsPlace, mapsPlace, paramsPlace, livesPlace}
+use Rattle.state_store.specs.Store.{paramsBytes, lifeBytes}
 
 -- n records of a size, from a page that holds them to place o; another page changes nothing
 unfoldable pub copiedIn : ℕ → ℕ → ℕ → List ℕ → List ℕ → List ℕ
 copiedIn o size n page s = pick (fits page n size) (sets s o (bytesAt 4 (n * size) page)) s
 
-abbrev pub effectIn : Effect → List ℕ → List ℕ → List ℕ
-effectIn Nothing page s = s
-effectIn (FillJacks n) page s = copiedIn headSize (size jackInfo) n page s
-effectIn (FillStreams n) page s = copiedIn pcmsPlace (size pcmInfo) n page s
-effectIn (FillMaps n) page s = copiedIn mapsPlace (size channelMap) n page s
-effectIn (Store stream to) page s = pick (ltb stream 127) (sets s (paramsPlace + stream * 16) (paramsBytes to)) s
+-- an ok command is its stream's state, under the guard
+abbrev pub livedIn : Bool → ℕ → ℕ → List ℕ → List ℕ
+livedIn guard stream life s = pick guard (pick (ltb stream 127) (sets s (livesPlace + stream) (lifeBytes life)) s) s
+
+abbrev pub effectIn : Bool → Effect → List ℕ → List ℕ → List ℕ
+effectIn guard Nothing page s = s
+effectIn guard (FillJacks n) page s = copiedIn headSize (size jackInfo) n page s
+effectIn guard (FillStreams n) page s = copiedIn pcmsPlace (size pcmInfo) n page s
+effectIn guard (FillMaps n) page s = copiedIn mapsPlace (size channelMap) n page s
+effectIn guard (Store stream to) page s = livedIn guard stream 0 (pick (ltb stream 127) (sets s (paramsPlace + stream * 16) (paramsBytes to)) s)
+effectIn guard (Move stream life) page s = livedIn guard stream life s

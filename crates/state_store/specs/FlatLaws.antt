@@ -3,15 +3,16 @@
 use mathlib.Core.Path.{_≡_, refl, sym, ap, ap₂, _∙_}
 use mathlib.Core.Bool.{Bool, true, false, not, _&&_, false≢true}
 use mathlib.Core.List.{List, [], _∷_}
-use Prim.Native.Nat.{ℕ}
-use lib.Dec.{eqb}
+use Prim.Native.Nat.{ℕ, zero, suc, _≤_}
+use native.Mathlib.Omega.{arith}
+use lib.Dec.{leb, eqb}
 use lib.ListN.{drop}
-use borrow.Author.Tests.{eq-eqb, eqb-true}
+use borrow.Author.Tests.{eq-eqb, eqb-true, leb-true}
 use Rattle.codes.specs.Says.{pick}
 use Rattle.codes.specs.SaysLaws.{picks}
 use Rattle.turns.specs.ConsistentLaws.{both}
 use Rattle.state_store.specs.Flat.{flatValues, kindNumber, kindOf, fieldNumber, flatField, callFlat, staged, flatOf, flatCall, flatStage, flatReady, sameFlat, wholeFlat}
-use Rattle.state_store.specs.Store.{wholeHead, headFrom, headOf, coreOf}
+use Rattle.state_store.specs.Store.{wholeHead, headFrom, headOf, coreOf, flag}
 use Rattle.state_store.specs.Types.{Kind, Prepare, Release, Start, Stop, Field, Rates, Formats, Channels, Features, Call, SetParams, Command, Remap, Streams, Supported, Xfer, Stage, Idle, JacksAsked, StreamsAsked, MapsAsked, Sent, Core, Flat, Head}
 
 -- ---- a stage is had back from its fields
@@ -98,17 +99,26 @@ flat-same f e = sym (same-true f (flatOf (flatReady f) (flatStage f)) e)
 
 -- ---- a core and its head
 
+flag-small : (b : Bool) → leb (flag b) 1 ≡ true
+flag-small true = refl
+flag-small false = refl
+
+flag-same : (n : ℕ) → n ≤ 1 → flag (not (eqb n 0)) ≡ n
+flag-same zero h = refl
+flag-same (suc zero) h = refl
+flag-same (suc (suc n)) h = absurd (omega arith)
+
 pub head-whole : (c : Core) → wholeHead (headOf c) ≡ true
-head-whole c = ap (λ (t : Bool). t && true) (flat-whole (c .ready) (c .stage))
+head-whole c = ap₂ (λ (t u : Bool). t && (u && true)) (flat-whole (c .ready) (c .stage)) (flag-small (c .guard))
 
 pub core-back : (c : Core) → coreOf (headOf c) ≡ c
 core-back c =
     picks _ _ _ (head-whole c)
-    ∙ (λ i. record { counts = c .counts; read = c .read; ready = flat-ready (c .ready) (c .stage) i; stage = flat-stage (c .ready) (c .stage) i })
+    ∙ (λ i. record { counts = c .counts; guard = flag-back (c .guard) i; read = c .read; ready = flat-ready (c .ready) (c .stage) i; stage = flat-stage (c .ready) (c .stage) i })
 
 pub core-same : (h : Head) → wholeHead h ≡ true → headOf (coreOf h) ≡ h
 core-same h e =
-    let a = both (wholeFlat (h .flat)) (eqb (h .reserved) 0 && eqb (h .spare) 0) e in
-    let r = both (eqb (h .reserved) 0) (eqb (h .spare) 0) (a .1) in
+    let a = both (wholeFlat (h .flat)) (leb (h .guard) 1 && eqb (h .reserved) 0) e in
+    let r = both (leb (h .guard) 1) (eqb (h .reserved) 0) (a .1) in
     ap headOf (picks _ _ _ e)
-    ∙ (λ i. record { counts = h .counts; read = h .read; flat = flat-same (h .flat) (a .0) i; reserved = sym (eqb-true (h .reserved) 0 (r .0)) i; spare = sym (eqb-true (h .spare) 0 (r .1)) i })
+    ∙ (λ i. record { counts = h .counts; read = h .read; flat = flat-same (h .flat) (a .0) i; guard = flag-same (h .guard) (leb-true (h .guard) 1 (r .0)) i; reserved = sym (eqb-true (h .reserved) 0 (r .1)) i })

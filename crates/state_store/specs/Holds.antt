@@ -28,8 +28,8 @@ use Rattle.turns.specs.ConsistentLaws.{both}
 use Rattle.core.specs.State.{unset, newCore}
 use Rattle.exchange.specs.State.{newSound, paramsOf}
 use Rattle.core.specs.Consistent.{consistentOf, streamOk}
-use Rattle.core.specs.Plan.{effectOf}
-use Rattle.exchange.specs.Tables.{soundAfter}
+use Rattle.core.specs.Plan.{effectOf, kindLife}
+use Rattle.exchange.specs.Tables.{moved, soundAfter}
 use Rattle.exchange.specs.Exchange.{stepOf, callOf, feedOf, failOf}
 use Rattle.exchange.specs.Feed.{Feed, paged, failed, planOf, pageOf}
 use Rattle.exchange.specs.Xfer.{xferBy, setUpPlan, startOf}
@@ -37,12 +37,12 @@ use Rattle.exchange.specs.OwnLaws.{picked-by}
 use Rattle.exchange.specs.PlanLaws.{begun, Answered, short, idle, asks-streams, asks-maps, cuts, finishes, ends, fails, fed}
 use Rattle.exchange.specs.StayLaws.{called-quiet}
 use Rattle.exchange.specs.StepLaws.{startBy, started-by}
-use Rattle.state_store.specs.Types.{Written, Refusal, JackInfo, PcmInfo, ChannelMap, Verdict, Track, Ring, Params, Call, SetParams, Command, Remap, Streams, Supported, Xfer, Sent, Core, Sound, Effect, Nothing, FillJacks, FillStreams, FillMaps, Store, Look, Plan, Gate, Shut, SetUp, Open, XferStep}
-use Rattle.state_store.specs.Places.{headSize, pcmsPlace, mapsPlace, paramsPlace, stateSize}
-use Rattle.state_store.specs.Store.{whole, paramsRow, paramsAt, soundOf, soundBytes, stateAfter, headRow, headValues, headOf, paramsBytes}
+use Rattle.state_store.specs.Types.{Written, Refusal, JackInfo, PcmInfo, ChannelMap, Verdict, Track, Ring, Params, Kind, Prepare, Release, Start, Stop, Call, SetParams, Command, Remap, Streams, Supported, Xfer, Sent, Core, Sound, Effect, Nothing, FillJacks, FillStreams, FillMaps, Store, Move, Look, Plan, Gate, Shut, SetUp, Open, XferStep}
+use Rattle.state_store.specs.Places.{headSize, pcmsPlace, mapsPlace, paramsPlace, livesPlace, stateSize}
+use Rattle.state_store.specs.Store.{whole, lifeRow, lifeAt, lifeBytes, paramsRow, paramsAt, soundOf, soundBytes, stateAfter, headRow, headValues, headOf, paramsBytes}
 use Rattle.layout.specs.Lent.{Made, messageSize}
 use Rattle.state_store.specs.Calls.{Told, told, tooShort, lengths, callIn, feedIn, failIn, Opened, openIn, newIn}
-use Rattle.state_store.specs.StoreLaws.{paramsValues, Fits, store-back}
+use Rattle.state_store.specs.StoreLaws.{paramsValues, lifeValues, Fits, store-back}
 use Rattle.state_store.specs.OpenLaws.{gateIn, openBy, opens, opened-by}
 use Rattle.state_store.specs.WholeLaws.{FitCall, FitCore, head-fits, store-fits, begun-fits, waits, answered-fits, set-up-fits, new-fits}
 use Rattle.state_store.specs.RefusedLaws.{Barred, begun-barred, answered-barred, not-whole}
@@ -68,6 +68,9 @@ MapFits x = Fit channelMap (channelMapValues x)
 abbrev ParamsFit : Params → Type 0
 ParamsFit x = Fit paramsRow (paramsValues x)
 
+abbrev LifeFits : ℕ → Type 0
+LifeFits x = Fit lifeRow (lifeValues x)
+
 jack-fits : (o : ℕ) (s : List ℕ) → Bytes s → JackFits (jackAt o s)
 unfolding jackAt
 jack-fits o s b = read-fits o jackInfo s b
@@ -85,6 +88,10 @@ unfolding paramsAt
 params-fit o s b =
     (numAt-below o 1 s b, (numAt-below (o + 1) 1 s b, (numAt-below (o + 2) 1 s b, (numAt-below (o + 3) 1 s b, (numAt-below (o + 4) 4 s b, (numAt-below (o + 8) 4 s b, (numAt-below (o + 12) 4 s b, tt)))))))
 
+life-fits : (o : ℕ) (s : List ℕ) → Bytes s → LifeFits (lifeAt o s)
+unfolding lifeAt
+life-fits o s b = (numAt-below o 1 s b, tt)
+
 -- WHAT A WHOLE STORE HOLDS FITS
 pub sound-fits : (s : List ℕ) → Bytes s → whole s ≡ true → Fits (soundOf s)
 unfolding soundOf
@@ -95,10 +102,12 @@ sound-fits s b w =
       pcms = rows-ok PcmFits pcmAt 32 pcm-fits pcmsPlace 127 s b;
       maps = rows-ok MapFits mapAt 24 map-fits mapsPlace 170 s b;
       params = rows-ok ParamsFit paramsAt 16 params-fit paramsPlace 127 s b;
+      lives = rows-ok LifeFits lifeAt 1 life-fits livesPlace 127 s b;
       jacks-170 = length-rows jackAt 24 headSize 170 s;
       pcms-127 = length-rows pcmAt 32 pcmsPlace 127 s;
       maps-170 = length-rows mapAt 24 mapsPlace 170 s;
       params-127 = length-rows paramsAt 16 paramsPlace 127 s;
+      lives-127 = length-rows lifeAt 1 livesPlace 127 s;
     }
 
 -- ---- A PLAN THAT FITS leaves a state that fits
@@ -109,6 +118,7 @@ EffectFits (FillJacks n) = Unit {0}
 EffectFits (FillStreams n) = Unit {0}
 EffectFits (FillMaps n) = Unit {0}
 EffectFits (Store stream to) = ParamsFit to
+EffectFits (Move stream life) = LifeFits life
 
 abbrev PlanFits : Plan → Type 0
 PlanFits p = FitCore (p .core) × EffectFits (p .effect)
@@ -118,19 +128,21 @@ module _ (c : Core) (k : FitCore c) (x : Sound) (f : Fits x) (page : List ℕ) (
   abbrev Table : {A : Type 0} → (A → Type 0) → ℕ → List A → Type 0
   Table Ok n xs = All Ok xs × (length xs ≡ n)
 
-  tables-fit : (js : List JackInfo) (ps : List PcmInfo) (ms : List ChannelMap) (qs : List Params) → Table JackFits 170 js → Table PcmFits 127 ps → Table MapFits 170 ms → Table ParamsFit 127 qs
-      → Fits (record { core = c; jacks = js; pcms = ps; maps = ms; params = qs })
-  tables-fit js ps ms qs j p m q =
+  tables-fit : (js : List JackInfo) (ps : List PcmInfo) (ms : List ChannelMap) (qs : List Params) (vs : List ℕ) → Table JackFits 170 js → Table PcmFits 127 ps → Table MapFits 170 ms → Table ParamsFit 127 qs → Table LifeFits 127 vs
+      → Fits (record { core = c; jacks = js; pcms = ps; maps = ms; params = qs; lives = vs })
+  tables-fit js ps ms qs vs j p m q v =
       record {
         core = head-fits c k;
         jacks = j .0;
         pcms = p .0;
         maps = m .0;
         params = q .0;
+        lives = v .0;
         jacks-170 = j .1;
         pcms-127 = p .1;
         maps-170 = m .1;
         params-127 = q .1;
+        lives-127 = v .1;
       }
 
   jacks : Table JackFits 170 (x .jacks)
@@ -145,23 +157,37 @@ module _ (c : Core) (k : FitCore c) (x : Sound) (f : Fits x) (page : List ℕ) (
   params : Table ParamsFit 127 (x .params)
   params = (f .params, f .params-127)
 
+  lives : Table LifeFits 127 (x .lives)
+  lives = (f .lives, f .lives-127)
+
+  moved-fits : (guard : Bool) (stream life : ℕ) → LifeFits life → Table LifeFits 127 (moved guard (x .lives) stream life)
+  moved-fits true stream life h = (set-ok LifeFits (x .lives) stream life (f .lives) h, length-set (x .lives) stream life ∙ f .lives-127)
+  moved-fits false stream life h = lives
+
   after-fits : (e : Effect) → EffectFits e → Fits (soundAfter e c x page)
   unfolding jacksRead streamsRead mapsRead
-  after-fits Nothing h = tables-fit (x .jacks) (x .pcms) (x .maps) (x .params) jacks pcms maps params
+  after-fits Nothing h = tables-fit (x .jacks) (x .pcms) (x .maps) (x .params) (x .lives) jacks pcms maps params lives
   after-fits (FillJacks n) h =
-      tables-fit _ (x .pcms) (x .maps) (x .params)
-      (read-ok JackFits jackAt 24 jack-fits (fits page n 24) page n (x .jacks) b (f .jacks), jacks-length page n (x .jacks) (f .jacks-170)) pcms maps params
+      tables-fit _ (x .pcms) (x .maps) (x .params) (x .lives)
+      (read-ok JackFits jackAt 24 jack-fits (fits page n 24) page n (x .jacks) b (f .jacks), jacks-length page n (x .jacks) (f .jacks-170)) pcms maps params lives
   after-fits (FillStreams n) h =
-      tables-fit (x .jacks) _ (x .maps) (x .params)
-      jacks (read-ok PcmFits pcmAt 32 pcm-fits (fits page n 32) page n (x .pcms) b (f .pcms), streams-length page n (x .pcms) (f .pcms-127)) maps params
+      tables-fit (x .jacks) _ (x .maps) (x .params) (x .lives)
+      jacks (read-ok PcmFits pcmAt 32 pcm-fits (fits page n 32) page n (x .pcms) b (f .pcms), streams-length page n (x .pcms) (f .pcms-127)) maps params lives
   after-fits (FillMaps n) h =
-      tables-fit (x .jacks) (x .pcms) _ (x .params)
-      jacks pcms (read-ok MapFits mapAt 24 map-fits (fits page n 24) page n (x .maps) b (f .maps), maps-length page n (x .maps) (f .maps-170)) params
+      tables-fit (x .jacks) (x .pcms) _ (x .params) (x .lives)
+      jacks pcms (read-ok MapFits mapAt 24 map-fits (fits page n 24) page n (x .maps) b (f .maps), maps-length page n (x .maps) (f .maps-170)) params lives
   after-fits (Store stream to) h =
-      tables-fit (x .jacks) (x .pcms) (x .maps) (set (x .params) stream to)
-      jacks pcms maps (set-ok ParamsFit (x .params) stream to (f .params) h, length-set (x .params) stream to ∙ f .params-127)
+      tables-fit (x .jacks) (x .pcms) (x .maps) (set (x .params) stream to) (moved (c .guard) (x .lives) stream 0)
+      jacks pcms maps (set-ok ParamsFit (x .params) stream to (f .params) h, length-set (x .params) stream to ∙ f .params-127) (moved-fits (c .guard) stream 0 (lit< tt, tt))
+  after-fits (Move stream life) h = tables-fit (x .jacks) (x .pcms) (x .maps) (x .params) (moved (c .guard) (x .lives) stream life) jacks pcms maps params (moved-fits (c .guard) stream life h)
 
 -- ---- the plans of a call and of an answer fit
+
+kind-fits : (kind : Kind) → kindLife kind < 256 ^ 1
+kind-fits Prepare = lit< tt
+kind-fits Release = lit< tt
+kind-fits Start = lit< tt
+kind-fits Stop = lit< tt
 
 -- what is stored is what the call that waited asked for
 effect-fits : (call : Call) → FitCall call → EffectFits (effectOf call)
@@ -169,7 +195,7 @@ effect-fits (SetParams stream to) k =
     let v = k .1 .1 .1 in
     let n = v .1 .1 .1 .1 in
     (lit< tt, (n .0, (n .1 .0, (n .1 .1 .0, (v .0, (v .1 .0, (v .1 .1 .0, tt)))))))
-effect-fits (Command kind stream) k = tt
+effect-fits (Command kind stream) k = (kind-fits kind, tt)
 effect-fits (Remap jack association sequence) k = tt
 effect-fits (Streams direction) k = tt
 effect-fits (Supported field stream) k = tt
@@ -272,24 +298,26 @@ module _ (s m : List ℕ) (b : Bytes s) (h : stateSize ≤ length s) (r : Ring) 
 
 -- ---- a new state: its tables are of what is read where no byte stands
 
-pub new-holds : (s : List ℕ) (jacks streams maps : ℕ) → stateSize ≤ length s → jacks < 256 ^ 4 → streams < 256 ^ 4 → maps < 256 ^ 4 → soundOf (newIn s jacks streams maps .store) ≡ newSound jacks streams maps
-unfolding jackAt pcmAt mapAt paramsAt numAt un bytesAt
-new-holds s jacks streams maps h j k m =
-    guarded-by (λ (x : Made). soundOf (x .store) ≡ newSound jacks streams maps) _ _ _
-    (λ _. store-back s (newSound jacks streams maps) fits h) (λ e. absurd (false≢true (sym e ∙ le-leb stateSize (length s) h)))
+pub new-holds : (on : Bool) (s : List ℕ) (jacks streams maps : ℕ) → stateSize ≤ length s → jacks < 256 ^ 4 → streams < 256 ^ 4 → maps < 256 ^ 4 → soundOf (newIn on s jacks streams maps .store) ≡ newSound on jacks streams maps
+unfolding jackAt pcmAt mapAt paramsAt lifeAt numAt un bytesAt
+new-holds on s jacks streams maps h j k m =
+    guarded-by (λ (x : Made). soundOf (x .store) ≡ newSound on jacks streams maps) _ _ _
+    (λ _. store-back s (newSound on jacks streams maps) fits h) (λ e. absurd (false≢true (sym e ∙ le-leb stateSize (length s) h)))
   where
-    fits : Fits (newSound jacks streams maps)
+    fits : Fits (newSound on jacks streams maps)
     fits =
         record {
-          core = head-fits (newCore jacks streams maps) (new-fits jacks streams maps j k m);
+          core = head-fits (newCore on jacks streams maps) (new-fits on jacks streams maps j k m);
           jacks = replicate-ok JackFits 170 (jackInfoOf []) (jack-fits 0 [] no-page);
           pcms = replicate-ok PcmFits 127 (pcmInfoOf []) (pcm-fits 0 [] no-page);
           maps = replicate-ok MapFits 170 (channelMapOf []) (map-fits 0 [] no-page);
           params = replicate-ok ParamsFit 127 unset (params-fit 0 [] no-page);
+          lives = replicate-ok LifeFits 127 0 (lit< tt, tt);
           jacks-170 = refl;
           pcms-127 = refl;
           maps-170 = refl;
           params-127 = refl;
+          lives-127 = refl;
         }
 
 -- ---- what a call leaves is a store again
@@ -301,7 +329,8 @@ bytes-sound x =
     (bytes-append (rowsBytes jackBytes (x .jacks)) _ (bytes-rows jackBytes (λ r. bytes-write jackInfo (jackInfoValues r)) (x .jacks))
     (bytes-append (rowsBytes pcmBytes (x .pcms)) _ (bytes-rows pcmBytes (λ r. bytes-write pcmInfo (pcmInfoValues r)) (x .pcms))
     (bytes-append (rowsBytes mapBytes (x .maps)) _ (bytes-rows mapBytes (λ r. bytes-write channelMap (channelMapValues r)) (x .maps))
-    (bytes-rows paramsBytes (λ p. bytes-write paramsRow (paramsValues p)) (x .params)))))
+    (bytes-append (rowsBytes paramsBytes (x .params)) _ (bytes-rows paramsBytes (λ p. bytes-write paramsRow (paramsValues p)) (x .params))
+    (bytes-rows lifeBytes (λ l. bytes-write lifeRow (lifeValues l)) (x .lives))))))
 
 module _ (s m r : List ℕ) (b : Bytes s) where
   after-again : (x : Sound) → Again s (stateAfter s x)
@@ -331,6 +360,6 @@ module _ (s m r : List ℕ) (b : Bytes s) where
       by SetUp e = after-again _
       by (Open period) e = (b, refl)
 
-pub new-again : (s : List ℕ) → Bytes s → (jacks streams maps : ℕ) → Again s (newIn s jacks streams maps .store)
-new-again s b jacks streams maps =
-    guarded-by (λ (x : Made). Again s (x .store)) _ _ _ (λ _. over-again s (soundBytes (newSound jacks streams maps)) b (bytes-sound (newSound jacks streams maps))) (λ _. (b, refl))
+pub new-again : (on : Bool) (s : List ℕ) → Bytes s → (jacks streams maps : ℕ) → Again s (newIn on s jacks streams maps .store)
+new-again on s b jacks streams maps =
+    guarded-by (λ (x : Made). Again s (x .store)) _ _ _ (λ _. over-again s (soundBytes (newSound on jacks streams maps)) b (bytes-sound (newSound on jacks streams maps))) (λ _. (b, refl))

@@ -1,7 +1,7 @@
--- A new state is its core and 14,256 bytes of 0; and the laws for the reads of the configured counts.
+-- A new state is its core and 14,383 bytes of 0; and the laws for the reads of the configured counts.
 -- Assumes nothing.
 use mathlib.Core.Path.{_≡_, refl, sym, ap, _∙_}
-use mathlib.Core.Bool.{true, false}
+use mathlib.Core.Bool.{Bool, true, false}
 use mathlib.Core.List.{List, [], _∷_, _++_}
 use Prim.Native.Nat.{ℕ, zero, suc, _+_, _*_, _≤_, _<_}
 use native.Mathlib.Nat.{zero-add, suc-add, suc-mul, zero-mul, add-comm}
@@ -17,7 +17,7 @@ use Rattle.tables.specs.Tables.{noJacks, noStreams, noMaps}
 use Rattle.core.specs.State.{unset, newCore}
 use Rattle.state_store.specs.Types.{Counts, Core}
 use Rattle.state_store.specs.Places.{headSize, stateSize, tablesSize}
-use Rattle.state_store.specs.Store.{paramsBytes, headAt, coreOf, soundBytes}
+use Rattle.state_store.specs.Store.{paramsBytes, lifeBytes, headAt, coreOf, soundBytes}
 use Rattle.layout.specs.Lent.{made, shown}
 use Rattle.state_store.specs.Calls.{lengths, newIn, countIn}
 use Rattle.state_store.specs.OverLaws.{headBytes, head-sized}
@@ -71,27 +71,32 @@ no-params : paramsBytes unset ≡ zeros 16
 unfolding le zeros
 no-params = refl
 
-no-tables : rowsBytes jackBytes noJacks ++ (rowsBytes pcmBytes noStreams ++ (rowsBytes mapBytes noMaps ++ rowsBytes paramsBytes (replicate 127 unset))) ≡ zeros tablesSize
+no-life : lifeBytes 0 ≡ zeros 1
+unfolding le zeros
+no-life = refl
+
+no-tables : rowsBytes jackBytes noJacks ++ (rowsBytes pcmBytes noStreams ++ (rowsBytes mapBytes noMaps ++ (rowsBytes paramsBytes (replicate 127 unset) ++ rowsBytes lifeBytes (replicate 127 0)))) ≡ zeros tablesSize
 no-tables =
     (λ i. rows-zero jackBytes 24 (jackInfoOf []) no-jack 170 i ++ (rows-zero pcmBytes 32 (pcmInfoOf []) no-stream 127 i
-    ++ (rows-zero mapBytes 24 (channelMapOf []) no-map 170 i ++ rows-zero paramsBytes 16 unset no-params 127 i)))
-    ∙ ap (λ (l : List ℕ). zeros 4080 ++ (zeros 4064 ++ l)) (zeros-add 4080 2032)
-    ∙ ap (λ (l : List ℕ). zeros 4080 ++ l) (zeros-add 4064 6112)
-    ∙ zeros-add 4080 10176
+    ++ (rows-zero mapBytes 24 (channelMapOf []) no-map 170 i ++ (rows-zero paramsBytes 16 unset no-params 127 i ++ rows-zero lifeBytes 1 0 no-life 127 i))))
+    ∙ ap (λ (l : List ℕ). zeros 4080 ++ (zeros 4064 ++ (zeros 4080 ++ l))) (zeros-add 2032 127)
+    ∙ ap (λ (l : List ℕ). zeros 4080 ++ (zeros 4064 ++ l)) (zeros-add 4080 2159)
+    ∙ ap (λ (l : List ℕ). zeros 4080 ++ l) (zeros-add 4064 6239)
+    ∙ zeros-add 4080 10303
 
-module _ (s : List ℕ) (jacks streams maps : ℕ) where
-  pub new-short : length s < stateSize → made 10 s ≡ newIn s jacks streams maps
+module _ (on : Bool) (s : List ℕ) (jacks streams maps : ℕ) where
+  pub new-short : length s < stateSize → made 10 s ≡ newIn on s jacks streams maps
   new-short h = stops _ _ _ (lt-leb stateSize (length s) h) refl
 
-  pub new-made : {l m : List ℕ} → stateSize ≤ length s → l ≡ sets s 0 (headBytes (newCore jacks streams maps)) → m ≡ sets l headSize (zeros tablesSize) → made 0 m ≡ newIn s jacks streams maps
+  pub new-made : {l m : List ℕ} → stateSize ≤ length s → l ≡ sets s 0 (headBytes (newCore on jacks streams maps)) → m ≡ sets l headSize (zeros tablesSize) → made 0 m ≡ newIn on s jacks streams maps
   unfolding soundBytes
   new-made h e f =
-      let b = headBytes (newCore jacks streams maps) in
+      let b = headBytes (newCore on jacks streams maps) in
       passes _ _ _ (le-leb stateSize (length s) h)
       (ap (made 0)
       (f
       ∙ ap (λ (l : List ℕ). sets l headSize (zeros tablesSize)) e
-      ∙ sets-then s 0 headSize b (zeros tablesSize) (sym (zero-add (length b) ∙ head-sized (newCore jacks streams maps)))
+      ∙ sets-then s 0 headSize b (zeros tablesSize) (sym (zero-add (length b) ∙ head-sized (newCore on jacks streams maps)))
       ∙ ap (λ (l : List ℕ). sets s 0 (b ++ l)) (sym no-tables)))
 
 -- ---- the configured counts

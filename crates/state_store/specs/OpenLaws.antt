@@ -11,7 +11,7 @@ use borrow.Author.Tests.{leb-true}
 use Rattle.layout.specs.Lent.{messageSize}
 use Rattle.codes.specs.SaysLaws.{stops}
 use Rattle.turns.specs.ConsistentLaws.{both}
-use Rattle.exchange.specs.State.{paramsOf}
+use Rattle.exchange.specs.State.{paramsOf, lifeOf}
 use Rattle.core.specs.Gate.{gateBy}
 use Rattle.exchange.specs.Xfer.{xferBy}
 use Rattle.exchange.specs.StepLaws as step
@@ -30,8 +30,8 @@ module _ (s m : List ℕ) (t : Track) (stream : ℕ) where
   abbrev pub gateIn : Gate
   gateIn = xferBy long (soundOf s) t stream Shut SetUp gate.Open
 
-  pub gated : {b : Bool} {c : Core} {p : Params} {g : Gate} → b ≡ long → c ≡ coreOf (headAt s) → p ≡ paramsOf (soundOf s) stream → g ≡ gateBy b c p t stream Shut SetUp gate.Open → g ≡ gateIn
-  gated b c p g = g ∙ (λ i. gateBy (b i) ((c ∙ sym (core-at s)) i) (p i) t stream Shut SetUp gate.Open)
+  pub gated : {b : Bool} {c : Core} {p : Params} {life : ℕ} {g : Gate} → b ≡ long → c ≡ coreOf (headAt s) → p ≡ paramsOf (soundOf s) stream → life ≡ lifeOf (soundOf s) stream → g ≡ gateBy b c p life t stream Shut SetUp gate.Open → g ≡ gateIn
+  gated b c p l g = g ∙ (λ i. gateBy (b i) ((c ∙ sym (core-at s)) i) (p i) (l i) t stream Shut SetUp gate.Open)
 
   -- where they are not, the gate is shut
   pub shut-short : long ≡ false → Shut BadLength ≡ gateIn

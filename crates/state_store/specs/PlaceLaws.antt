@@ -1,10 +1,11 @@
 -- Record i of a table of the store stands at the table's place + i × size, and past the table's end there is 0.
 -- Assumes nothing.
-use mathlib.Core.Path.{_≡_, refl, sym, _∙_}
+use mathlib.Core.Path.{_≡_, refl, sym, ap, _∙_}
 use mathlib.Core.List.{List, []}
 use Prim.Native.Nat.{ℕ, _+_, _*_, _<_, _≤_}
 use native.Mathlib.Numerals.{towards-numerals}
 use native.Mathlib.Omega.{arith}
+use native.Mathlib.Nat.{mul-one}
 use lib.ListN.{getD, List·getD-eq-default}
 use Rattle.layout.specs.Bytes.{numAt}
 use Rattle.layout.specs.Rows.{rowsAt}
@@ -12,12 +13,12 @@ use Rattle.layout.specs.RowsLaws.{length-rows, rows-at}
 use Rattle.records.specs.Records.{jackInfoOf, pcmInfoOf}
 use Rattle.tables.specs.Tables.{jackAt, pcmAt}
 use Rattle.core.specs.State.{unset}
-use Rattle.exchange.specs.State.{jackOf, pcmOf, paramsOf}
+use Rattle.exchange.specs.State.{jackOf, pcmOf, paramsOf, lifeOf}
 use Rattle.exchange.specs.Tables.{fieldOf}
 use Rattle.core.specs.declared.plan.Value.the-variants as value
 use Rattle.state_store.specs.Types.{Params, Field, Value, Rates, Formats, Channels, Features}
-use Rattle.state_store.specs.Places.{headSize, pcmsPlace, paramsPlace}
-use Rattle.state_store.specs.Store.{paramsAt, soundOf}
+use Rattle.state_store.specs.Places.{headSize, pcmsPlace, paramsPlace, livesPlace}
+use Rattle.state_store.specs.Store.{paramsAt, lifeAt, soundOf}
 
 rows-out : {A : Type 0} (f : ℕ → List ℕ → A) (size o n i : ℕ) (s : List ℕ) (d : A) → n ≤ i → getD (rowsAt f size o n s) i d ≡ d
 rows-out f size o n i s d h = List·getD-eq-default (rowsAt f size o n s) d (omega (arith, length-rows f size o n s))
@@ -46,6 +47,14 @@ module _ (s : List ℕ) (i : ℕ) where
   pub params-out : 127 ≤ i → paramsOf (soundOf s) i ≡ unset
   unfolding soundOf
   params-out h = rows-out paramsAt 16 paramsPlace 127 i s unset h
+
+  pub life-in : i < 127 → lifeOf (soundOf s) i ≡ numAt (livesPlace + i) 1 s
+  unfolding soundOf lifeAt
+  life-in h = rows-at lifeAt 1 livesPlace 127 i s 0 h ∙ ap (λ (n : ℕ). numAt (livesPlace + n) 1 s) (mul-one i)
+
+  pub life-out : 127 ≤ i → lifeOf (soundOf s) i ≡ 0
+  unfolding soundOf
+  life-out h = rows-out lifeAt 1 livesPlace 127 i s 0 h
 
 -- ---- the fields that are looked at, by their places in the record
 

@@ -1,13 +1,13 @@
--- Where the parts of a state stand in its store, and what they take: the head, jacks, streams, channel maps, parameters.
+-- Where the parts of a state stand in its store, and what they take: the head, jacks, streams, channel maps, parameters, lifecycles.
 -- Assumes nothing.
 use Prim.Native.Nat.{ℕ}
 
--- in the head: the counts, then what is kept of the stage, then 16 bytes that are reserved
+-- in the head: the counts, then what is kept of the stage, then the guard, and 8 bytes that are reserved
 abbrev pub flatPlace : ℕ
 flatPlace = 24
 
-abbrev pub reservedPlace : ℕ
-reservedPlace = 48
+abbrev pub guardPlace : ℕ
+guardPlace = 48
 
 -- the jacks follow
 abbrev pub headSize : ℕ
@@ -26,9 +26,13 @@ abbrev pub paramsPlace : ℕ
 paramsPlace = 12288
 
 -- after the parameters of 127 streams, 16 bytes each
+abbrev pub livesPlace : ℕ
+livesPlace = 14320
+
+-- after where each of 127 streams is in its lifecycle, a byte each
 abbrev pub stateSize : ℕ
-stateSize = 14320
+stateSize = 14447
 
 -- all but the head
 abbrev pub tablesSize : ℕ
-tablesSize = 14256
+tablesSize = 14383

@@ -54,12 +54,12 @@ lacks n (x ∷ xs) h e (inl o) = false≢true (sym (h .0) ∙ eq-eqb x 10 (sym o
 lacks n (x ∷ xs) h e (inr o) = lacks n xs (h .1) e o
 
 own-others : (call : Call) → Others (ownRefusals call)
-own-others (SetParams stream to) = (refl, tt)
-own-others (Command kind stream) = tt
+own-others (SetParams stream to) = (refl, (refl, tt))
+own-others (Command kind stream) = (refl, (refl, tt))
 own-others (Remap jack association sequence) = (refl, (refl, (refl, tt)))
 own-others (Streams direction) = tt
 own-others (Supported field stream) = (refl, tt)
-own-others (Xfer stream) = (refl, (refl, tt))
+own-others (Xfer stream) = (refl, (refl, (refl, tt)))
 
 ten-left : (x : Sound) (r : Refusal) {y : Sound} → saysRefusal r .number ≡ 10 → Left x r y → y ≡ x
 ten-left x r e (same o) = refl

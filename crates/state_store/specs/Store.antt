@@ -1,9 +1,9 @@
--- The state as bytes in its owner's storage: 64 bytes of core, then jacks, streams, maps and parameters, a row for each.
+-- The state as bytes in its owner's storage: 64 bytes of core, then jacks, streams, maps, parameters and lifecycles, a row for each.
 -- Assumes nothing.
-use mathlib.Core.Bool.{Bool, true, _&&_}
+use mathlib.Core.Bool.{Bool, true, false, not, _&&_}
 use mathlib.Core.List.{List, [], _∷_, _++_}
 use Prim.Native.Nat.{ℕ, _+_}
-use lib.Dec.{eqb}
+use lib.Dec.{leb, eqb}
 use lib.ListN.{getD}
 use lib.Seq.{sets}
 use Rattle.layout.specs.Bytes.{numAt}
@@ -12,22 +12,25 @@ use Rattle.layout.specs.Rows.{rowsAt, rowsBytes}
 use Rattle.codes.specs.Says.{pick}
 use Rattle.records.specs.Records.{jackBytes, pcmBytes, mapBytes, jackInfo, pcmInfo, channelMap}
 use Rattle.tables.specs.Tables.{jackAt, pcmAt, mapAt}
-use Rattle.state_store.specs.Places.{headSize, pcmsPlace, mapsPlace, paramsPlace}
+use Rattle.state_store.specs.Places.{headSize, pcmsPlace, mapsPlace, paramsPlace, livesPlace}
 use Rattle.state_store.specs.Flat.{flatRow, flatValues, flatOf, flatStage, flatReady, wholeFlat}
 use Rattle.state_store.specs.Types.{Params, Core, Sound, Streams, JacksAsked, Head}
 
 -- ---- the core: configured counts 4 each, table counts 4 each, then the stage
 
--- and 16 bytes that are reserved: 0
-abbrev pub reservedRow : List ℕ
-reservedRow = 8 ∷ 8 ∷ []
+-- and the guard 8, which is 0 or 1, and 8 bytes that are reserved: 0
+abbrev pub guardRow : List ℕ
+guardRow = 8 ∷ 8 ∷ []
+
+abbrev pub flag : Bool → ℕ
+flag t = pick t 1 0
 
 abbrev pub headRow : List ℕ
-headRow = 4 ∷ 4 ∷ 4 ∷ 4 ∷ 4 ∷ 4 ∷ (flatRow ++ reservedRow)
+headRow = 4 ∷ 4 ∷ 4 ∷ 4 ∷ 4 ∷ 4 ∷ (flatRow ++ guardRow)
 
 abbrev pub headValues : Head → List ℕ
 headValues h =
-    h .counts .jacks ∷ h .counts .streams ∷ h .counts .maps ∷ h .read .jacks ∷ h .read .streams ∷ h .read .maps ∷ (flatValues (h .flat) ++ (h .reserved ∷ h .spare ∷ []))
+    h .counts .jacks ∷ h .counts .streams ∷ h .counts .maps ∷ h .read .jacks ∷ h .read .streams ∷ h .read .maps ∷ (flatValues (h .flat) ++ (h .guard ∷ h .reserved ∷ []))
 
 abbrev pub headFrom : List ℕ → Head
 headFrom vs =
@@ -49,19 +52,19 @@ headFrom vs =
             format = getD vs 16 0;
             rate = getD vs 17 0;
           };
-      reserved = getD vs 18 0;
-      spare = getD vs 19 0;
+      guard = getD vs 18 0;
+      reserved = getD vs 19 0;
     }
 
 unfoldable pub headAt : List ℕ → Head
 headAt s = headFrom (readAt 0 headRow s)
 
 abbrev pub headOf : Core → Head
-headOf c = record { counts = c .counts; read = c .read; flat = flatOf (c .ready) (c .stage); reserved = 0; spare = 0 }
+headOf c = record { counts = c .counts; read = c .read; flat = flatOf (c .ready) (c .stage); guard = flag (c .guard); reserved = 0 }
 
--- a store whose stage is written as it must be, and in which what is reserved is 0
+-- a store whose stage is written as it must be, whose guard is 0 or 1, and in which what is reserved is 0
 abbrev pub wholeHead : Head → Bool
-wholeHead h = wholeFlat (h .flat) && (eqb (h .reserved) 0 && eqb (h .spare) 0)
+wholeHead h = wholeFlat (h .flat) && (leb (h .guard) 1 && eqb (h .reserved) 0)
 
 abbrev pub whole : List ℕ → Bool
 whole s = wholeHead (headAt s)
@@ -70,8 +73,8 @@ whole s = wholeHead (headAt s)
 abbrev pub coreOf : Head → Core
 coreOf h =
     pick (wholeHead h)
-    (record { counts = h .counts; read = h .read; ready = flatReady (h .flat); stage = flatStage (h .flat) })
-    (record { counts = h .counts; read = h .read; ready = true; stage = JacksAsked (Streams 0) })
+    (record { counts = h .counts; guard = not (eqb (h .guard) 0); read = h .read; ready = flatReady (h .flat); stage = flatStage (h .flat) })
+    (record { counts = h .counts; guard = false; read = h .read; ready = true; stage = JacksAsked (Streams 0) })
 
 -- ---- rows
 
@@ -94,6 +97,16 @@ paramsAt o s =
       features = numAt (o + 12) 4 s;
     }
 
+-- where a stream is in its lifecycle, 1
+abbrev pub lifeRow : List ℕ
+lifeRow = 1 ∷ []
+
+abbrev pub lifeBytes : ℕ → List ℕ
+lifeBytes l = write lifeRow (l ∷ [])
+
+unfoldable pub lifeAt : ℕ → List ℕ → ℕ
+lifeAt o s = numAt o 1 s
+
 -- ---- THE STATE that a store holds, and the bytes of a state
 
 unfoldable pub soundOf : List ℕ → Sound
@@ -104,12 +117,13 @@ soundOf s =
       pcms = rowsAt pcmAt (size pcmInfo) pcmsPlace 127 s;
       maps = rowsAt mapAt (size channelMap) mapsPlace 170 s;
       params = rowsAt paramsAt 16 paramsPlace 127 s;
+      lives = rowsAt lifeAt 1 livesPlace 127 s;
     }
 
 unfoldable pub soundBytes : Sound → List ℕ
 soundBytes x =
     write headRow (headValues (headOf (x .core)))
-    ++ (rowsBytes jackBytes (x .jacks) ++ (rowsBytes pcmBytes (x .pcms) ++ (rowsBytes mapBytes (x .maps) ++ rowsBytes paramsBytes (x .params))))
+    ++ (rowsBytes jackBytes (x .jacks) ++ (rowsBytes pcmBytes (x .pcms) ++ (rowsBytes mapBytes (x .maps) ++ (rowsBytes paramsBytes (x .params) ++ rowsBytes lifeBytes (x .lives)))))
 
 -- what a store holds once its state is x: a store that is not whole holds no state, and stays
 abbrev pub stateAfter : List ℕ → Sound → List ℕ

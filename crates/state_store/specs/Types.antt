@@ -18,7 +18,7 @@ pub use Rattle.core.specs.declared.state.Call.the-variants.{Streams, SetParams,
 pub use Rattle.core.specs.declared.state.Counts.{Counts}
 pub use Rattle.core.specs.declared.plan.Value.{Value}
 pub use Rattle.core.specs.declared.plan.Effect.{Effect}
-pub use Rattle.core.specs.declared.plan.Effect.the-variants.{Nothing, FillJacks, FillStreams, FillMaps, Store}
+pub use Rattle.core.specs.declared.plan.Effect.the-variants.{Nothing, FillJacks, FillStreams, FillMaps, Store, Move}
 pub use Rattle.core.specs.declared.state.Params.{Params}
 pub use Rattle.core.specs.declared.plan.Request.{Request}
 pub use Rattle.core.specs.declared.plan.Say.{Say}

@@ -30,7 +30,7 @@ use Rattle.exchange.specs.PlanLaws.{Begun, bars, asks, goes, begun, counted, An
 use Rattle.state_store.specs.Places.{headSize, stateSize}
 use Rattle.layout.specs.Lent.{resultSize}
 use Rattle.state_store.specs.Flat.{flatRow, flatValues, callFlat, staged, flatOf}
-use Rattle.state_store.specs.Store.{reservedRow, wholeHead, headRow, headValues, headFrom, headAt, headOf, coreOf, whole, paramsBytes, soundOf, soundBytes}
+use Rattle.state_store.specs.Store.{guardRow, flag, lifeBytes, wholeHead, headRow, headValues, headFrom, headAt, headOf, coreOf, whole, paramsBytes, soundOf, soundBytes}
 use Rattle.records.specs.Records.{jackBytes, pcmBytes, mapBytes}
 use Rattle.layout.specs.Lent.{Made}
 use Rattle.state_store.specs.Calls.{Told, told, lengths, callIn, feedIn, failIn, Opened, settingUp, openIn, newIn}
@@ -38,13 +38,13 @@ use Rattle.state_store.specs.FlatLaws.{core-same, head-whole}
 use Rattle.state_store.specs.OverLaws.{headBytes, head-sized}
 use Rattle.state_store.specs.StoreLaws.{core-at, head-back}
 use Rattle.state_store.specs.OpenLaws.{gateIn, openBy, set-up-long, opened-by}
-use Rattle.state_store.specs.Types.{Written, Verdict, Track, Counts, Call, Xfer, Stage, Idle, JacksAsked, StreamsAsked, MapsAsked, Sent, Core, Sound, Effect, Nothing, FillJacks, FillStreams, FillMaps, Store, Look, Plan, Gate, Shut, SetUp, Open, Head}
+use Rattle.state_store.specs.Types.{Written, Verdict, Track, Counts, Call, Xfer, Stage, Idle, JacksAsked, StreamsAsked, MapsAsked, Sent, Core, Sound, Effect, Nothing, FillJacks, FillStreams, FillMaps, Store, Move, Look, Plan, Gate, Shut, SetUp, Open, Head}
 
 -- ---- a core whose numbers fit their widths, as every core of the code does
 
 -- the ten fields of a call
 abbrev pub FitCall : Call → Type 0
-FitCall call = Fit (drop 2 (flatRow ++ reservedRow)) (drop 2 (flatValues (callFlat call) ++ (0 ∷ 0 ∷ [])))
+FitCall call = Fit (drop 2 flatRow) (drop 2 (flatValues (callFlat call)))
 
 abbrev pub FitStage : Stage → Type 0
 FitStage Idle = Unit {0}
@@ -67,32 +67,49 @@ flag-fits false = lit< tt
 
 module _ (ready : Bool) where
   -- what a call has no use for is 0
-  staged-fits : (n : ℕ) (call : Call) → n < 256 ^ 1 → FitCall call → Fit (flatRow ++ reservedRow) (flatValues (staged ready n (callFlat call)) ++ (0 ∷ 0 ∷ []))
+  staged-fits : (n : ℕ) (call : Call) → n < 256 ^ 1 → FitCall call → Fit flatRow (flatValues (staged ready n (callFlat call)))
   staged-fits n call k h = (flag-fits ready, (k, h))
 
-  flat-fits : (g : Stage) → FitStage g → Fit (flatRow ++ reservedRow) (flatValues (flatOf ready g) ++ (0 ∷ 0 ∷ []))
-  flat-fits Idle h = (flag-fits ready, (lit< tt, (lit< tt, (lit< tt, (lit< tt, (lit< tt, (lit< tt, (lit< tt, (lit< tt, (lit< tt, (lit< tt, (lit< tt, (lit< tt, (lit< tt, tt))))))))))))))
+  flat-fits : (g : Stage) → FitStage g → Fit flatRow (flatValues (flatOf ready g))
+  flat-fits Idle h = (flag-fits ready, (lit< tt, (lit< tt, (lit< tt, (lit< tt, (lit< tt, (lit< tt, (lit< tt, (lit< tt, (lit< tt, (lit< tt, (lit< tt, tt))))))))))))
   flat-fits (JacksAsked call) h = staged-fits 1 call (lit< tt) h
   flat-fits (StreamsAsked call) h = staged-fits 2 call (lit< tt) h
   flat-fits (MapsAsked call) h = staged-fits 3 call (lit< tt) h
   flat-fits (Sent call) h = staged-fits 4 call (lit< tt) h
 
-  stage-fits : (g : Stage) → Fit (flatRow ++ reservedRow) (flatValues (flatOf ready g) ++ (0 ∷ 0 ∷ [])) → FitStage g
+  stage-fits : (g : Stage) → Fit flatRow (flatValues (flatOf ready g)) → FitStage g
   stage-fits Idle h = tt
   stage-fits (JacksAsked call) h = h .1 .1
   stage-fits (StreamsAsked call) h = h .1 .1
   stage-fits (MapsAsked call) h = h .1 .1
   stage-fits (Sent call) h = h .1 .1
 
+-- fields that follow fields
+fit-more : (ws vs us ts : List ℕ) → Fit ws vs → Fit us ts → Fit (ws ++ us) (vs ++ ts)
+fit-more [] [] us ts f g = g
+fit-more [] (v ∷ vs) us ts f g = absurd f
+fit-more (w ∷ ws) [] us ts f g = absurd f
+fit-more (w ∷ ws) (v ∷ vs) us ts f g = (f .0, fit-more ws vs us ts (f .1) g)
+
+fit-front : (ws vs us ts : List ℕ) → length vs ≡ length ws → Fit (ws ++ us) (vs ++ ts) → Fit ws vs
+fit-front [] [] us ts e f = tt
+fit-front [] (v ∷ vs) us ts e f = absurd (omega arith)
+fit-front (w ∷ ws) [] us ts e f = absurd (omega arith)
+fit-front (w ∷ ws) (v ∷ vs) us ts e f = (f .0, fit-front ws vs us ts (omega arith) (f .1))
+
+guard-fits : (b : Bool) → flag b < 256 ^ 8
+guard-fits true = lit< tt
+guard-fits false = lit< tt
+
 pub head-fits : (c : Core) → FitCore c → Fit headRow (headValues (headOf c))
 head-fits c f =
-    let g = flat-fits (c .ready) (c .stage) (f .stage) in
+    let g = fit-more flatRow (flatValues (flatOf (c .ready) (c .stage))) guardRow (flag (c .guard) ∷ 0 ∷ []) (flat-fits (c .ready) (c .stage) (f .stage)) (guard-fits (c .guard), (lit< tt, tt)) in
     (f .counts .0, (f .counts .1 .0, (f .counts .1 .1 .0, (f .read .0, (f .read .1 .0, (f .read .1 .1 .0, g))))))
 
 fits-head : (c : Core) → Fit headRow (headValues (headOf c)) → FitCore c
 fits-head c h =
     let r = h .1 .1 .1 in
-    record { counts = (h .0, (h .1 .0, (h .1 .1 .0, tt))); read = (r .0, (r .1 .0, (r .1 .1 .0, tt))); stage = stage-fits (c .ready) (c .stage) (r .1 .1 .1) }
+    record { counts = (h .0, (h .1 .0, (h .1 .1 .0, tt))); read = (r .0, (r .1 .0, (r .1 .1 .0, tt))); stage = stage-fits (c .ready) (c .stage) (fit-front flatRow (flatValues (flatOf (c .ready) (c .stage))) guardRow (flag (c .guard) ∷ 0 ∷ []) refl (r .1 .1 .1)) }
 
 -- what a whole store holds fits
 pub store-fits : (s : List ℕ) → Bytes s → whole s ≡ true → FitCore (soundOf s .core)
@@ -110,8 +127,8 @@ counted-fits : (v : Verdict) (n : ℕ) → n < 256 ^ 4 → counted v n < 256 ^ 4
 counted-fits v n h = picked-by (λ (k : ℕ). k < 256 ^ 4) (isGood v) n 0 (λ _. h) (λ _. lit< tt)
 
 own-fits : {c : Core} {look : Look} {call : Call} {p : Plan} → FitCore c → FitCall call → Own c look call p → FitCore (p .core)
-own-fits f k (sends _ _) = record { counts = f .counts; read = f .read; stage = k }
-own-fits f k commands = record { counts = f .counts; read = f .read; stage = k }
+own-fits f k (sends _ _ _) = record { counts = f .counts; read = f .read; stage = k }
+own-fits f k (commands _ _) = record { counts = f .counts; read = f .read; stage = k }
 own-fits f k (remaps _ _ _) = record { counts = f .counts; read = f .read; stage = k }
 own-fits f k lists = record { counts = f .counts; read = f .read; stage = tt }
 own-fits f k (tells _) = record { counts = f .counts; read = f .read; stage = tt }
@@ -140,10 +157,10 @@ answered-fits f (fails _ _ _) = record { counts = f .counts; read = f .read; sta
 pub set-up-fits : (c : Core) (stream : ℕ) → FitCore c → stream < 256 ^ 4 → FitCore (withStage c (JacksAsked (Xfer stream)))
 set-up-fits c stream f k =
     let z : 0 < 256 ^ 4 = lit< tt in
-    record { counts = f .counts; read = f .read; stage = (lit< tt, (lit< tt, (k, (z, (z, (z, (lit< tt, (lit< tt, (lit< tt, (lit< tt, (lit< tt, (lit< tt, tt)))))))))))) }
+    record { counts = f .counts; read = f .read; stage = (lit< tt, (lit< tt, (k, (z, (z, (z, (lit< tt, (lit< tt, (lit< tt, (lit< tt, tt)))))))))) }
 
-pub new-fits : (jacks streams maps : ℕ) → jacks < 256 ^ 4 → streams < 256 ^ 4 → maps < 256 ^ 4 → FitCore (newCore jacks streams maps)
-new-fits jacks streams maps j k m = record { counts = (j, (k, (m, tt))); read = no-counts; stage = tt }
+pub new-fits : (on : Bool) (jacks streams maps : ℕ) → jacks < 256 ^ 4 → streams < 256 ^ 4 → maps < 256 ^ 4 → FitCore (newCore on jacks streams maps)
+new-fits on jacks streams maps j k m = record { counts = (j, (k, (m, tt))); read = no-counts; stage = tt }
 
 -- ---- a store in which a state was written
 
@@ -155,7 +172,7 @@ pub left-head : (s : List ℕ) (x : Sound) → FitCore (x .core) → headSize �
 unfolding soundBytes
 left-head s x f l =
     let h = headBytes (x .core) in
-    let rest = rowsBytes jackBytes (x .jacks) ++ (rowsBytes pcmBytes (x .pcms) ++ (rowsBytes mapBytes (x .maps) ++ rowsBytes paramsBytes (x .params))) in
+    let rest = rowsBytes jackBytes (x .jacks) ++ (rowsBytes pcmBytes (x .pcms) ++ (rowsBytes mapBytes (x .maps) ++ (rowsBytes paramsBytes (x .params) ++ rowsBytes lifeBytes (x .lives)))) in
     let e : 0 + length h ≡ headSize = zero-add (length h) ∙ head-sized (x .core) in
     ap headAt (sym (sets-then s 0 headSize h rest (sym e)))
     ∙ head-before (sets s 0 h) rest
@@ -173,6 +190,7 @@ after-core (FillJacks n) c x page = refl
 after-core (FillStreams n) c x page = refl
 after-core (FillMaps n) c x page = refl
 after-core (Store stream to) c x page = refl
+after-core (Move stream life) c x page = refl
 
 module _ (s m r : List ℕ) (b : Bytes s) (w : whole s ≡ true) where
   told-whole : (p : Plan) (page : List ℕ) → FitCore (p .core) → lengths s r ≡ true → whole (told s p page m r .state) ≡ true
@@ -213,8 +231,8 @@ module _ (s m r : List ℕ) (b : Bytes s) (w : whole s ≡ true) where
       by SetUp e = set-up-whole stream k (set-up-long s m t stream e .0)
       by (Open period) e = w
 
-pub new-whole : (s : List ℕ) (jacks streams maps : ℕ) → jacks < 256 ^ 4 → streams < 256 ^ 4 → maps < 256 ^ 4 → newIn s jacks streams maps .answer ≡ 0 → whole (newIn s jacks streams maps .store) ≡ true
-new-whole s jacks streams maps j k m =
+pub new-whole : (on : Bool) (s : List ℕ) (jacks streams maps : ℕ) → jacks < 256 ^ 4 → streams < 256 ^ 4 → maps < 256 ^ 4 → newIn on s jacks streams maps .answer ≡ 0 → whole (newIn on s jacks streams maps .store) ≡ true
+new-whole on s jacks streams maps j k m =
     guarded-by (λ (x : Made). x .answer ≡ 0 → whole (x .store) ≡ true) _ _ _
-    (λ l _. left-whole s (newSound jacks streams maps) (new-fits jacks streams maps j k m) (omega (arith, leb-true stateSize (length s) l)))
+    (λ l _. left-whole s (newSound on jacks streams maps) (new-fits on jacks streams maps j k m) (omega (arith, leb-true stateSize (length s) l)))
     (λ _ e. absurd (omega arith))

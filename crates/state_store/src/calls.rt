@@ -16,6 +16,7 @@ use crate::head::core_by;
 use crate::head::get_head;
 use crate::head::is_whole;
 use crate::head::put_core;
+use crate::place::life_at;
 use crate::place::look;
 use crate::place::params_at;
 use crate::place::pending_look;
@@ -39,7 +40,7 @@ use tables::page_ok;
 use turns::Track;
 
 // The bytes of a state.
-pub const SIZE: usize = 14320;
+pub const SIZE: usize = 14447;
 
 // The least length of a result: a list of 127 streams with its count.
 pub const RESULT: usize = 512;
@@ -80,7 +81,7 @@ fn change(state: &mut [u8], whole: bool, effect: Effect, core: Core, page: &[u8]
         return;
     }
     put_core(&mut *state, core);
-    apply(&mut *state, effect, page);
+    apply(&mut *state, core.guard, effect, page);
 }
 
 // The new core alone.
@@ -217,7 +218,8 @@ pub fn open(state: &mut [u8], t: Track, stream: u32, message: &mut [u8]) -> Open
     let whole = is_whole(h);
     let c = core_by(whole, h);
     let params = params_at(&state[..], stream);
-    let gate = xfer_gate(lengths, c, params, t, stream);
+    let life = life_at(&state[..], stream);
+    let gate = xfer_gate(lengths, c, params, life, t, stream);
     match gate {
         Gate::Shut(refusal) => Opening::Says(refusal.number() as u64),
         Gate::SetUp => set_up(state, whole, c, stream, message),

@@ -1,5 +1,6 @@
 // A new state, and the configured counts of a state.
 ghost use mathlib.Core.Path.{_≡_};
+ghost use mathlib.Core.Bool.{true, false};
 ghost use Prim.Native.Nat.{_≤_};
 ghost use lib.ListN.{length};
 ghost use lib.Seq.{sets};
@@ -30,16 +31,29 @@ fn clear(s: &mut [u8])
     }
 }
 
-// The state before any call, from the configured counts.
-pub fn new(state: &mut [u8], jacks: u32, streams: u32, chmaps: u32) -> u64
-    ensures { λ r. ⌜ made r (now (state .exit)) ≡ newIn (now (state .entry)) jacks streams chmaps ⌝ }
+fn make(guard: bool, state: &mut [u8], jacks: u32, streams: u32, chmaps: u32) -> u64
+    ensures { λ r. ⌜ made r (now (state .exit)) ≡ newIn guard (now (state .entry)) jacks streams chmaps ⌝ }
 {
     if state.len() < SIZE {
         return 10;
     }
-    put_core(&mut *state, Core::new(jacks, streams, chmaps));
+    put_core(&mut *state, Core::new(guard, jacks, streams, chmaps));
     clear(&mut *state);
     0
+}
+
+// The state before any call, from the configured counts.
+pub fn new(state: &mut [u8], jacks: u32, streams: u32, chmaps: u32) -> u64
+    ensures { λ r. ⌜ made r (now (state .exit)) ≡ newIn false (now (state .entry)) jacks streams chmaps ⌝ }
+{
+    make(false, state, jacks, streams, chmaps)
+}
+
+// The same with the guard: commands are held to the standard's lifecycle.
+pub fn new_guarded(state: &mut [u8], jacks: u32, streams: u32, chmaps: u32) -> u64
+    ensures { λ r. ⌜ made r (now (state .exit)) ≡ newIn true (now (state .entry)) jacks streams chmaps ⌝ }
+{
+    make(true, state, jacks, streams, chmaps)
 }
 
 // A count, of a core that passes the consistency test.

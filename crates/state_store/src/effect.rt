@@ -1,4 +1,4 @@
-// The one effect of a plan on the tables and parameters of a store, by place.
+// The one effect of a plan on the tables, parameters and lifecycles of a store, by place.
 ghost use mathlib.Core.Path.{_≡_};
 ghost use Prim.Native.Nat.{_+_, _*_, _≤_};
 ghost use lib.Dec.{ltb};
@@ -7,14 +7,16 @@ ghost use lib.Seq.{sets};
 ghost use Rattle.layout.specs.Bytes.{bytesAt};
 ghost use Rattle.codes.specs.Says.{pick};
 ghost use Rattle.state_store.specs.Store.{paramsBytes};
-ghost use Rattle.state_store.specs.Effect.{copiedIn, effectIn};
+ghost use Rattle.state_store.specs.Effect.{copiedIn, livedIn, effectIn};
 ghost use Rattle.state_store.specs.Places.{paramsPlace, stateSize};
 use crate::fields;
 use crate::place::JACKS;
+use crate::place::LIVES;
 use crate::place::MAPS;
 use crate::place::PARAMS;
 use crate::place::PCMS;
 use crate::place::ROW;
+use codes::life;
 use core::Effect;
 use core::Params;
 use records::ChannelMap;
@@ -63,15 +65,38 @@ fn put_params(s: &mut [u8], stream: u32, to: Params)
     layout::put_u32(&mut *s, at + fields::SET_FEATURES, to.features);
 }
 
-pub(crate) fn apply(s: &mut [u8], effect: Effect, page: &[u8])
+// An ok command is its stream's state, under the guard.
+fn put_life(s: &mut [u8], guard: bool, stream: u32, life: u8)
+    ensures { λ _. ⌜ now (s .exit) ≡ livedIn guard stream life (now (s .entry)) ⌝ }
+{
+    if !guard {
+        return;
+    }
+    let i = stream as usize;
+    if 127 <= i {
+        return;
+    }
+    layout::put_u8(&mut *s, LIVES + i, life);
+}
+
+// Setting parameters is a command too.
+fn put_set(s: &mut [u8], guard: bool, stream: u32, to: Params)
+    ensures { λ _. ⌜ now (s .exit) ≡ livedIn guard stream 0 (pick (ltb stream 127) (sets (now (s .entry)) (paramsPlace + stream * 16) (paramsBytes to)) (now (s .entry))) ⌝ }
+{
+    put_params(&mut *s, stream, to);
+    put_life(&mut *s, guard, stream, life::SET_PARAMETERS);
+}
+
+pub(crate) fn apply(s: &mut [u8], guard: bool, effect: Effect, page: &[u8])
     requires { ⌜ stateSize ≤ length (now s) ⌝ }
-    ensures { λ _. ⌜ now (s .exit) ≡ effectIn effect (now (page .entry)) (now (s .entry)) ⌝ }
+    ensures { λ _. ⌜ now (s .exit) ≡ effectIn guard effect (now (page .entry)) (now (s .entry)) ⌝ }
 {
     match effect {
         Effect::Nothing => {}
         Effect::FillJacks(n) => fill(&mut *s, JACKS, JackInfo::SIZE as u32, n, page),
         Effect::FillStreams(n) => fill(&mut *s, PCMS, PcmInfo::SIZE as u32, n, page),
         Effect::FillMaps(n) => fill(&mut *s, MAPS, ChannelMap::SIZE as u32, n, page),
-        Effect::Store { stream, to } => put_params(&mut *s, stream, to),
+        Effect::Store { stream, to } => put_set(&mut *s, guard, stream, to),
+        Effect::Move { stream, life } => put_life(&mut *s, guard, stream, life),
     }
 }

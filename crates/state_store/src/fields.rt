@@ -38,10 +38,11 @@ pub(crate) const FORMAT: usize = 46;
 
 pub(crate) const RATE: usize = 47;
 
-// What is reserved.
-pub(crate) const RESERVED: usize = 48;
+// Commands are held to the lifecycle: 1, or 0.
+pub(crate) const GUARD: usize = 48;
 
-pub(crate) const SPARE: usize = 56;
+// What is reserved.
+pub(crate) const RESERVED: usize = 56;
 
 // A jack's record.
 pub(crate) const JACK_FEATURES: usize = 4;

@@ -28,13 +28,13 @@ pub struct Flat {
     pub rate: u8,
 }
 
-// What stands before the tables of a state. What is reserved is 0.
+// What stands before the tables of a state. The guard is 0 or 1, and what is reserved is 0.
 pub struct Head {
     pub counts: Counts,
     pub read: Counts,
     pub flat: Flat,
+    pub guard: u64,
     pub reserved: u64,
-    pub spare: u64,
 }
 
 // ---- from a stage to its fields

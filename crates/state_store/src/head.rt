@@ -7,9 +7,9 @@ ghost use mathlib.Core.List.{[], _∷_};
 ghost use Rattle.state_store.specs.Flat.{flatRow, flatValues};
 ghost use Rattle.layout.specs.Bytes.{le, numAt};
 ghost use Rattle.layout.specs.Layout.{write};
-ghost use Rattle.state_store.specs.Store.{headRow, headValues, headAt, headOf, coreOf, wholeHead, reservedRow};
+ghost use Rattle.state_store.specs.Store.{headRow, headValues, headAt, headOf, coreOf, wholeHead, guardRow, flag};
 ghost use Rattle.state_store.specs.Steps.{countsRow, countsValues};
-ghost use Rattle.state_store.specs.Places.{flatPlace, reservedPlace, headSize};
+ghost use Rattle.state_store.specs.Places.{flatPlace, guardPlace, headSize};
 use crate::fields;
 use crate::flat::Flat;
 use crate::flat::Head;
@@ -116,17 +116,17 @@ pub(crate) fn get_head(s: &[u8]) -> Head
             format: byte(s, fields::FORMAT),
             rate: byte(s, fields::RATE),
         },
+        guard: word(s, fields::GUARD),
         reserved: word(s, fields::RESERVED),
-        spare: word(s, fields::SPARE),
     }
 }
 
-// A head whose stage is written as it must be, and in which what is reserved is 0.
+// A head whose stage is written as it must be, whose guard is 0 or 1, and in which what is reserved is 0.
 pub(crate) fn is_whole(h: Head) -> bool
     ensures { λ r. ⌜ r ≡ wholeHead h ⌝ }
 {
     let flat = is_whole_flat(h.flat);
-    both(flat, both(h.reserved == 0, h.spare == 0))
+    both(flat, both(h.guard <= 1, h.reserved == 0))
 }
 
 // A head that is not whole stands for no core: it gives one that fails the consistency test, so
@@ -141,8 +141,10 @@ pub(crate) fn core_by(whole: bool, h: Head) -> Core
     if whole {
         let stage = stage_of(flat);
         let ready = flat.ready != 0;
+        let guard = h.guard != 0;
         return Core {
             counts,
+            guard,
             read,
             ready,
             stage,
@@ -150,6 +152,7 @@ pub(crate) fn core_by(whole: bool, h: Head) -> Core
     }
     Core {
         counts,
+        guard: false,
         read,
         ready: true,
         stage: Stage::JacksAsked(Call::Streams { direction: 0 }),
@@ -161,6 +164,12 @@ pub(crate) fn core_of(h: Head) -> Core
     ensures { λ r. ⌜ r ≡ coreOf h ⌝ }
 {
     core_by(is_whole(h), h)
+}
+
+fn number(guard: bool) -> u64
+    ensures { λ r. ⌜ r ≡ flag guard ⌝ }
+{
+    if guard { 1 } else { 0 }
 }
 
 fn put_counts(s: &mut [u8], counts: Counts, read: Counts)
@@ -194,12 +203,12 @@ fn put_flat(s: &mut [u8], f: Flat)
 }
 
 // What is reserved is 0.
-fn put_reserved(s: &mut [u8])
+fn put_guard(s: &mut [u8], guard: bool)
     requires { ⌜ headSize ≤ length (now s) ⌝ }
-    ensures { λ _. ⌜ now (s .exit) ≡ sets (now (s .entry)) reservedPlace (write reservedRow (0 ∷ 0 ∷ [])) ⌝ }
+    ensures { λ _. ⌜ now (s .exit) ≡ sets (now (s .entry)) guardPlace (write guardRow (flag guard ∷ 0 ∷ [])) ⌝ }
 {
+    put_word(s, fields::GUARD, number(guard));
     put_word(s, fields::RESERVED, 0);
-    put_word(s, fields::SPARE, 0);
 }
 
 // The core over the one that stands there; no table is touched.
@@ -211,5 +220,5 @@ pub(crate) fn put_core(s: &mut [u8], c: Core)
     let flat = flat_of(c.ready, stage);
     put_counts(s, c.counts, c.read);
     put_flat(s, flat);
-    put_reserved(s);
+    put_guard(s, c.guard);
 }

@@ -20,6 +20,7 @@ pub use calls::size;
 pub use config::chmaps;
 pub use config::jacks;
 pub use config::new;
+pub use config::new_guarded;
 pub use config::streams;
 pub use flat::Flat;
 pub use flat::Head;

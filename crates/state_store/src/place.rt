@@ -6,11 +6,12 @@ ghost use mathlib.Core.List.{[]};
 ghost use Rattle.layout.specs.Layout.{size};
 ghost use Rattle.records.specs.Records.{pcmInfoOf, pcmInfo};
 ghost use Rattle.tables.specs.Tables.{pcmAt};
-ghost use Rattle.exchange.specs.State.{jackOf, pcmOf, paramsOf};
+ghost use Rattle.exchange.specs.State.{jackOf, pcmOf, paramsOf, lifeOf};
 ghost use Rattle.exchange.specs.Tables.{fieldOf, lookOf, pendingLook};
 ghost use Rattle.state_store.specs.Store.{soundOf};
 ghost use Rattle.state_store.specs.Places.{stateSize};
 use crate::fields;
+use codes::life;
 use core::Call;
 use core::Field;
 use core::Look;
@@ -30,6 +31,8 @@ pub(crate) const PCMS: usize = 4144;
 pub(crate) const MAPS: usize = 8208;
 
 pub(crate) const PARAMS: usize = 12288;
+
+pub(crate) const LIVES: usize = 14320;
 
 // A stream's parameters.
 pub(crate) const ROW: usize = 16;
@@ -82,13 +85,24 @@ fn stream_field(s: &[u8], stream: u32, field: Field) -> Value
     field_at(s, PCMS + i * PcmInfo::SIZE, field)
 }
 
+// Where a stream is in its lifecycle.
+pub(crate) fn life_at(s: &[u8], stream: u32) -> u8
+    ensures { λ r. ⌜ r ≡ lifeOf (soundOf (now (s .entry))) stream ⌝ }
+{
+    let i = stream as usize;
+    if 127 <= i {
+        return life::SET_PARAMETERS;
+    }
+    layout::get_u8(s, LIVES + i)
+}
+
 // What a call looks up in a table.
 pub(crate) fn look(s: &[u8], call: Call) -> Look
     ensures { λ r. ⌜ r ≡ lookOf (soundOf (now (s .entry))) call ⌝ }
 {
     match call {
-        Call::SetParams { stream: _, to: _ } => Look::Nothing,
-        Call::Command { kind: _, stream: _ } => Look::Nothing,
+        Call::SetParams { stream, to: _ } => Look::Life(life_at(s, stream)),
+        Call::Command { kind: _, stream } => Look::Life(life_at(s, stream)),
         Call::Remap {
             jack,
             association: _,
@@ -98,7 +112,7 @@ pub(crate) fn look(s: &[u8], call: Call) -> Look
         },
         Call::Streams { direction: _ } => Look::Nothing,
         Call::Supported { field, stream } => Look::Stream(stream_field(s, stream, field)),
-        Call::Xfer { stream: _ } => Look::Nothing,
+        Call::Xfer { stream } => Look::Life(life_at(s, stream)),
     }
 }
 

@@ -1,7 +1,7 @@
 -- Document 01's worked numbers: "P marks the ten proved together, as one table under a single statement over the definitions."
 -- Assumes nothing.
 use mathlib.Core.Path.{_≡_, refl}
-use mathlib.Core.Bool.{true}
+use mathlib.Core.Bool.{true, false}
 use mathlib.Core.List.{List, [], _∷_}
 use Prim.Native.Nat.{ℕ, _+_, _*_}
 use lib.ListN.{replicate}
@@ -24,11 +24,11 @@ use Rattle.worked.specs.Types.{InFull, Going, Done, Ended, Completed, Ca
 
 -- a state of n streams whose set-up is done
 abbrev ready : ℕ → Sound
-ready n = withCore (readTo (newCore 0 n 0) 0 n 0 true) (newSound 0 n 0)
+ready n = withCore (readTo (newCore false 0 n 0) 0 n 0 true) (newSound false 0 n 0)
 
 -- a state of n streams that waits for the answer to the query of streams
 abbrev asking : ℕ → Sound
-asking n = withCore (withStage (newCore 0 n 0) (StreamsAsked (Streams 0))) (newSound 0 n 0)
+asking n = withCore (withStage (newCore false 0 n 0) (StreamsAsked (Streams 0))) (newSound false 0 n 0)
 
 -- what a call answers, and the message buffer of 24 zeros afterwards
 abbrev calls : Sound → Call → ℕ × List ℕ
@@ -50,7 +50,7 @@ pub examples :
     (calls (ready 2) (sets 8192 2048)
     ≡ (256 + 24, 0x01 ∷ 0x01 ∷ 0x00 ∷ 0x00 ∷ 0x01 ∷ 0x00 ∷ 0x00 ∷ 0x00 ∷ 0x00 ∷ 0x20 ∷ 0x00 ∷ 0x00 ∷ 0x00 ∷ 0x08 ∷ 0x00 ∷ 0x00 ∷ 0x00 ∷ 0x00 ∷ 0x00 ∷ 0x00 ∷ 0x02 ∷ 0x05 ∷ 0x07 ∷ 0x00 ∷ []))
     -- "query of 3 jacks: 01 00 00 00 00 00 00 00 03 00 00 00 18 00 00 00": the first call on a new state
-    × (calls (newSound 3 2 0) (Streams 0)
+    × (calls (newSound false 3 2 0) (Streams 0)
     ≡ (256 + 16, 0x01 ∷ 0x00 ∷ 0x00 ∷ 0x00 ∷ 0x00 ∷ 0x00 ∷ 0x00 ∷ 0x00 ∷ 0x03 ∷ 0x00 ∷ 0x00 ∷ 0x00 ∷ 0x18 ∷ 0x00 ∷ 0x00 ∷ 0x00 ∷ replicate 8 0))
     -- "buffer 8, period 8 is sent"
     × (calls (ready 2) (sets 8 8) .0 ≡ 256 + 24)

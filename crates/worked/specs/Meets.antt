@@ -1,7 +1,7 @@
 -- THE DRIVER MEETS THE DEVICE: what the driver's calls come to where the model device answers them. `Talk` defines the conversation.
 -- Assumes nothing.
 use mathlib.Core.Path.{_≡_, refl, sym, ap, _∙_, subst}
-use mathlib.Core.Bool.{true}
+use mathlib.Core.Bool.{Bool, true, false}
 use mathlib.Core.List.{List, [], _∷_}
 use Prim.Native.Nat.{ℕ, _+_, _%_, _≤_, _<_, _^_}
 use native.Mathlib.Omega.{arith}
@@ -17,14 +17,15 @@ use Rattle.turns.specs.Asked as ring
 use Rattle.turns.specs.Cut.{cut}
 use Rattle.core.specs.State.{unset, withStage}
 use Rattle.core.specs.Consistent.{periodOk, numbersOk, callOk}
-use Rattle.core.specs.Plan.{kindCode, setOf, ownOf, storedOf}
+use Rattle.core.specs.Plan.{kindCode, kindLife, setOf, ownOf, storedOf}
 use Rattle.core.specs.Reply.{requestBytes}
+use Rattle.core.specs.Unguarded.{off-command}
 use Rattle.core.specs.declared.plan.Request.the-variants as request
-use Rattle.exchange.specs.State.{paramsOf, withCore}
+use Rattle.exchange.specs.State.{paramsOf}
 use Rattle.exchange.specs.Kept.{Playable}
 use Rattle.exchange.specs.XferLaws.{set-range, period-divides, start-is}
 use Rattle.exchange.specs.Demand.{periodOf, starting}
-use Rattle.exchange.specs.Tables.{lookOf}
+use Rattle.exchange.specs.Tables.{lookOf, moved}
 use Rattle.exchange.specs.Exchange.{stepOf}
 use Rattle.model.specs.Device.{paramsSays, playedSays}
 use Rattle.model.specs.DeviceLaws.{and-passes, few-streams}
@@ -44,9 +45,9 @@ use Rattle.worked.specs.PlayedLaws.{transfer-ends}
 
 -- a conversation x in which set-up is done, and then the call's own part
 pub record SetUp (t : Track) (call : Call) (d : Device) (x : Talk) : Type 0 where
-  -- the state once set-up is done: no exchange is open, the table counts are as configured, and no parameters are set
+  -- the state once set-up is done: no exchange is open, the guard is off, the table counts are as configured, and no parameters are set
   pub sound : Sound
-  pub core : sound .core ≡ record { counts = countsOf d; read = countsOf d; ready = true; stage = Idle }
+  pub core : sound .core ≡ record { counts = countsOf d; guard = false; read = countsOf d; ready = true; stage = Idle }
   pub params : sound .params ≡ replicate 127 unset
   -- its records are just those of the device
   pub jacks : take (d .counts .jacks) (sound .jacks) ≡ take (d .counts .jacks) (d .jacks)
@@ -82,11 +83,19 @@ meets-set-up d t call page message f l fine =
       device = ap (λ (x : Talk). x .device) e;
       page = mapsPage d f call fine page message;
       message = n;
-      settled = record { state = k; ready = refl; closed = refl; counts = refl; device = f; lent = o };
+      settled = record { state = k; off = refl; ready = refl; closed = refl; counts = refl; device = f; lent = o };
       again = e;
     }
 
 -- ---- A CALL THAT IS SENT
+
+-- no exchange is open again, and without the guard no stream is moved
+rests : (s : Sound) (t : Track) (d : Device) (page message : List ℕ) → Settled s t d page message → (params : List Params) (stream life : ℕ)
+    → _≡_ {A = Sound} (record { core = withStage (s .core) Idle; jacks = s .jacks; pcms = s .pcms; maps = s .maps; params = params; lives = moved (s .core .guard) (s .lives) stream life })
+    (record { core = s .core; jacks = s .jacks; pcms = s .pcms; maps = s .maps; params = params; lives = s .lives })
+rests s t d page message o params stream life =
+    ap (λ (g : Bool). record { core = withStage (s .core) Idle; jacks = s .jacks; pcms = s .pcms; maps = s .maps; params = params; lives = moved g (s .lives) stream life }) (o .off)
+    ∙ ap (λ (g : Stage). record { core = withStage (s .core) g; jacks = s .jacks; pcms = s .pcms; maps = s .maps; params = params; lives = s .lives }) (sym (o .closed))
 
 -- "Status ok stores all seven values." The driver then holds them for that stream, the device holds just the 24 bytes that were sent, and both are else as they
 -- were
@@ -95,7 +104,7 @@ pub meets-set-params : (s : Sound) (t : Track) (d : Device) (stream : ℕ) (to :
     → let x = opened s t (SetParams stream to) d page message in
     let y = relay x in
     Took t 24 (write setParameters (setParametersValues (setOf stream to))) x y
-    × (y .driver .sound ≡ record { core = s .core; jacks = s .jacks; pcms = s .pcms; maps = s .maps; params = set (s .params) stream (storedOf to) })
+    × (y .driver .sound ≡ record { core = s .core; jacks = s .jacks; pcms = s .pcms; maps = s .maps; params = set (s .params) stream (storedOf to); lives = s .lives })
     × (paramsOf (y .driver .sound) stream ≡ storedOf to)
     × (paramsSays (y .device) stream ≡ says 0 (setParametersValues (setOf stream to)))
     × (y .device ≡ keptBy d stream (record { known = 1; set = setOf stream to }))
@@ -103,14 +112,13 @@ meets-set-params s t d stream to page message o h period numbers fit =
     let v = setOf stream to in
     let q = request.Set v in
     let l : length (requestBytes q) ≡ 24 = length-write setParameters (setParametersValues v) in
-    let own = own-sends (s .core) stream to period (rw (o .counts) h) in
+    let own = own-sends (s .core) stream to (lookOf s (SetParams stream to)) (o .off) period (rw (o .counts) h) in
     let e = keptBy d stream (record { known = 1; set = v }) in
     let out = setting-answer d v fit refl h in
     let y = result s t d (SetParams stream to) q page message o numbers own (omega arith) e out in
     let few = few-streams (d .counts) (o .device .within) in
-    let sound : relay (opened s t (SetParams stream to) d page message) .driver .sound ≡ record { core = s .core; jacks = s .jacks; pcms = s .pcms; maps = s .maps; params = set (s .params) stream (storedOf to) } =
-    ap (λ (z : Talk). z .driver .sound) y
-    ∙ ap (λ (g : Stage). record { core = withStage (s .core) g; jacks = s .jacks; pcms = s .pcms; maps = s .maps; params = set (s .params) stream (storedOf to) }) (sym (o .closed)) in (
+    let sound : relay (opened s t (SetParams stream to) d page message) .driver .sound ≡ record { core = s .core; jacks = s .jacks; pcms = s .pcms; maps = s .maps; params = set (s .params) stream (storedOf to); lives = s .lives } =
+    ap (λ (z : Talk). z .driver .sound) y ∙ rests s t d page message o (set (s .params) stream (storedOf to)) stream 0 in (
       took s t d (SetParams stream to) q page message o numbers own (omega arith) e out 24 l (kept-fitting d stream (record { known = 1; set = v }) (o .device)) refl,
       sound,
       ap (λ (z : Sound). paramsOf z stream) sound ∙ getD-set-same (s .params) stream (storedOf to) unset (omega (arith, o .state .params)),
@@ -127,9 +135,10 @@ meets-command s t d kind stream page message o h =
     let q = request.Command (record { code = kindCode kind; stream = stream }) in
     let l : length (requestBytes q) ≡ 8 = length-write pcmCommand (kindCode kind ∷ stream ∷ []) in
     let out = command-taken d kind stream h in
-    let y = result s t d (Command kind stream) q page message o refl refl (omega arith) d out in (
-      took s t d (Command kind stream) q page message o refl refl (omega arith) d out 8 l (o .device) refl,
-      ap (λ (z : Talk). z .driver .sound) y ∙ ap (λ (g : Stage). withCore (withStage (s .core) g) s) (sym (o .closed)),
+    let own = off-command (s .core) (o .off) kind stream (lookOf s (Command kind stream)) in
+    let y = result s t d (Command kind stream) q page message o refl own (omega arith) d out in (
+      took s t d (Command kind stream) q page message o refl own (omega arith) d out 8 l (o .device) refl,
+      ap (λ (z : Talk). z .driver .sound) y ∙ rests s t d page message o (s .params) stream (kindLife kind),
       ap (λ (z : Talk). z .device) y,
     )
 

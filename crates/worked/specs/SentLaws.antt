@@ -1,7 +1,7 @@
 -- A call that is sent and that the device takes: one exchange, an ok, and the driver's result.
 -- Assumes nothing.
 use mathlib.Core.Path.{_≡_, refl, sym, ap, _∙_, subst}
-use mathlib.Core.Bool.{true}
+use mathlib.Core.Bool.{true, false}
 use mathlib.Core.List.{List, [], _∷_}
 use Prim.Native.Nat.{ℕ, _≤_, _<_, _^_}
 use native.Mathlib.Omega.{arith}
@@ -21,6 +21,7 @@ use Rattle.core.specs.State.{withStage}
 use Rattle.core.specs.Consistent.{periodOk, callOk}
 use Rattle.core.specs.Plan.{sendOf, endOf, kindCode, setOf, ownSet, ownOf, effectOf, afterSent}
 use Rattle.core.specs.Reply.{requestBytes}
+use Rattle.core.specs.Unguarded.{off-set}
 use Rattle.core.specs.declared.plan.Request.the-variants as request
 use Rattle.core.specs.declared.plan.Value.the-variants as value
 use Rattle.core.specs.declared.plan.Say.the-variants.{Done}
@@ -33,7 +34,7 @@ use Rattle.exchange.specs.Tables.{lookOf, soundAfter}
 use Rattle.exchange.specs.Exchange.{listed, stepOf, callOf, feedOf}
 use Rattle.model.specs.Control.{laid, ok, keptBy, outcomeOf}
 use Rattle.model.specs.ModelLaws.{command-answer}
-use Rattle.worked.specs.Types.{InFull, Verdict, Good, Track, Params, Kind, Prepare, Release, Start, Stop, Call, SetParams, Idle, Sent, Core, Request, Nothing, Plan, Sound, Held, Device}
+use Rattle.worked.specs.Types.{InFull, Verdict, Good, Track, Params, Kind, Prepare, Release, Start, Stop, Call, SetParams, Idle, Sent, Core, Request, Look, Nothing, Plan, Sound, Held, Device}
 use Rattle.worked.specs.Talk.{Talk, talkOf, opened, relay, Fitting, countsOf, Settled, Took}
 use Rattle.worked.specs.TalkLaws.{length-laid, asking, after, feeds, relays, good-page, calls}
 
@@ -92,6 +93,7 @@ module _ (s : Sound) (t : Track) (d : Device) (call : Call) (q : Request) (page 
         subst (λ (y : Talk). Settled (y .driver .sound) t (y .device) (y .page) (y .message)) (sym result)
         (record {
           state = subst (λ (p : Plan). Kept (stepOf p (waiting s call) (okPage page) .sound)) ok-feed (feed-kept (waiting s call) (paged InFull (okPage page) (length (laid (requestBytes q) m))) waiting-kept);
+          off = ap (λ (x : Core). x .guard) core ∙ o .off;
           ready = ap (λ (x : Core). x .ready) core ∙ o .ready;
           closed = ap (λ (x : Core). x .stage) core;
           counts = ap (λ (x : Core). x .counts) core ∙ o .counts ∙ n;
@@ -116,10 +118,9 @@ command-taken d Release stream h = command-answer d RPcmRelease stream (λ s. re
 command-taken d Start stream h = command-answer d RPcmStart stream (λ s. refl) (lit< tt, (h, tt))
 command-taken d Stop stream h = command-answer d RPcmStop stream (λ s. refl) (lit< tt, (h, tt))
 
-pub own-sends : (c : Core) (stream : ℕ) (to : Params) → periodOk (to .buffer) (to .period) ≡ true → stream < c .counts .streams
-    → ownSet c stream to ≡ sendOf c (Sent (SetParams stream to)) (request.Set (setOf stream to)) Nothing
-unfolding ownSet
-own-sends c stream to period h = sym (passes _ _ _ period (passes _ _ _ (lt-ltb stream (c .counts .streams) h) refl))
+pub own-sends : (c : Core) (stream : ℕ) (to : Params) (look : Look) → c .guard ≡ false → periodOk (to .buffer) (to .period) ≡ true → stream < c .counts .streams
+    → ownSet c stream to look ≡ sendOf c (Sent (SetParams stream to)) (request.Set (setOf stream to)) Nothing
+own-sends c stream to look off period h = off-set c off stream to look ∙ sym (passes _ _ _ period (passes _ _ _ (lt-ltb stream (c .counts .streams) h) refl))
 
 pub kept-fitting : (d : Device) (stream : ℕ) (h : Held) → Fitting d → Fitting (keptBy d stream h)
 kept-fitting d stream h f =

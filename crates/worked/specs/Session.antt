@@ -1,7 +1,7 @@
 -- A WHOLE SESSION of the driver with the model device, by the theorems of Meets: their premises are met one after the other.
 -- Assumes nothing.
 use mathlib.Core.Path.{_≡_, refl, sym, ap, _∙_, subst}
-use mathlib.Core.Bool.{true, not}
+use mathlib.Core.Bool.{true, not, false≢true}
 use mathlib.Core.List.{List, _∷_, []}
 use Prim.Native.Nat.{ℕ, _+_, _%_, _≤_, _<_, _^_}
 use native.Mathlib.Omega.{arith}
@@ -43,6 +43,7 @@ playable s r d stream to page message o e =
       state = o .state;
       ring = o .lent .consistent;
       set = λ z. omega (arith, z, ap (λ (p : Params). p .known) e);
+      live = λ g. absurd (false≢true (sym (o .off) ∙ g));
       closed = o .closed;
       still = not-true (r .track .running) (i .0);
       empty = eqb-true (r .track .inflight) 0 (i .1);

@@ -9,7 +9,7 @@ use Rattle.codes.specs.Says.{guard}
 use Rattle.tables.specs.Tables.{jackAt, pcmAt, mapAt, jacksRead, streamsRead, mapsRead, noJacks, noStreams, noMaps}
 use Rattle.core.specs.State.{withStage}
 use Rattle.core.specs.Consistent.{callOk, consistentOf}
-use Rattle.core.specs.Plan.{ownSet, ownRemap, ownSupported, ownXfer, ownOf, afterMaps}
+use Rattle.core.specs.Plan.{ownSet, ownCommand, ownRemap, ownSupported, ownXfer, ownOf, afterMaps}
 use Rattle.core.specs.Reply.{requestBytes, messageAfter, replyOf}
 use Rattle.core.specs.declared.plan.Value.the-variants as value
 use Rattle.core.specs.declared.plan.Say.the-variants.{Done}
@@ -28,7 +28,7 @@ use Rattle.worked.specs.SetUpLaws.{coreAt, askedJacks, askedStreams, ask
 
 -- a call's own part does not look at the stage, and looks at no map
 own-stage : (c : Core) (g : Stage) (call : Call) (look : Look) → ownOf (withStage c g) call look ≡ ownOf c call look
-unfolding ownSet ownRemap ownSupported ownXfer
+unfolding ownSet ownCommand ownRemap ownSupported ownXfer
 own-stage c g (SetParams stream to) look = refl
 own-stage c g (Command kind stream) look = refl
 own-stage c g (Remap jack association sequence) look = refl
@@ -51,9 +51,9 @@ finishing p n c s page quiet =
     ap (λ (x : Effect). record { sound = soundAfter x (p .core) (soundAfter (FillMaps n) c s page) []; reply = replyOf (p .say); streams = listOf (p .say) (p .core .read .streams) (s .pcms) }) (sym quiet)
 
 -- a table more, before set-up is done
-fills : (s : Sound) (c : Core) (x : Effect) (page : List ℕ) → Allowed (s .core) x → c .counts ≡ s .core .counts → s .core .ready ≡ false → consistentOf c ≡ true → Kept s → Kept (soundAfter x c s page)
-fills s c x page a n r e k =
-    step-kept s (record { core = c; say = Done value.Nothing; effect = x }) page k (record { counts = n; ready = λ h. absurd (false≢true (sym r ∙ h)) }) (record { consistent = e; effect = a })
+fills : (s : Sound) (c : Core) (x : Effect) (page : List ℕ) → Allowed (s .core) x → c .counts ≡ s .core .counts → c .guard ≡ s .core .guard → s .core .ready ≡ false → consistentOf c ≡ true → Kept s → Kept (soundAfter x c s page)
+fills s c x page a n g r e k =
+    step-kept s (record { core = c; say = Done value.Nothing; effect = x }) page k (record { counts = n; guard = g; ready = λ h. absurd (false≢true (sym r ∙ h)) }) (record { consistent = e; effect = a })
 
 module _ (d : Device) (f : Fitting d) (call : Call) (fine : callOk call ≡ true) where
   -- the last page
@@ -143,7 +143,7 @@ module _ (d : Device) (f : Fitting d) (call : Call) (fine : callOk call ≡ true
         let j = d .counts .jacks in
         let n = d .counts .streams in
         let m = d .counts .maps in
-        fills (askedMaps d call jacksPage streamsPage) (coreAt d j n m true Idle) (FillMaps m) mapsPage tt refl refl (done-ok d f call fine)
-        (fills (askedStreams d call jacksPage) (coreAt d j n 0 false (MapsAsked call)) (FillStreams n) streamsPage tt refl refl (maps-ok d f call fine)
-        (fills (askedJacks d call) (coreAt d j 0 0 false (StreamsAsked call)) (FillJacks j) jacksPage tt refl refl (streams-ok d f call fine)
-        (fills (newFor d) (coreAt d 0 0 0 false (JacksAsked call)) Nothing [] tt refl refl (jacks-ok d f call fine) (new-kept j n m))))
+        fills (askedMaps d call jacksPage streamsPage) (coreAt d j n m true Idle) (FillMaps m) mapsPage tt refl refl refl (done-ok d f call fine)
+        (fills (askedStreams d call jacksPage) (coreAt d j n 0 false (MapsAsked call)) (FillStreams n) streamsPage tt refl refl refl (maps-ok d f call fine)
+        (fills (askedJacks d call) (coreAt d j 0 0 false (StreamsAsked call)) (FillJacks j) jacksPage tt refl refl refl (streams-ok d f call fine)
+        (fills (newFor d) (coreAt d 0 0 0 false (JacksAsked call)) Nothing [] tt refl refl refl (jacks-ok d f call fine) (new-kept false j n m))))

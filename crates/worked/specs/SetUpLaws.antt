@@ -24,7 +24,7 @@ use Rattle.worked.specs.TalkLaws.{asking, after, calls, Told, told, quer
 
 -- the core with so many records read
 abbrev pub coreAt : Device → ℕ → ℕ → ℕ → Bool → Stage → Core
-coreAt d jacks streams maps ready g = record { counts = countsOf d; read = record { jacks = jacks; streams = streams; maps = maps }; ready = ready; stage = g }
+coreAt d jacks streams maps ready g = record { counts = countsOf d; guard = false; read = record { jacks = jacks; streams = streams; maps = maps }; ready = ready; stage = g }
 
 -- the state while the jacks, the streams, the maps are asked for; and with no exchange open, set-up done
 module _ (d : Device) where
@@ -80,7 +80,7 @@ module _ (d : Device) (f : Fitting d) (call : Call) (fine : callOk call ≡ true
   opens t page m l =
       let s = newFor d in
       ap (λ (p : Plan). talkOf p s [] d page m)
-      (calls s t call (length m) (new-kept (d .counts .jacks) (d .counts .streams) (d .counts .maps) .consistent) refl (l .consistent) (l .idle) fine (l .long))
+      (calls s t call (length m) (new-kept false (d .counts .jacks) (d .counts .streams) (d .counts .maps) .consistent) refl (l .consistent) (l .idle) fine (l .long))
 
   module _ (page : List ℕ) (whole : length page ≡ 4096) where
     -- the three pages

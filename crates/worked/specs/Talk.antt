@@ -2,7 +2,7 @@
 -- Each step is what the contracts of the calls, of `feed` and of `control` say.
 -- Assumes nothing.
 use mathlib.Core.Path.{_≡_}
-use mathlib.Core.Bool.{true}
+use mathlib.Core.Bool.{true, false}
 use mathlib.Core.List.{List, []}
 use Prim.Native.Nat.{ℕ, _≤_, _<_, _^_}
 use lib.ListN.{length, take, getD}
@@ -76,16 +76,17 @@ pub record Lent (t : Track) (page message : List ℕ) : Type 0 where
   pub whole : length page ≡ 4096
   pub long : 24 ≤ length message
 
--- the device's counts, as the driver is configured with them, and the driver's new state
+-- the device's counts, as the driver is configured with them, and the driver's new state, without the guard
 abbrev pub countsOf : Device → Counts
 countsOf d = record { jacks = d .counts .jacks; streams = d .counts .streams; maps = d .counts .maps }
 
 abbrev pub newFor : Device → Sound
-newFor d = newSound (d .counts .jacks) (d .counts .streams) (d .counts .maps)
+newFor d = newSound false (d .counts .jacks) (d .counts .streams) (d .counts .maps)
 
--- a driver that has done set-up with the device, with no exchange open, and what is lent
+-- a driver without the guard that has done set-up with the device, with no exchange open, and what is lent
 pub record Settled (s : Sound) (t : Track) (d : Device) (page message : List ℕ) : Type 0 where
   pub state : Kept s
+  pub off : s .core .guard ≡ false
   pub ready : s .core .ready ≡ true
   pub closed : s .core .stage ≡ Idle
   pub counts : s .core .counts ≡ countsOf d

@@ -52,6 +52,7 @@ fn name(r: Refusal) {
         Refusal::OutOfTurns => text(b"OutOfTurns"),
         Refusal::BadLength => text(b"BadLength"),
         Refusal::Short => text(b"Short"),
+        Refusal::BadState => text(b"BadState"),
     }
 }
 

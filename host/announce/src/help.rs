@@ -20,6 +20,8 @@ device that is set up once: a page for each, and a closing line.
   --wrong-slot-at N  the device names a wrong slot at its completion N
   --budget N         turns allowed to an announcement (periods * G + 1)
   --strict           read of each answer only what the device wrote
+  --guard            send no command, and take no transfer, that the standard's
+                     lifecycle of a stream does not permit
   --short-jacks      the device answers the query of its jack by a header alone,
                      in a page that holds an old jack; a remap is then asked for
   --accepted FILE    write the bytes that the device had accepted when the

@@ -35,6 +35,7 @@ fn before(to: &mut Object, report: &Report) {
     to.seconds("seconds", Some(report.seconds()));
     to.texts("warnings", &recording.warnings(options));
     to.truth("strict", options.strict);
+    to.truth("guard", options.guard);
     to.list("controls", &told.controls, control);
     match &told.jacks {
         Some(told) => to.object("jacks", |to| jacks(to, told)),

@@ -47,6 +47,8 @@ pub struct Options {
     pub budget: Option<u64>,
     /// Feeds carry the length that the device wrote.
     pub strict: bool,
+    /// The state is made with the guard over its streams' lifecycle.
+    pub guard: bool,
     /// The jack query is answered by its header alone.
     pub short_jacks: bool,
     pub accepted: Option<PathBuf>,
@@ -68,6 +70,7 @@ impl Options {
             wrong_slot_at: None,
             budget: None,
             strict: false,
+            guard: false,
             short_jacks: false,
             accepted: None,
             log: None,
@@ -107,8 +110,9 @@ pub fn parse(words: &[OsString]) -> Result<Asked, String> {
         match name {
             "--help" | "-h" if value.is_none() => return Ok(Asked::Help(HELP)),
             "--strict" if value.is_none() => options.strict = true,
+            "--guard" if value.is_none() => options.guard = true,
             "--short-jacks" if value.is_none() => options.short_jacks = true,
-            "--help" | "-h" | "--strict" | "--short-jacks" => return Err(format!("{name} takes no value")),
+            "--help" | "-h" | "--strict" | "--guard" | "--short-jacks" => return Err(format!("{name} takes no value")),
             "--" if value.is_none() => words.by_ref().try_for_each(|word| take_file(&mut options, word))?,
             name if name.len() > 1 && name.starts_with('-') => {
                 let value = || {

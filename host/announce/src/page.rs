@@ -57,6 +57,12 @@ fn before(lines: &mut Lines, report: &Report) {
     if options.strict {
         lines.line("mode", "strict: of each answer only what the device wrote was read");
     }
+    if options.guard {
+        lines.line(
+            "guard",
+            "on: nothing was sent that the stream's lifecycle does not permit",
+        );
+    }
     if let Some(told) = &report.told.jacks {
         lines.line("jacks", &jacks(told));
     }

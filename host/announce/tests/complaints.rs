@@ -36,6 +36,7 @@ fn bad_options() {
     complaint("-l", "unknown option -l; see --help");
     complaint("--help=3", "--help takes no value");
     complaint("--strict=yes", "--strict takes no value");
+    complaint("--guard=on", "--guard takes no value");
     complaint("--short-jacks=1", "--short-jacks takes no value");
     complaint("--slow", "--slow needs a value; see --help");
     complaint("--slow 0", "--slow takes a number from 1 to 1000000, not '0'");

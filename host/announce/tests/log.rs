@@ -123,9 +123,14 @@ fn lengths_and_jacks() {
         let said = jacks.at("remap_answer");
         assert_eq!((said.at("number").number(), said.at("name").text()), answer);
     }
+    let guarded = log(&folder, "a.raw --guard");
+    let announcement = &guarded.at("announcements").list()[0];
+    assert_eq!(announcement.at("guard"), &Json::Truth(true));
+    assert_eq!(controls(announcement), [&queries(4)[..], &own].concat());
     let log = log(&folder, "a.raw");
     let announcement = &log.at("announcements").list()[0];
     assert_eq!(announcement.at("strict"), &Json::Truth(false));
+    assert_eq!(announcement.at("guard"), &Json::Truth(false));
     assert_eq!(announcement.at("jacks"), &Json::Null);
     assert_eq!(controls(announcement), [&queries(4)[..], &own].concat());
 }

@@ -97,15 +97,47 @@ fn a_small_budget() {
     page("budget-enough", "--budget 1000", 0);
 }
 
+/// A stored page is the good one, but for one line.
+fn good_but_for(name: &str, line: &str) {
+    let stored = |name: &str| std::fs::read_to_string(format!("{}/tests/pages/{name}", env!("CARGO_MANIFEST_DIR")));
+    let page = stored(name).unwrap();
+    assert!(page.contains(line));
+    assert_eq!(page.replace(line, ""), stored("good").unwrap());
+}
+
 /// Nothing else of the page is another: the model device writes its answers whole.
 #[test]
 fn strict_mode() {
     page("strict", "--strict", 0);
-    let mode = "mode         strict: of each answer only what the device wrote was read\n";
-    let stored = |name: &str| std::fs::read_to_string(format!("{}/tests/pages/{name}", env!("CARGO_MANIFEST_DIR")));
-    let strict = stored("strict").unwrap();
-    assert!(strict.contains(mode));
-    assert_eq!(strict.replace(mode, ""), stored("good").unwrap());
+    good_but_for(
+        "strict",
+        "mode         strict: of each answer only what the device wrote was read\n",
+    );
+}
+
+/// Nothing else of the page is another: set, prepare, start, transfer, stop, release are permitted, also a second time.
+#[test]
+fn the_guard() {
+    page("guard", "--guard", 0);
+    good_but_for(
+        "guard",
+        "guard        on: nothing was sent that the stream's lifecycle does not permit\n",
+    );
+    let folder = Folder::new("guard-several");
+    for name in ["a.raw", "b.raw", "c.raw"] {
+        folder.write(name, &frames(10_000));
+    }
+    let output = folder.run("--guard --strict --fail-at 4 a.raw b.raw c.raw");
+    let page = masked(&output);
+    let answers: Vec<_> = page.lines().filter(|line| line.starts_with("answer ")).collect();
+    assert_eq!(
+        answers,
+        [
+            "answer       0 Ok",
+            "answer       2 IoError, to transfer",
+            "answer       0 Ok"
+        ]
+    );
 }
 
 /// The customer's story: a jack query that returns its header alone, and an old jack in the page. Read whole, the old jack is used; in strict mode there

@@ -12,6 +12,8 @@ pub struct Case {
     pub model: Option<u64>,
     /// each feed carries the length that the device wrote
     pub strict: bool,
+    /// the state is made with the guard over each stream's lifecycle
+    pub guard: bool,
     pub steps: Vec<Step>,
 }
 

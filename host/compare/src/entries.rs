@@ -24,7 +24,7 @@ pub trait Entries {
     fn sizes() -> [u64; 6];
     fn lend(&mut self, lent: Lent);
 
-    fn make(&mut self, counts: [u32; 3]) -> u64;
+    fn make(&mut self, counts: [u32; 3], guard: bool) -> u64;
     fn ring_new(&mut self) -> u64;
     /// jacks 0, streams 1, maps 2
     fn count(&self, which: usize, result: &mut [u8]) -> u64;

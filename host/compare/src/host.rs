@@ -7,7 +7,7 @@ use oracle::{Control, End, Inside};
 use rules::entries::{Asked, GOING, NOTHING, RESULT_SIZE, SEND};
 use rules::sound::Call;
 use rules::wire::{u32_at, u64_at};
-use rules::{BAD_LENGTH, MESSAGE, PAGE, SHORT};
+use rules::{BAD_LENGTH, BAD_STATE, MESSAGE, PAGE};
 
 /// What lent buffers hold before a call, and bytes lent beyond what is asked for.
 const FILL: u8 = 0xc3;
@@ -53,7 +53,7 @@ fn value(call: Option<Call>, result: &[u8]) -> (usize, Vec<u64>) {
 
 /// An answer's number as the way a call ended.
 fn end(number: u64) -> End {
-    if number <= u64::from(SHORT) { End::Number(number as u8) } else { End::Panic(format!("answers {number}")) }
+    if number <= u64::from(BAD_STATE) { End::Number(number as u8) } else { End::Panic(format!("answers {number}")) }
 }
 
 impl<E: Entries> Device for E {
@@ -74,7 +74,7 @@ impl<E: Entries> Device for E {
 impl<E: Entries> Host<E> {
     pub fn new(case: &Case) -> Self {
         let mut entries = E::fresh();
-        assert_eq!((entries.make(case.counts), entries.ring_new()), (0, 0), "whole stores are taken");
+        assert_eq!((entries.make(case.counts, case.guard), entries.ring_new()), (0, 0), "whole stores are taken");
         if let Some(seed) = case.model {
             let tables = model_tables(case.counts, seed).map(|rows| rows.concat());
             assert_eq!(entries.model_new([&tables[0], &tables[1], &tables[2]]), 0, "good tables are taken");

@@ -3,6 +3,7 @@ pub mod case;
 pub mod driver;
 pub mod entries;
 mod ffi;
+pub mod guarded;
 pub mod host;
 pub mod judge;
 pub mod outside;

@@ -7,7 +7,7 @@ use compare::entries::Entries;
 use compare::plain::Plain;
 use compare::port::Port;
 use compare::run::{Counts, With, report, run};
-use compare::{raw, record, rust, short, shown, stages};
+use compare::{guarded, raw, record, rust, short, shown, stages};
 use options::{Options, Run, Seeds, USAGE, options};
 use std::process::exit;
 use std::time::Instant;
@@ -15,6 +15,7 @@ use std::time::Instant;
 /// Random cases and sequences of entries that the gate runs.
 const CASES: Seeds = 1..=60_000;
 const STRICT: Seeds = 1..=10_000;
+const GUARD: Seeds = 1..=10_000;
 const ENTRIES: Seeds = 1..=8_000;
 /// Entries in one sequence.
 const LENGTH: usize = 60;
@@ -38,9 +39,10 @@ fn main() {
         Run::Case(case) => finish(one(&case, with)),
         Run::Short => finish(short_cases(with)),
         Run::Differences => finish(shown::print() == 0),
-        Run::Random { cases, strict, entries } => {
+        Run::Random { cases, strict, guard, entries } => {
             let agreed = cases.is_none_or(|seeds| random_cases(with, seeds));
             let agreed = agreed && strict.is_none_or(|seeds| strict_cases(with, seeds));
+            let agreed = agreed && guard.is_none_or(|seeds| guarded_cases(with, seeds));
             finish(agreed && entries.is_none_or(random_entries))
         }
         Run::Gate { short } => finish(gate(with, short)),
@@ -60,7 +62,7 @@ fn finish(agreed: bool) -> ! {
 
 fn gate(with: With, short: bool) -> bool {
     let short = !short || short_cases(with);
-    let random = random_cases(with, CASES) && strict_cases(with, STRICT);
+    let random = random_cases(with, CASES) && strict_cases(with, STRICT) && guarded_cases(with, GUARD);
     let entries = !with.port || entries_by_stage() && random_entries(ENTRIES);
     let recorded = !with.port || replay(RECORDED);
     short && random && entries && recorded
@@ -88,7 +90,7 @@ fn agrees(case: &Case, with: With, counts: &mut Counts) -> bool {
 
 fn short_cases(with: With) -> bool {
     let (mut counts, since, mut agreed) = (Counts::default(), Instant::now(), true);
-    for (_, group) in short::GROUPS.into_iter().chain(short::STRICT) {
+    for (_, group) in short::GROUPS.into_iter().chain(short::STRICT).chain(guarded::GROUPS) {
         group(&mut |case| agreed = agreed && agrees(&case, with, &mut counts));
     }
     told("short cases", &counts, since);
@@ -113,6 +115,10 @@ fn strict_cases(with: With, seeds: Seeds) -> bool {
     from_seeds("strict", compare::random::strict, with, seeds)
 }
 
+fn guarded_cases(with: With, seeds: Seeds) -> bool {
+    from_seeds("guard", compare::random::guarded, with, seeds)
+}
+
 fn from_seeds(option: &str, made: fn(u64) -> Case, with: With, seeds: Seeds) -> bool {
     let (mut counts, since, first) = (Counts::default(), Instant::now(), *seeds.start());
     for seed in seeds {
@@ -121,7 +127,11 @@ fn from_seeds(option: &str, made: fn(u64) -> Case, with: With, seeds: Seeds) -> 
             return false;
         }
     }
-    let name = if option == "strict" { "random cases in strict mode" } else { "random cases" };
+    let name = match option {
+        "strict" => "random cases in strict mode",
+        "guard" => "random cases under the guard",
+        _ => "random cases",
+    };
     told(&format!("{name} from seed {first}"), &counts, since);
     true
 }
@@ -135,7 +145,7 @@ fn entries_by_stage() -> bool {
     let since = Instant::now();
     let agreed = stages::all();
     match &agreed {
-        Ok(count) => println!("entries at every stage, each length and each reserved byte in turn: {count}"),
+        Ok(count) => println!("entries at every stage, each length and each damage that both know in turn: {count}"),
         Err(text) => println!("DIFFERENCE\n{text}"),
     }
     println!("  {:.1} s", since.elapsed().as_secs_f64());

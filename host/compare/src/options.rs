@@ -8,6 +8,7 @@ pub const USAGE: &str = "\
 compare                      short cases, random cases, single entries, the recorded list (the gate)
 compare --cases N --seed S   N random cases from seed S; case i has seed S + i, so that `--cases 1 --seed S+i` repeats it
 compare --strict N --seed S  the same in strict mode
+compare --guard N --seed S   the same under the guard
 compare --short              the short cases alone
 compare --entries N --seed S N sequences of single entries, the port against the rules
 compare --case TEXT          one case (src/text.rs)
@@ -21,10 +22,11 @@ pub enum Run {
         short: bool,
     },
     Short,
-    /// random cases, those of strict mode, and sequences of entries, by their seeds
+    /// random cases, those of strict mode, those under the guard, and sequences of entries, by their seeds
     Random {
         cases: Option<Seeds>,
         strict: Option<Seeds>,
+        guard: Option<Seeds>,
         entries: Option<Seeds>,
     },
     Case(Case),
@@ -42,10 +44,10 @@ pub struct Options {
 }
 
 const WORDS: [&str; 5] = ["--short", "--differences", "--no-port", "--no-rust", "--no-short"];
-const WITH_VALUE: [&str; 8] =
-    ["--cases", "--strict", "--entries", "--seed", "--case", "--record", "--check", "--replay"];
+const WITH_VALUE: [&str; 9] =
+    ["--cases", "--strict", "--guard", "--entries", "--seed", "--case", "--record", "--check", "--replay"];
 /// These go together; of all others one at a time.
-const SEEDED: [&str; 3] = ["--cases", "--strict", "--entries"];
+const SEEDED: [&str; 4] = ["--cases", "--strict", "--guard", "--entries"];
 const OTHERS: [&str; 6] = ["--short", "--differences", "--case", "--record", "--check", "--replay"];
 
 /// The options given, each with its value, if it takes one.
@@ -98,7 +100,7 @@ impl Given {
         let runs: Vec<&str> = OTHERS.into_iter().chain(SEEDED).filter(|name| self.has(name)).collect();
         let file = |name| self.value(name).unwrap_or_default().to_string();
         if self.has("--seed") && !SEEDED.iter().any(|name| self.has(name)) {
-            return Err("--seed goes with --cases, --strict or --entries".into());
+            return Err("--seed goes with --cases, --strict, --guard or --entries".into());
         }
         Ok(match runs[..] {
             [] => Run::Gate { short: !self.has("--no-short") },
@@ -111,6 +113,7 @@ impl Given {
             ref runs if runs.iter().all(|name| SEEDED.contains(name)) => Run::Random {
                 cases: self.seeds("--cases")?,
                 strict: self.seeds("--strict")?,
+                guard: self.seeds("--guard")?,
                 entries: self.seeds("--entries")?,
             },
             _ => return Err(format!("{}: one of these at a time", runs.join(", "))),

@@ -45,11 +45,11 @@ impl Entries for Plain {
         self.lent = lent;
     }
 
-    fn make(&mut self, counts: [u32; 3]) -> u64 {
+    fn make(&mut self, counts: [u32; 3], guard: bool) -> u64 {
         if self.lent.state < e::STATE_SIZE {
             return rules::BAD_LENGTH as u64;
         }
-        self.sound = Sound::new(counts);
+        self.sound = if guard { Sound::new_guarded(counts) } else { Sound::new(counts) };
         0
     }
     fn ring_new(&mut self) -> u64 {

@@ -82,9 +82,10 @@ impl Entries for Port {
         self.lent = lent;
     }
 
-    fn make(&mut self, [jacks, streams, maps]: [u32; 3]) -> u64 {
+    fn make(&mut self, [jacks, streams, maps]: [u32; 3], guard: bool) -> u64 {
+        let entry = if guard { snd_new_guarded } else { snd_new };
         let (s, sn) = lend!(mut self.state[LEAD..][..self.lent.state]);
-        unsafe { snd_new(s, sn, jacks, streams, maps) }
+        unsafe { entry(s, sn, jacks, streams, maps) }
     }
     fn ring_new(&mut self) -> u64 {
         let (r, rn) = lend!(mut self.ring[LEAD..][..self.lent.ring]);

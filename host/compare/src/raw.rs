@@ -1,12 +1,13 @@
 //! Single entries in any order, with lent slices of any length: the port against the rules, every number and every lent byte. A refusal
-//! leaves the port's stores as they were, byte for byte. Then the same with damaged stores, where only what holds of any bytes is asked.
+//! leaves the port's stores as they were, byte for byte; the guard and each stream's state are looked up in them. Then the same with damaged
+//! stores, where only what holds of any bytes is asked, but of a damaged guard or stream's state, which both readings know.
 use crate::case::{Body, Frames, Kind, Rng};
 use crate::entries::{Entries, Lent};
 use crate::plain::Plain;
 use crate::port::{LEAD, PAST, Port};
 use crate::random::STATUSES;
 use crate::stages;
-use rules::entries::{Asked, RESULT_SIZE, RING_RESERVED, STATE_RESERVED};
+use rules::entries::{Asked, GUARD, LIVES, RESULT_SIZE, RING_RESERVED, STATE_RESERVED};
 use rules::sound::{Call, Params};
 use rules::{FIT, MESSAGE, PAGE, wire};
 
@@ -23,21 +24,54 @@ pub struct Op {
 #[derive(Clone, Debug)]
 pub enum What {
     New([u32; 3]),
+    NewGuarded([u32; 3]),
+    /// no entry: bytes of the stores become others
+    Damage(Damage),
     RingNew,
     Count(usize),
     Call(Call),
-    Feed { status: u32, body: Body, len: usize },
-    FeedWritten { status: u32, body: Body, len: usize, written: u64 },
+    Feed {
+        status: u32,
+        body: Body,
+        len: usize,
+    },
+    FeedWritten {
+        status: u32,
+        body: Body,
+        len: usize,
+        written: u64,
+    },
     FeedFailure,
-    Start { stream: u32, frames: u32, budget: u64 },
-    Offered { frames: u32 },
-    Turn { frames: u32, kind: u32, slot: u32, status: u32 },
-    Drain { kind: u32, slot: u32, status: u32 },
+    Start {
+        stream: u32,
+        frames: u32,
+        budget: u64,
+    },
+    Offered {
+        frames: u32,
+    },
+    Turn {
+        frames: u32,
+        kind: u32,
+        slot: u32,
+        status: u32,
+    },
+    Drain {
+        kind: u32,
+        slot: u32,
+        status: u32,
+    },
     Read(Asked),
     Event(Vec<u8>),
     ModelNew([usize; 3]),
-    ModelControl { request: Vec<u8>, page: usize },
-    ModelTransfer { request: Vec<u8>, answer: usize },
+    ModelControl {
+        request: Vec<u8>,
+        page: usize,
+    },
+    ModelTransfer {
+        request: Vec<u8>,
+        answer: usize,
+    },
     ModelPayload(Vec<u8>),
     ModelParams(u32),
     ModelPlayed(u32),
@@ -70,7 +104,9 @@ fn enter<E: Entries>(e: &mut E, op: &Op) -> Left {
     e.lend(op.lent);
     let (m, o) = (&mut message[..], &mut result[..]);
     let number = match &op.what {
-        What::New(counts) => e.make(*counts),
+        What::New(counts) => e.make(*counts, false),
+        What::NewGuarded(counts) => e.make(*counts, true),
+        What::Damage(_) => 0,
         What::RingNew => e.ring_new(),
         What::Count(which) => e.count(*which, o),
         What::Call(call) => e.call(*call, m, o),
@@ -105,7 +141,7 @@ fn enter<E: Entries>(e: &mut E, op: &Op) -> Left {
 /// An answer by which the entry must have left its stores as they were, given whether an exchange was open.
 fn keeps(what: &What, number: u64, left: &Left, open: bool) -> bool {
     match what {
-        What::New(_) | What::RingNew | What::ModelNew(_) => number != 0,
+        What::New(_) | What::NewGuarded(_) | What::RingNew | What::ModelNew(_) => number != 0,
         What::Call(_) => number < 256 && number != 0,
         What::Feed { .. } | What::FeedWritten { .. } | What::FeedFailure => number == 10 || (number == 1 && !open),
         What::Start { .. } => number < 256,
@@ -121,9 +157,8 @@ fn keeps(what: &What, number: u64, left: &Left, open: bool) -> bool {
 /// Which stores an entry may write at all: state, ring, model.
 fn writes(what: &What) -> [bool; 3] {
     match what {
-        What::New(_) | What::Call(_) | What::Feed { .. } | What::FeedWritten { .. } | What::FeedFailure => {
-            [true, false, false]
-        }
+        What::New(_) | What::NewGuarded(_) => [true, false, false],
+        What::Call(_) | What::Feed { .. } | What::FeedWritten { .. } | What::FeedFailure => [true, false, false],
         What::RingNew | What::Turn { .. } | What::Drain { .. } => [false, true, false],
         What::Start { .. } => [true, true, false],
         What::ModelNew(_) | What::ModelControl { .. } | What::ModelTransfer { .. } => [false, false, true],
@@ -148,11 +183,16 @@ fn stores(what: &What, left: &Left, open: bool, before: &Port, after: &Port) -> 
     None
 }
 
-/// A reserved byte, counted from the first.
+/// What both readings know of a damaged store.
 #[derive(Copy, Clone, Debug)]
-pub enum Reserved {
-    State(usize),
-    Ring(usize),
+pub enum Damage {
+    /// bits of a reserved byte, counted from the first
+    State(usize, u8),
+    Ring(usize, u8),
+    /// a stream's state becomes this
+    Life(usize, u8),
+    /// the guard is there where it was not, or the other way
+    Guard,
 }
 
 #[derive(Clone)]
@@ -172,21 +212,41 @@ impl Pair {
         pair
     }
 
-    /// A reserved byte of the state or of the ring becomes what it may not be.
-    pub fn spoil(&mut self, store: Reserved, byte: u8) {
-        match store {
-            Reserved::State(at) => {
-                self.port.state[LEAD + STATE_RESERVED + at] = byte;
-                self.rules.sound.reserved[at] = byte;
+    pub fn damage(&mut self, damage: Damage) {
+        let (port, rules) = (&mut self.port, &mut self.rules);
+        match damage {
+            Damage::State(at, bits) => {
+                // the guard is none of them
+                let bits = if at == 0 { bits & !GUARD } else { bits };
+                port.state[LEAD + STATE_RESERVED + at] |= bits;
+                rules.sound.reserved[at] |= bits;
             }
-            Reserved::Ring(at) => {
-                self.port.ring[LEAD + RING_RESERVED + at] = byte;
-                self.rules.ring.reserved[at] = byte;
+            Damage::Ring(at, bits) => {
+                port.ring[LEAD + RING_RESERVED + at] |= bits;
+                rules.ring.reserved[at] |= bits;
+            }
+            Damage::Life(stream, life) => {
+                port.state[LEAD + LIVES + stream] = life;
+                rules.sound.lives[stream] = life;
+            }
+            Damage::Guard => {
+                port.state[LEAD + STATE_RESERVED] ^= GUARD;
+                rules.sound.guard ^= true;
             }
         }
     }
 
+    /// What stands in the port's store where the second reading has the guard and the streams' states.
+    fn lives_agree(&self) -> bool {
+        let (store, sound) = (&self.port.state[LEAD..], &self.rules.sound);
+        (store[STATE_RESERVED] & GUARD != 0) == sound.guard && store[LIVES..][..sound.lives.len()] == sound.lives
+    }
+
     pub fn step(&mut self, op: &Op) -> Result<(), String> {
+        if let What::Damage(damage) = op.what {
+            self.damage(damage);
+            return Ok(());
+        }
         // an inconsistent state ends nothing
         let open = self.rules.sound.open.is_some() && self.rules.sound.consistent();
         let before = self.port.clone();
@@ -202,6 +262,9 @@ impl Pair {
         }
         if port != rules {
             return Err(format!("{op:?}\n  port  {}\n  rules {}", left_text(&port), left_text(&rules)));
+        }
+        if !self.lives_agree() {
+            return Err(format!("{op:?}\n  the guard or a stream's state in the port's store is another"));
         }
         Ok(())
     }
@@ -248,7 +311,9 @@ pub fn op(rng: &mut Rng, guide: &Plain) -> Op {
 fn what(rng: &mut Rng, guide: &Plain) -> What {
     let open = guide.sound.open.is_some();
     match rng.below(30) {
-        0 if rng.one_in(8) => What::New(counts(rng)),
+        0 if rng.one_in(16) => What::New(counts(rng)),
+        0 if rng.one_in(8) => What::NewGuarded(counts(rng)),
+        0 if rng.one_in(8) => What::Damage(damage(rng)),
         1 if rng.one_in(12) => What::RingNew,
         2 => What::Count(rng.below(3) as usize),
         3..=8 if open => feed(rng, guide),
@@ -269,6 +334,15 @@ fn what(rng: &mut Rng, guide: &Plain) -> What {
     }
 }
 
+/// Of the guard and of streams' states alone, so that most stores are still taken.
+fn damage(rng: &mut Rng) -> Damage {
+    if rng.one_in(4) {
+        return Damage::Guard;
+    }
+    let life = rng.pick(&[0, 1, 2, 3, 4, 5, 127, 128, 255]);
+    Damage::Life(rng.pick(&[0, 0, 0, 1, 1, 2, 125, 126]), life)
+}
+
 fn counts(rng: &mut Rng) -> [u32; 3] {
     std::array::from_fn(|t| match rng.below(10) {
         0 => rng.pick(&[FIT[t], FIT[t] + 1, u32::MAX]),
@@ -279,7 +353,7 @@ fn counts(rng: &mut Rng) -> [u32; 3] {
 fn call(rng: &mut Rng, guide: &Plain) -> Call {
     let some = |rng: &mut Rng, count: u32| rng.below(count.min(4) as u64 + 1) as u32;
     let (stream, jack) = (some(rng, guide.sound.counts[1]), some(rng, guide.sound.counts[0]));
-    match rng.below(12) {
+    match rng.below(14) {
         0..=3 => {
             let period = rng.below(6) as u32;
             let buffer = period * rng.below(4) as u32 + rng.pick(&[0, 0, 0, 1]);
@@ -287,7 +361,7 @@ fn call(rng: &mut Rng, guide: &Plain) -> Call {
             let params = Params { buffer, period, features: rng.word() as u32, channels: 2, format, rate };
             Call::SetParams { stream, params }
         }
-        4 => Call::Command { code: wire::PREPARE + rng.below(4) as u32, stream },
+        4 | 12 | 13 => Call::Command { code: wire::PREPARE + rng.below(4) as u32, stream },
         5 => Call::Remap { jack, association: rng.word() as u32, sequence: rng.word() as u32 },
         6 => Call::OutputStreams,
         7 => Call::InputStreams,
@@ -415,7 +489,7 @@ pub fn sequence(seed: u64, length: usize) -> Result<(), (Vec<Op>, String)> {
 
 /// The beginning of a driver's life, so that sequences are not all of an empty device.
 fn begun(rng: &mut Rng) -> Vec<Op> {
-    let life = stages::life();
+    let life = if rng.one_in(2) { stages::life() } else { stages::guarded_life() };
     let length = rng.below(life.len() as u64 + 1) as usize;
     life.into_iter().take(length).map(stages::whole).collect()
 }
@@ -446,7 +520,7 @@ fn on_any_bytes(port: &mut Port, op: &Op) -> Result<(), String> {
     let left = enter(port, op);
     let mut again = before.clone();
     let twice = enter(&mut again, op);
-    let known = matches!(left.number, 0..=11 | 512 | 513) || (257..=256 + MESSAGE as u64).contains(&left.number);
+    let known = matches!(left.number, 0..=12 | 512 | 513) || (257..=256 + MESSAGE as u64).contains(&left.number);
     if !known {
         return Err(format!("{op:?}\n  port answers {}", left.number));
     }

@@ -7,7 +7,7 @@ use crate::plain::Plain;
 use crate::port::Port;
 use crate::rust::Rust;
 use crate::text::{case_of, case_text, hex, step_text};
-use crate::{random, short};
+use crate::{guarded, random, short};
 use oracle::End;
 
 fn list<T>(items: &[T], text: impl Fn(&T) -> String) -> String {
@@ -100,13 +100,26 @@ const STRICT: [(&str, usize); 4] = [
     ("strict, announcements", 13),
 ];
 
-/// The cases of the recorded list; those of strict mode came later, and stand after all others.
+/// The same under the guard.
+const GUARD_SEEDS: u64 = 20;
+const GUARD: [(&str, usize); 6] = [
+    ("guard, states", 41),
+    ("guard, walks", 307),
+    ("guard, short answers", 61),
+    ("guard, ranges", 59),
+    ("guard, set-ups", 53),
+    ("guard, as before", 1009),
+];
+
+/// The cases of the recorded list; those of document 02 came later, and stand after all others.
 fn cases() -> Vec<Case> {
     let mut all = vec![];
     some_of(&short::GROUPS, &SHORT, &mut all);
     all.extend((0..SEEDS).map(random::case));
     some_of(&short::STRICT, &STRICT, &mut all);
     all.extend((0..STRICT_SEEDS).map(random::strict));
+    some_of(&guarded::GROUPS, &GUARD, &mut all);
+    all.extend((0..GUARD_SEEDS).map(random::guarded));
     all
 }
 
@@ -139,7 +152,7 @@ fn told(case: &Case) -> Option<Vec<String>> {
             (Some(seen), None) => seen_text(seen),
             (Some(_), Some(known)) => format!("! {known:?}"),
         });
-        let in_step = excused.is_none_or(|known| known.in_step()) && outside.is_none_or(|why| why.in_step());
+        let in_step = excused.is_none_or(|known| known.in_step()) && outside.is_none_or(|why| why.in_step(&expected));
         if !in_step || expected.end == End::Waits {
             rust = None;
         }

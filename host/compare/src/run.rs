@@ -84,7 +84,7 @@ impl Trial {
         let Some(rust) = &mut self.rust else { return Ok(()) };
         if let Some(why) = out_of_domain(step, rules, rust.owes()) {
             *counts.outside.entry(why).or_default() += 1;
-            if !why.in_step() {
+            if !why.in_step(rules) {
                 self.rust = None;
             }
             return Ok(());

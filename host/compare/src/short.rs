@@ -10,20 +10,20 @@ pub type Sink<'a> = &'a mut dyn FnMut(Case);
 /// A group of cases, by name.
 pub type Group = (&'static str, fn(Sink));
 
-fn device(counts: [u32; 3], steps: Vec<Step>) -> Case {
-    Case { counts, tokens: Tokens::Descriptors, model: None, strict: false, steps }
+pub(crate) fn device(counts: [u32; 3], steps: Vec<Step>) -> Case {
+    Case { counts, tokens: Tokens::Descriptors, model: None, strict: false, guard: false, steps }
 }
 
-fn control(call: Call, answers: Vec<Answer>) -> Step {
+pub(crate) fn control(call: Call, answers: Vec<Answer>) -> Step {
     Step::Control { call, answers }
 }
 
-fn params(buffer: u32, period: u32) -> Params {
+pub(crate) fn params(buffer: u32, period: u32) -> Params {
     Params { buffer, period, features: 0, channels: 2, format: 5, rate: 7 }
 }
 
 /// Answers of a device with good tables.
-fn tables() -> Vec<Answer> {
+pub(crate) fn tables() -> Vec<Answer> {
     let page = |kind, seed| Answer::Wrote { status: 0x8000, body: Body::of(kind, seed), wrote: 4096 };
     vec![page(Kind::Jacks, 3), page(Kind::Streams, 5), page(Kind::Maps, 7), Answer::ok()]
 }
@@ -266,7 +266,7 @@ pub fn drains(sink: Sink) {
 
 /// The model device: every code near the known ones, every length, ranges around its tables.
 pub fn model(sink: Sink) {
-    let case = |steps| Case { counts: [3, 2, 2], tokens: Tokens::Slots, model: Some(11), strict: false, steps };
+    let case = |steps| Case { tokens: Tokens::Slots, model: Some(11), ..device([3, 2, 2], steps) };
     let codes = (0..=5).chain(0xfe..=0x108).chain(0x1fe..=0x203).chain([0x8000, 0x1000, u32::MAX, 0x0100_0001]);
     for code in codes {
         let mut steps = vec![];
@@ -316,7 +316,7 @@ pub fn announcements(sink: Sink) {
         steps.extend([command(wire::RELEASE), call(Call::OutputStreams), call(Call::InputStreams)]);
         steps.extend([call(Call::Rates(1)), call(Call::Remap { jack: 0, association: 1, sequence: 2 })]);
         steps.push(Step::ModelTransfer(wire::words(&[1])));
-        sink(Case { counts: [2, 3, 1], tokens: Tokens::Descriptors, model: Some(seed), strict: false, steps });
+        sink(Case { model: Some(seed), ..device([2, 3, 1], steps) });
     }
 }
 

@@ -11,7 +11,7 @@ use crate::text::{case_of, step_text};
 
 /// A name, the case, and the entry of the closed list that its last step shows (none: the step is outside the domain, or the
 /// difference is in how the number is come by).
-pub const ROWS: [(&str, &str, Option<Intended>); 26] = [
+pub const ROWS: [(&str, &str, Option<Intended>); 28] = [
     ("too many jacks", "171 0 0 slots | outputs < 8000", Some(Intended::TooMany)),
     ("too many streams", "0 128 0 slots | outputs < 8000 8000", Some(Intended::TooMany)),
     ("too many maps", "0 0 171 slots | outputs < 8000 8000 8000", Some(Intended::TooMany)),
@@ -86,6 +86,8 @@ pub const ROWS: [(&str, &str, Option<Intended>); 26] = [
         "1 0 0 slots strict | outputs < 8000~4=1 8001/4 ; remap 0 1 2 < 8000/4 8000/4 8000/4 8000/4",
         None,
     ),
+    ("guard, a start that was never prepared", "0 1 0 slots guard | start 0 < 8000 8000 8000 8000", None),
+    ("guard, a command past the streams", "0 0 0 slots guard | prepare 0 < 8000 8000 8000 8000", None),
 ];
 
 /// What the three drivers do at the last step of a case; the Rust is asked also outside the domain.

@@ -1,8 +1,8 @@
-//! Every entry at every stage of a driver's life, with each lent slice in turn empty, one short, right and one long, and with each reserved
-//! byte in turn not 0: the port against the rules.
+//! Every entry at every stage of a driver's life, without the guard and with it, with each lent slice in turn empty, one short, right and one
+//! long, with each reserved byte in turn not 0, and with the guard and a stream's state in turn damaged: the port against the rules.
 use crate::case::{Body, Kind};
 use crate::entries::Lent;
-use crate::raw::{Op, Pair, Reserved, What};
+use crate::raw::{Damage, Op, Pair, What};
 use rules::entries::{Asked, RESULT_SIZE};
 use rules::sound::{Call, Params};
 use rules::{MESSAGE, PAGE, RESERVED, wire};
@@ -47,13 +47,25 @@ pub fn life() -> Vec<What> {
     ]
 }
 
+/// The same under the guard, with a stream's whole lifecycle in it.
+pub fn guarded_life() -> Vec<What> {
+    let command = |code| [What::Call(Call::Command { code, stream: 0 }), ok(Kind::Noise)];
+    let mut all = vec![What::NewGuarded([2, 2, 1])];
+    all.extend_from_slice(&life()[1..8]);
+    all.extend(command(wire::PREPARE));
+    all.extend(command(wire::START));
+    all.extend_from_slice(&life()[8..]);
+    all.extend([turn(0, 0, 0, 0)].into_iter().chain(command(wire::STOP)).chain(command(wire::RELEASE)));
+    all
+}
+
 fn calls() -> Vec<What> {
     let mut all = vec![Call::OutputStreams, Call::InputStreams];
     for stream in [0, 1, 2] {
         all.extend([Call::Rates(stream), Call::Formats(stream), Call::ChannelRange(stream), Call::Features(stream)]);
         all.push(Call::Remap { jack: stream, association: 1, sequence: 2 });
     }
-    all.extend((wire::PREPARE..=wire::STOP).map(|code| Call::Command { code, stream: 3 }));
+    all.extend((wire::PREPARE..=wire::STOP).flat_map(|code| [0, 1, 2, 3].map(|stream| Call::Command { code, stream })));
     let mut all: Vec<What> = all.into_iter().map(What::Call).collect();
     all.extend([set(0, 8, 5), set(2, 8, 5), set(0, 9, 5), set(0, 8, 25)]);
     all
@@ -83,7 +95,7 @@ fn rings() -> Vec<What> {
 }
 
 fn others() -> Vec<What> {
-    let mut all = vec![What::New([1, 1, 1]), What::FeedFailure];
+    let mut all = vec![What::New([1, 1, 1]), What::NewGuarded([1, 1, 1]), What::FeedFailure];
     all.extend([0, 1, 2].map(What::Count));
     for len in [0, 4, PAGE - 1, PAGE, PAGE + 1] {
         for status in [wire::STATUS_OK, wire::STATUS_BAD] {
@@ -130,32 +142,39 @@ fn lengths(what: &What) -> Vec<Op> {
     all
 }
 
-/// The same stores with each reserved byte in turn not 0, one bit of it set.
-fn spoilt(pair: &Pair) -> impl Iterator<Item = Pair> {
-    let bytes = (0..RESERVED).flat_map(|at| [Reserved::State(at), Reserved::Ring(at)]);
-    bytes.zip((0..8).cycle()).map(|(byte, bit)| {
-        let mut spoilt = pair.clone();
-        spoilt.spoil(byte, 1 << bit);
-        spoilt
-    })
+/// Each reserved byte with one bit of it set, beside the guard with each; the guard, and states of the first stream.
+fn damages() -> Vec<Damage> {
+    let bit = |at: usize| 1 << (at % 8);
+    let mut all: Vec<Damage> = (0..RESERVED).map(|at| Damage::Ring(at, bit(at))).collect();
+    all.extend((1..RESERVED).map(|at| Damage::State(at, bit(at))));
+    all.extend((1..8).map(|at| Damage::State(0, bit(at))));
+    all.extend([0, 1, 2, 3, 4, 5, 255].map(|life| Damage::Life(0, life)));
+    all.push(Damage::Guard);
+    all
 }
 
 /// How many entries agreed, or the first that did not.
 pub fn all() -> Result<u64, String> {
+    Ok(along(life(), "life")? + along(guarded_life(), "guarded_life")?)
+}
+
+fn along(life: Vec<What>, name: &str) -> Result<u64, String> {
     let whats = [calls(), rings(), others()].concat();
     let mut count = 0;
     let mut pair = Pair::new();
-    for (at, step) in life().into_iter().enumerate() {
+    for (at, step) in life.into_iter().enumerate() {
         pair.step(&whole(step))?;
-        let after = |text| format!("after {} entries of src/stages.rs: {text}", at + 1);
+        let after = |text| format!("after {} entries of {name} in src/stages.rs: {text}", at + 1);
         for op in whats.iter().flat_map(lengths) {
             pair.clone().step(&op).map_err(after)?;
             count += 1;
         }
-        for spoilt in spoilt(&pair) {
+        for damage in damages() {
             for what in &whats {
-                let tried = spoilt.clone().step(&whole(what.clone()));
-                tried.map_err(|text| after(format!("with a reserved byte that is not 0: {text}")))?;
+                let mut tried = pair.clone();
+                tried.damage(damage);
+                let tried = tried.step(&whole(what.clone()));
+                tried.map_err(|text| after(format!("with {damage:?}: {text}")))?;
                 count += 1;
             }
         }

@@ -1,7 +1,7 @@
-//! Cases as text, one a line: `JACKS STREAMS MAPS slots|descriptors [model SEED] [strict] | STEP ; STEP ..`
+//! Cases as text, one a line: `JACKS STREAMS MAPS slots|descriptors [model SEED] [strict] [guard] | STEP ; STEP ..`
 //!
 //! With `strict` each feed carries the length that was written: WROTE, a page where it is not named, or what the model says. One of more than a
-//! page is refused, and the next answer is to the same request.
+//! page is refused, and the next answer is to the same request. With `guard` the state is made by `snd_new_guarded`.
 //!
 //! STEP = CALL [< ANSWER ..]. Calls: `remap JACK ASSOCIATION SEQUENCE`, `set STREAM BUFFER PERIOD FEATURES CHANNELS FORMAT RATE`,
 //! `prepare|release|start|stop STREAM`, `outputs`, `inputs`, `rates|formats|channels|features STREAM`, `counts`,
@@ -206,7 +206,8 @@ pub fn device_text(case: &Case) -> String {
     let tokens = if case.tokens == Tokens::Slots { "slots" } else { "descriptors" };
     let model = case.model.map_or(String::new(), |seed| format!(" model {seed}"));
     let strict = if case.strict { " strict" } else { "" };
-    format!("{j} {s} {m} {tokens}{model}{strict}")
+    let guard = if case.guard { " guard" } else { "" };
+    format!("{j} {s} {m} {tokens}{model}{strict}{guard}")
 }
 
 pub fn case_text(case: &Case) -> String {
@@ -220,7 +221,7 @@ pub fn case_of(text: &str) -> Case {
     let counts = [number(words[0]), number(words[1]), number(words[2])];
     let tokens = if words[3] == "slots" { Tokens::Slots } else { Tokens::Descriptors };
     let model = words.iter().skip_while(|word| **word != "model").nth(1).map(|seed| number(seed));
-    let strict = words.contains(&"strict");
+    let (strict, guard) = (words.contains(&"strict"), words.contains(&"guard"));
     let steps = steps.split(';').map(str::trim).filter(|step| !step.is_empty()).map(step_of).collect();
-    Case { counts, tokens, model, strict, steps }
+    Case { counts, tokens, model, strict, guard, steps }
 }

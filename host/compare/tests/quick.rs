@@ -1,6 +1,6 @@
 //! The comparison in small, for `cargo test`; the gate's run is the program's own.
 use compare::run::{Counts, With, report, run};
-use compare::{judge::Intended, random, raw, record, rust, short, shown, stages, text};
+use compare::{guarded, judge::Intended, random, raw, record, rust, short, shown, stages, text};
 
 const WITH: With = With { rust: oracle::AT_HAND, port: true };
 
@@ -13,7 +13,7 @@ fn agrees(case: compare::case::Case) {
 #[test]
 fn a_case_is_its_text() {
     for seed in 0..400 {
-        for case in [random::case(seed), random::strict(seed)] {
+        for case in [random::case(seed), random::strict(seed), random::guarded(seed)] {
             assert_eq!(text::case_of(&text::case_text(&case)), case);
         }
     }
@@ -31,6 +31,10 @@ fn drivers_agree() {
     short::boundaries(&mut agrees);
     short::own_lengths(&mut agrees);
     (0..100).for_each(|seed| agrees(random::strict(seed)));
+    guarded::states(&mut agrees);
+    guarded::ranges(&mut agrees);
+    guarded::announcements(&mut agrees);
+    (0..200).for_each(|seed| agrees(random::guarded(seed)));
 }
 
 #[test]

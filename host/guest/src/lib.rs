@@ -214,7 +214,11 @@ fn device(console: &mut Console) -> u64 {
 }
 
 fn values(console: &mut Console) -> u64 {
-    console.sound = Sound::new(console.number, 1, 2);
+    console.sound = match console.length {
+        0 => Sound::new(console.number, 1, 2),
+        1 => Sound::new_guarded(console.number, 1, 2),
+        _ => Sound::new_guarded_in(*console.sound.store(), console.number, 1, 2),
+    };
     console.ring = Ring::new();
     if let Ok(model) = Model::new(&[[0; 24]], &[[0; 32]], &[]) {
         console.model = model;

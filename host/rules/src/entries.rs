@@ -7,11 +7,14 @@ use crate::ring::{Reading, Ring, Turn};
 use crate::sound::{Call, Fed, Say, Sound, Value};
 use crate::*;
 
-pub const STATE_SIZE: usize = 14320;
+pub const STATE_SIZE: usize = 14447;
 pub const RING_SIZE: usize = 608;
 /// Where the reserved bytes of a state's and of a ring's store stand.
 pub const STATE_RESERVED: usize = 48;
 pub const RING_RESERVED: usize = 80;
+/// The bit of the first that is the guard, and where the streams' states stand.
+pub const GUARD: u8 = 1;
+pub const LIVES: usize = 14320;
 pub const RESULT_SIZE: usize = 512;
 pub const MODEL_SIZE: usize = 16427;
 pub const SEND: u64 = 256;

@@ -1,11 +1,13 @@
 //! Document 01, read a second time: plain Rust, written from the paper (and from the decisions on what
 //! it leaves open) and from nothing else. The port and the Rust driver are both held to it by `compare`.
-//! Of document 02, request 2026-01 is read here too: feeds that carry the length the device wrote.
+//! Of document 02 these requests are read here too: 2026-01, feeds that carry the length the device wrote; 2026-02, the guard
+//! over a stream's lifecycle.
 //!
 //! Clarity before speed: tables are vectors, refusals are numbers.
 
 pub mod entries;
 pub mod event;
+pub mod life;
 pub mod model;
 pub mod ring;
 pub mod sound;
@@ -25,12 +27,15 @@ pub const OUT_OF_TURNS: u8 = 9;
 pub const BAD_LENGTH: u8 = 10;
 /// Strict mode only: the device wrote fewer bytes than its answer needs.
 pub const SHORT: u8 = 11;
+/// Under the guard only: the stream's state does not permit it.
+pub const BAD_STATE: u8 = 12;
 
 /// The answer page.
 pub const PAGE: usize = 4096;
 /// The least room for a control message, whatever the call sends.
 pub const MESSAGE: usize = 24;
-/// Bytes of a state and of a ring that are reserved: a store in which one is not 0 is inconsistent.
+/// Bytes of a state and of a ring that are reserved: a store in which one is not 0 is inconsistent. The first of a state's has the guard
+/// in its lowest bit.
 pub const RESERVED: usize = 16;
 /// A page holds this many jacks, streams, channel maps.
 pub const FIT: [u32; 3] = [170, 127, 170];

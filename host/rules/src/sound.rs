@@ -1,5 +1,6 @@
 //! Control exchanges: set-up, every call, feeds, the start of a transfer.
 
+use crate::life::{self, Life};
 use crate::ring::{Ring, Turn};
 use crate::wire::{self, u32_at, u64_at};
 use crate::*;
@@ -99,14 +100,21 @@ impl<'a> Fed<'a> {
     }
 }
 
+/// The most streams that a page holds.
+const STREAMS: usize = FIT[1] as usize;
+
 #[derive(Clone, Debug, PartialEq, Eq)]
 pub struct Sound {
     /// configured: jacks, streams, maps
     pub counts: [u32; 3],
+    /// chosen when the state is made, for good
+    pub guard: bool,
     pub set_up: bool,
     /// the records of jacks, streams, maps
     pub tables: [Vec<Vec<u8>>; 3],
     pub params: BTreeMap<u32, Params>,
+    /// each stream's state: with no guard neither moved nor looked at
+    pub lives: [Life; STREAMS],
     pub open: Option<(Awaits, Call)>,
     pub reserved: [u8; RESERVED],
 }
@@ -161,7 +169,12 @@ fn read_table(table: usize, count: u32, answer: Option<&[u8]>) -> Result<Vec<Vec
 impl Sound {
     pub fn new(counts: [u32; 3]) -> Self {
         let (tables, params) = (Default::default(), BTreeMap::new());
-        Sound { counts, set_up: false, tables, params, open: None, reserved: [0; RESERVED] }
+        let (lives, reserved) = ([life::SET; STREAMS], [0; RESERVED]);
+        Sound { counts, guard: false, set_up: false, tables, params, lives, open: None, reserved }
+    }
+
+    pub fn new_guarded(counts: [u32; 3]) -> Self {
+        Sound { guard: true, ..Sound::new(counts) }
     }
 
     /// The consistency test of every call.
@@ -192,7 +205,8 @@ impl Sound {
             Call::SetParams { stream, params } => {
                 numbers_in_range(params) && period_rule(params) && *stream < self.counts[1]
             }
-            Call::Command { .. } | Call::Remap { .. } => true,
+            Call::Command { stream, .. } => !self.guard || *stream < self.counts[1],
+            Call::Remap { .. } => true,
             _ => false,
         }
     }
@@ -240,7 +254,7 @@ impl Sound {
         let plan = match call {
             Call::Remap { jack, association, sequence } => self.own_remap(jack, association, sequence),
             Call::SetParams { stream, params } => self.own_set(stream, params),
-            Call::Command { code, stream } => Plan::Ask(wire::words(&[code, stream])),
+            Call::Command { code, stream } => self.own_command(code, stream),
             Call::OutputStreams => done(Value::Streams(self.streams_of(0))),
             Call::InputStreams => done(Value::Streams(self.streams_of(1))),
             Call::Features(s) => self.of_stream(s, |r| Value::Bits(u32_at(r, 4) as u64)),
@@ -248,6 +262,7 @@ impl Sound {
             Call::Rates(s) => self.of_stream(s, |r| Value::Bits(u64_at(r, 16))),
             Call::ChannelRange(s) => self.of_stream(s, |r| Value::Range(r[25], r[26])),
             Call::Transfer(s) if s >= self.counts[1] => refuse(INVALID_PARAM),
+            Call::Transfer(s) if self.bars_transfers(s) => refuse(BAD_STATE),
             // no stream has parameters before set-up is done
             Call::Transfer(_) => refuse(IO_ERROR),
         };
@@ -270,9 +285,32 @@ impl Sound {
         Plan::Ask(wire::words(&[wire::REMAP, jack, association, sequence]))
     }
 
+    /// "12 BadState, right after the stream range check, which the four commands gain under the guard."
+    fn own_command(&self, code: u32, stream: u32) -> Plan {
+        if self.guard && stream >= self.counts[1] {
+            return refuse(INVALID_PARAM);
+        }
+        if self.bars(stream, code) {
+            return refuse(BAD_STATE);
+        }
+        Plan::Ask(wire::words(&[code, stream]))
+    }
+
+    /// "A command that the table does not permit from the present state is not sent." The stream is in range under the guard.
+    fn bars(&self, stream: u32, code: u32) -> bool {
+        self.guard && !life::permits(self.lives[stream as usize], code)
+    }
+
+    fn bars_transfers(&self, stream: u32) -> bool {
+        self.guard && !life::takes_transfers(self.lives[stream as usize])
+    }
+
     fn own_set(&self, stream: u32, p: Params) -> Plan {
         if !period_rule(&p) || stream >= self.counts[1] {
             return refuse(INVALID_PARAM);
+        }
+        if self.bars(stream, wire::SET_PARAMS) {
+            return refuse(BAD_STATE);
         }
         let mut request = wire::words(&[wire::SET_PARAMS, stream, p.buffer, p.period, p.features]);
         request.extend([p.channels, p.format, p.rate, 0]);
@@ -338,13 +376,25 @@ impl Sound {
             (Err(number), _) => refuse(number),
             (Ok(_), Call::SetParams { stream, params }) => {
                 self.params.insert(stream, params);
+                self.moves(stream, wire::SET_PARAMS);
+                done(Value::Nothing)
+            }
+            (Ok(_), Call::Command { code, stream }) => {
+                self.moves(stream, code);
                 done(Value::Nothing)
             }
             (Ok(_), _) => done(Value::Nothing),
         }
     }
 
-    /// Busy, set-up, stream range, parameters set, then the budget.
+    /// A command was answered ok: "the state is the one the table gives for the ok commands".
+    fn moves(&mut self, stream: u32, code: u32) {
+        if self.guard {
+            self.lives[stream as usize] = life::after(code);
+        }
+    }
+
+    /// Busy, set-up, stream range, its state under the guard, parameters set, then the budget.
     pub fn xfer_start(
         &mut self,
         ring: &mut Ring,
@@ -368,6 +418,9 @@ impl Sound {
         }
         if stream >= self.counts[1] {
             return Say::Refused(INVALID_PARAM);
+        }
+        if self.bars_transfers(stream) {
+            return Say::Refused(BAD_STATE);
         }
         let Some(params) = self.params.get(&stream) else {
             return Say::Refused(IO_ERROR);

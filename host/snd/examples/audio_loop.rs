@@ -21,8 +21,22 @@ fn keep(early: &mut Early, reading: Reading) {
     }
 }
 
-/// Speaks one announcement, in at most `budget` turns. A refusal drops the transfer: its frames then stay where they are, and the ring knows
-/// what is owed.
+/// Sends what a call asks to send, until it has ended.
+fn finish(sound: &mut Sound, queues: &mut impl Queues, mut step: Step<()>) -> Result<(), Refusal> {
+    let mut page = Page::new();
+    while let Step::Send(exchange) = step {
+        let answered = queues.control(exchange.bytes(), &mut page);
+        step = if answered {
+            sound.feed(exchange, &page)?
+        } else {
+            sound.feed_failure(exchange)?
+        };
+    }
+    Ok(())
+}
+
+/// Speaks one announcement, in at most `budget` turns, on a stream that has its parameters. A refusal drops the transfer: its frames then stay
+/// where they are, and the ring knows what is owed.
 fn speak(
     sound: &mut Sound,
     ring: &mut Ring,
@@ -32,16 +46,10 @@ fn speak(
     frames: &'static [u8],
     budget: u64,
 ) -> Result<(), Refusal> {
-    let mut page = Page::new();
-    let mut step = sound.pcm_start(ring, stream)?;
-    while let Step::Send(exchange) = step {
-        let answered = queues.control(exchange.bytes(), &mut page);
-        step = if answered {
-            sound.feed(exchange, &page)?
-        } else {
-            sound.feed_failure(exchange)?
-        };
-    }
+    let prepare = sound.pcm_prepare(ring, stream)?;
+    finish(sound, queues, prepare)?;
+    let start = sound.pcm_start(ring, stream)?;
+    finish(sound, queues, start)?;
     let mut transfer = match sound.transfer(ring, stream, frames, budget) {
         Started::Runs(transfer) => transfer,
         Started::Refused(refusal, _frames) => return Err(refusal), // not Busy: nothing was in flight
@@ -75,6 +83,15 @@ fn drain(ring: &mut Ring, queues: &mut impl Queues, early: &mut Early, turns: u6
         }
     }
     Ok(ring.in_flight()? == 0)
+}
+
+/// Once nothing is owed: stops and releases the stream, so that the next announcement may prepare it. After an Ok first wait for what the device
+/// still holds.
+fn close(sound: &mut Sound, ring: &Ring, queues: &mut impl Queues, stream: u32) -> Result<(), Refusal> {
+    let stop = sound.pcm_stop(ring, stream)?;
+    finish(sound, queues, stop)?;
+    let release = sound.pcm_release(ring, stream)?;
+    finish(sound, queues, release)
 }
 
 // Below here: queues that end in the model device.
@@ -113,7 +130,8 @@ impl Queues for Prompt {
     }
 }
 
-/// A sentence that is spoken whole, one whose budget is too small, and one whose first two periods come back in the other order.
+/// Under the guard: a sentence that is spoken whole, one whose budget is too small, and one whose first two periods come back in the other
+/// order.
 pub fn main() -> Result<(), Refusal> {
     let device = Model::new(&[], &[PcmInfo::output(1, 2).to_bytes()], &[])?;
     let mut queues = Prompt {
@@ -122,7 +140,7 @@ pub fn main() -> Result<(), Refusal> {
         heard: vec![],
         swaps: false,
     };
-    let (mut sound, mut ring, mut page) = (Sound::new(0, 1, 0), Ring::new(), Page::new());
+    let (mut sound, mut ring) = (Sound::new_guarded(0, 1, 0), Ring::new());
     let mut early = [None; 32];
     let to = Params {
         buffer: 8,
@@ -132,22 +150,24 @@ pub fn main() -> Result<(), Refusal> {
         format: Format::S16,
         rate: Rate::Hz48000,
     };
-    let mut step = sound.pcm_set_params(&ring, 0, to)?;
-    while let Step::Send(exchange) = step {
-        queues.control(exchange.bytes(), &mut page);
-        step = sound.feed(exchange, &page)?;
-    }
+    let set = sound.pcm_set_params(&ring, 0, to)?;
+    finish(&mut sound, &mut queues, set)?;
     let words = b"feeder one four";
     speak(&mut sound, &mut ring, &mut queues, &mut early, 0, words, 5)?;
     assert_eq!(queues.heard, words);
+    // started: it is stopped and released before it is prepared again
+    let again = speak(&mut sound, &mut ring, &mut queues, &mut early, 0, words, 5);
+    assert_eq!(again, Err(Refusal::BadState));
+    close(&mut sound, &ring, &mut queues, 0)?;
     queues.heard.clear();
     let cut_short = speak(&mut sound, &mut ring, &mut queues, &mut early, 0, words, 2);
     assert_eq!(cut_short, Err(Refusal::OutOfTurns));
     assert_eq!(queues.heard, b"feeder o");
     assert_eq!(drain(&mut ring, &mut queues, &mut early, 10), Ok(true));
+    close(&mut sound, &ring, &mut queues, 0)?;
     queues.swaps = true;
     let confused = speak(&mut sound, &mut ring, &mut queues, &mut early, 0, words, 5);
     assert_eq!((confused, ring.in_flight()?), (Err(Refusal::WrongToken), 2));
     assert_eq!(drain(&mut ring, &mut queues, &mut early, 2), Ok(true));
-    sound.pcm_stop(&ring, 0).map(|_request| ())
+    close(&mut sound, &ring, &mut queues, 0)
 }

@@ -106,6 +106,9 @@ table! {
     BadLength = 10,
     /// In strict mode ([`crate::Sound::feed_written`]): the device wrote fewer bytes than its answer needs.
     Short = 11,
+    /// Under the guard ([`crate::Sound::new_guarded`]): the stream's last ok command does not permit this. A stream is started after it was
+    /// prepared, prepared or set after it was released, and plays while it is prepared or started. Nothing was sent.
+    BadState = 12,
 }
 
 impl Answer {
@@ -189,7 +192,7 @@ mod tests {
 
     #[test]
     fn a_number_outside_the_table_is_unknown() {
-        for number in [12, 255, 514, u64::MAX] {
+        for number in [13, 255, 514, u64::MAX] {
             assert_eq!(Said::of(number), Said::Refused(Refusal::Unknown));
         }
         assert_eq!(Said::done(512), Err(Refusal::Unknown));

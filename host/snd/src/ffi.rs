@@ -60,6 +60,8 @@ entries! {
 
     /// Fills a store with a new state.
     fn snd_new(state: &mut [u8], jacks: u32, streams: u32, chmaps: u32,);
+    /// Fills a store with a new state that keeps to the lifecycle of its streams.
+    fn snd_new_guarded(state: &mut [u8], jacks: u32, streams: u32, chmaps: u32,);
     /// Fills a store with a new ring.
     fn snd_ring_new(ring: &mut [u8],);
 

@@ -1,9 +1,13 @@
 //! The places in stores that this crate itself reads or writes. docs/STATE.md has them all; tests/stores.rs holds these to the archive.
-use crate::bytes::{run, u32_at};
+use crate::bytes::{run, u32_at, u64_at};
 use crate::{MODEL_SIZE, RING_SIZE, STATE_SIZE};
+use core::fmt;
 
 /// Where a state's store says what its open exchange waits for: the stage, the call and all its numbers.
 const WAITS: usize = 24;
+/// Where it says whether there is a guard, 8 bytes; and where streams' states stand, a byte each.
+const GUARD: usize = 48;
+const LIVES: usize = 14_320;
 /// Descriptors of a submission.
 const DESCRIPTORS: u8 = 3;
 
@@ -14,9 +18,12 @@ pub(crate) fn waits(state: &[u8; STATE_SIZE]) -> Waits {
     run(state, WAITS)
 }
 
-/// A new state: the configured counts, and zeros.
-pub(crate) const fn new_state(jacks: u32, streams: u32, chmaps: u32) -> [u8; STATE_SIZE] {
+/// A new state: the configured counts, the guard, and zeros.
+pub(crate) const fn new_state(jacks: u32, streams: u32, chmaps: u32, guard: bool) -> [u8; STATE_SIZE] {
     let mut store = [0; STATE_SIZE];
+    if let Some((_, [least, ..])) = store.split_at_mut_checked(GUARD) {
+        *least = guard as u8;
+    }
     let [j0, j1, j2, j3] = jacks.to_le_bytes();
     let [s0, s1, s2, s3] = streams.to_le_bytes();
     let [m0, m1, m2, m3] = chmaps.to_le_bytes();
@@ -44,6 +51,37 @@ pub(crate) fn model_counts(model: &[u8; MODEL_SIZE]) -> [u32; 3] {
 pub(crate) fn set_up(state: &[u8; STATE_SIZE]) -> bool {
     let [done, ..] = waits(state);
     done != 0
+}
+
+/// The states of so many streams, to be shown; `None` with no guard.
+pub(crate) fn lives(state: &[u8; STATE_SIZE], streams: u32) -> Option<Lives<'_>> {
+    let lives = state.get(LIVES..).unwrap_or_default();
+    let counted = lives.get(..streams as usize).unwrap_or(lives);
+    (u64_at(state, GUARD) != 0).then_some(Lives(counted))
+}
+
+/// A list of streams' states, each as the command that led there.
+pub(crate) struct Lives<'s>(&'s [u8]);
+
+impl fmt::Debug for Lives<'_> {
+    fn fmt(&self, f: &mut fmt::Formatter<'_>) -> fmt::Result {
+        f.debug_list().entries(self.0.iter().map(|life| Life(*life))).finish()
+    }
+}
+
+struct Life(u8);
+
+impl fmt::Debug for Life {
+    fn fmt(&self, f: &mut fmt::Formatter<'_>) -> fmt::Result {
+        f.write_str(match self.0 {
+            0 => "set parameters",
+            1 => "prepare",
+            2 => "release",
+            3 => "start",
+            4 => "stop",
+            _ => "no state",
+        })
+    }
 }
 
 /// Which answer a consistent state waits for, and which call waits for it; `None` with no exchange open.

@@ -28,6 +28,9 @@
 //!
 //! Where a device may write less than it is asked for, feed by [`Sound::feed_written`]: what stood in the page before is then not read.
 //!
+//! Where a stream must not be started unprepared, make the state by [`Sound::new_guarded`]: it sends no command, and takes no transfer, that the
+//! standard's lifecycle of a stream does not permit.
+//!
 //! A transfer goes turn by turn, and keeps its frames until no device reads them: see [`Transfer`].
 //!
 //! With the feature `alloc` frames may be a `Vec<u8>` or a `Box<[u8]>`; else the crate needs no allocator.
@@ -74,7 +77,7 @@ pub use supported::{ChannelRange, Features, Formats, Rates};
 pub use transfer::{Frames, Started, Transfer};
 
 /// The size of a state's store.
-pub const STATE_SIZE: usize = 14_320;
+pub const STATE_SIZE: usize = 14_447;
 /// The size of a ring's store.
 pub const RING_SIZE: usize = 608;
 /// The size of a message buffer.

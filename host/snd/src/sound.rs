@@ -1,7 +1,7 @@
 //! The driver's state and its calls.
 use crate::answer::Said;
 use crate::bytes::Results;
-use crate::layout::{new_state, open, set_up};
+use crate::layout::{lives, new_state, open, set_up};
 use crate::step::{Exchange, Page, Step, Unfed, Value, narrow, told};
 use crate::{
     ChannelRange, Features, Formats, Frames, Params, Rates, Refusal, Ring, Started, StreamList, Transfer, ffi,
@@ -37,7 +37,49 @@ impl Sound {
     /// A new state, from the counts that the device's configuration names.
     #[must_use]
     pub const fn new(jacks: u32, streams: u32, chmaps: u32) -> Self {
-        Self(new_state(jacks, streams, chmaps))
+        Self(new_state(jacks, streams, chmaps, false))
+    }
+
+    /// A new state that keeps each stream to the standard's lifecycle, for good: of every stream it knows the last command that the device
+    /// answered ok, at first set parameters, and what that does not permit is [`Refusal::BadState`] and not sent.
+    ///
+    /// | After an ok | are permitted |
+    /// |---|---|
+    /// | set parameters | set parameters, prepare |
+    /// | prepare | set parameters, prepare, start, release, transfers |
+    /// | start | stop, transfers |
+    /// | stop | start, release |
+    /// | release | set parameters, prepare |
+    ///
+    /// The four commands then have their stream in range, as set parameters has: [`Refusal::InvalidParam`]. All else is as without the guard.
+    ///
+    /// ```
+    /// use snd::{Model, Page, PcmInfo, Refusal, Ring, Sound, Step};
+    ///
+    /// let mut device = Model::new(&[], &[PcmInfo::output(1, 2).to_bytes()], &[])?;
+    /// let (mut sound, ring, mut page) = (Sound::new_guarded(0, 1, 0), Ring::new(), Page::new());
+    /// let mut finish = |sound: &mut Sound, mut step| loop {
+    ///     match step {
+    ///         Ok(Step::Done(())) => break Ok(()),
+    ///         Err(refusal) => break Err(refusal),
+    ///         Ok(Step::Send(exchange)) => {
+    ///             device.control(exchange.bytes(), &mut page)?;
+    ///             step = sound.feed(exchange, &page);
+    ///         }
+    ///     }
+    /// };
+    /// // never prepared: the queries of set-up go out, the start does not
+    /// let start = sound.pcm_start(&ring, 0);
+    /// assert_eq!(finish(&mut sound, start), Err(Refusal::BadState));
+    /// let prepare = sound.pcm_prepare(&ring, 0);
+    /// finish(&mut sound, prepare)?;
+    /// let start = sound.pcm_start(&ring, 0);
+    /// finish(&mut sound, start)?;
+    /// # Ok::<(), Refusal>(())
+    /// ```
+    #[must_use]
+    pub const fn new_guarded(jacks: u32, streams: u32, chmaps: u32) -> Self {
+        Self(new_state(jacks, streams, chmaps, true))
     }
 }
 
@@ -47,6 +89,14 @@ impl<S: BorrowMut<[u8; STATE_SIZE]>> Sound<S> {
     pub fn new_in(mut store: S, jacks: u32, streams: u32, chmaps: u32) -> Self {
         // the one refusal is 10, for a short store
         let _ok = ffi::snd_new(store.borrow_mut(), jacks, streams, chmaps);
+        Self(store)
+    }
+
+    /// A new state in your store that keeps each stream to the standard's lifecycle: see [`Sound::new_guarded`].
+    #[must_use]
+    pub fn new_guarded_in(mut store: S, jacks: u32, streams: u32, chmaps: u32) -> Self {
+        // as above
+        let _ok = ffi::snd_new_guarded(store.borrow_mut(), jacks, streams, chmaps);
         Self(store)
     }
 
@@ -88,7 +138,7 @@ impl<S: Borrow<[u8; STATE_SIZE]>> Sound<S> {
     }
 }
 
-/// Short: the counts and what is open, or that the store is inconsistent.
+/// Short: the counts, what is open and, under the guard, each stream's last ok command; or that the store is inconsistent.
 impl<S: Borrow<[u8; STATE_SIZE]>> fmt::Debug for Sound<S> {
     fn fmt(&self, f: &mut fmt::Formatter<'_>) -> fmt::Result {
         let (Ok(jacks), Ok(streams), Ok(chmaps)) = (self.jacks(), self.streams(), self.chmaps()) else {
@@ -98,9 +148,13 @@ impl<S: Borrow<[u8; STATE_SIZE]>> fmt::Debug for Sound<S> {
         said.field("jacks", &jacks).field("streams", &streams);
         said.field("chmaps", &chmaps).field("set_up", &set_up(self.store()));
         match open(self.store()) {
-            None => said.field("open", &format_args!("nothing")).finish(),
-            Some((answer, call)) => said.field("open", &format_args!("{answer}, for {call}")).finish(),
+            None => said.field("open", &format_args!("nothing")),
+            Some((answer, call)) => said.field("open", &format_args!("{answer}, for {call}")),
+        };
+        if let Some(lives) = lives(self.store(), streams) {
+            said.field("guarded", &lives);
         }
+        said.finish()
     }
 }
 
@@ -184,7 +238,7 @@ impl<S: BorrowMut<[u8; STATE_SIZE]>> Sound<S> {
         })
     }
 
-    /// Prepares a stream.
+    /// Prepares a stream. Not after an ok start or stop under the guard: [`Sound::new_guarded`] has the table.
     pub fn pcm_prepare(&mut self, ring: &Ring<impl Borrow<[u8; RING_SIZE]>>, stream: u32) -> Result<Step<()>, Refusal> {
         self.of_stream(ffi::snd_pcm_prepare, ring, stream)
     }
@@ -194,7 +248,7 @@ impl<S: BorrowMut<[u8; STATE_SIZE]>> Sound<S> {
         self.of_stream(ffi::snd_pcm_release, ring, stream)
     }
 
-    /// Starts a stream. A transfer comes after it: see [`Sound::pcm_xfer_start`].
+    /// Starts a stream that was prepared: one that was not may play nothing. [`Sound::new_guarded`] makes a state that sees to it. A transfer comes after it: see [`Sound::pcm_xfer_start`].
     pub fn pcm_start(&mut self, ring: &Ring<impl Borrow<[u8; RING_SIZE]>>, stream: u32) -> Result<Step<()>, Refusal> {
         self.of_stream(ffi::snd_pcm_start, ring, stream)
     }
@@ -396,8 +450,8 @@ impl<S: BorrowMut<[u8; STATE_SIZE]>> Sound<S> {
     ///
     /// n periods need no more than n·g + 1 turns from a device that completes one within any g turns.
     ///
-    /// Start the stream first. Nothing here checks it, and a device may complete nothing of a stream that is only prepared: the budget is
-    /// then used up, ten slots are owed, and [`Sound::pcm_start`] and [`Sound::pcm_release`] are Busy. Let `frames` be whole frames of the
+    /// Start the stream first. Nothing here checks it, and the guard takes a stream that is only prepared, as the standard does; but a device
+    /// may complete nothing of it: the budget is then used up, ten slots are owed, and [`Sound::pcm_start`] and [`Sound::pcm_release`] are Busy. Let `frames` be whole frames of the
     /// format: a device may never give back a last period that is none.
     pub fn transfer<'r, F: Frames, R: BorrowMut<[u8; RING_SIZE]>>(
         &mut self,

@@ -46,7 +46,7 @@ pub enum Started<'r, F: Frames, R: BorrowMut<[u8; RING_SIZE]> = [u8; RING_SIZE]>
     /// It runs: take its turns.
     Runs(Transfer<'r, F, R>),
     /// Set-up had to begin, and nothing runs: no stream has parameters before set-up is done. Feed the exchange to its end, which is a
-    /// refusal (1, 2, 5 or 7, and 11 in strict mode); then set the parameters and start again. Here are the frames.
+    /// refusal (1, 2, 5 or 7, 11 in strict mode, and 12 for 2 under the guard); then set the parameters and start again. Here are the frames.
     SetUp(Exchange<()>, F),
     /// It was refused, and here are the frames.
     Refused(Refusal, F),

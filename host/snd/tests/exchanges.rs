@@ -122,7 +122,7 @@ fn an_inconsistent_store_is_not_abandoned() {
         random.spoil(&mut store[..64]);
         let mut sound = Sound::over(store);
         match sound.abandon() {
-            Ok(()) => assert!(format!("{sound:?}").ends_with("open: nothing }")),
+            Ok(()) => assert!(format!("{sound:?}").contains("open: nothing")),
             Err(refusal) => {
                 assert_eq!((refusal, sound.store()), (Refusal::InvalidParam, &store));
                 refused += 1;

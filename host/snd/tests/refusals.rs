@@ -93,7 +93,8 @@ fn invalid_param_1_for_a_reserved_byte() {
     let good = Desk::with_transfer(b"frames", 9);
     for at in 0..16 {
         let mut state = *good.sound.store();
-        state[48 + at] = 1 << (at % 8);
+        // the guard's word, which is 0 or 1, and the reserved one after it
+        state[48 + at] = 1 << ((at + 1) % 8);
         let mut sound = Sound::over(state);
         assert_eq!(sound.pcm_stop(&Ring::new(), 0), Err(Refusal::InvalidParam));
         assert_eq!(sound.jacks(), Err(Refusal::InvalidParam));
@@ -264,6 +265,29 @@ fn short_11() {
 }
 
 #[test]
+fn bad_state_12() {
+    // each call that a stream's state may bar; tests/lifecycle.rs has every state
+    let mut desk = Desk {
+        sound: Sound::new_guarded(2, 2, 0),
+        ..Desk::new()
+    };
+    for call in [Sound::pcm_release, Sound::pcm_start, Sound::pcm_stop] {
+        let step = call(&mut desk.sound, &desk.ring, 0);
+        assert_eq!(desk.finish(step), Err(Refusal::BadState));
+    }
+    let step = desk.sound.pcm_xfer_start(&mut desk.ring, 0, b"", 9);
+    assert_eq!(desk.finish(step), Err(Refusal::BadState));
+    for call in [Sound::pcm_prepare, Sound::pcm_start] {
+        let step = call(&mut desk.sound, &desk.ring, 0);
+        assert_eq!(desk.finish(step), Ok(()));
+    }
+    let step = desk.sound.pcm_set_params(&desk.ring, 0, PARAMS);
+    assert_eq!(desk.finish(step), Err(Refusal::BadState));
+    let step = desk.sound.pcm_prepare(&desk.ring, 0);
+    assert_eq!(desk.finish(step), Err(Refusal::BadState));
+}
+
+#[test]
 fn a_model_with_too_many_records_is_refused() {
     assert!(Model::new(&[[0; 24]; 171], &[], &[]).is_err());
     assert!(Model::new(&[], &[PcmInfo::output(1, 1).to_bytes(); 128], &[]).is_err());
@@ -285,6 +309,7 @@ fn answers_have_the_documents_numbers() {
         "OutOfTurns",
         "BadLength",
         "Short",
+        "BadState",
     ];
     for (number, name) in (1..).zip(names) {
         let refusal = Refusal::from_number(number);
@@ -296,5 +321,5 @@ fn answers_have_the_documents_numbers() {
         );
     }
     assert_eq!((snd::Answer::Ok.number(), snd::Answer::Ok.name()), (0, "Ok"));
-    assert_eq!(Refusal::from_number(12), Refusal::Unknown);
+    assert_eq!(Refusal::from_number(13), Refusal::Unknown);
 }

@@ -29,6 +29,10 @@ fn a_new_state_is_what_the_archive_writes() {
             for chmaps in COUNTS {
                 assert_eq!(ffi::snd_new(&mut written, jacks, streams, chmaps), 0);
                 assert!(*Sound::new(jacks, streams, chmaps).store() == written);
+                assert_eq!(ffi::snd_new_guarded(&mut written, jacks, streams, chmaps), 0);
+                assert!(*Sound::new_guarded(jacks, streams, chmaps).store() == written);
+                let lent = Sound::new_guarded_in([0xff; STATE_SIZE], jacks, streams, chmaps);
+                assert!(*lent.store() == written);
             }
         }
     }
@@ -107,6 +111,30 @@ fn a_state_shows_how_far_a_call_is() {
     assert_eq!(desk.finish(step), Ok(()));
     let shown = format!("{:?}", desk.sound);
     assert!(shown.ends_with("set_up: true, open: nothing }"), "{shown}");
+}
+
+#[test]
+fn a_guarded_state_shows_where_its_streams_are() {
+    let mut desk = Desk {
+        sound: Sound::new_guarded(2, 2, 0),
+        ..Desk::new()
+    };
+    for (call, now) in [
+        (Sound::pcm_prepare as fn(&mut Sound, &Ring, u32) -> _, "prepare"),
+        (Sound::pcm_start, "start"),
+        (Sound::pcm_stop, "stop"),
+        (Sound::pcm_release, "release"),
+    ] {
+        let step = call(&mut desk.sound, &desk.ring, 1);
+        assert_eq!(desk.finish(step), Ok(()));
+        let shown = format!("{:?}", desk.sound);
+        assert!(
+            shown.ends_with(&format!("open: nothing, guarded: [set parameters, {now}] }}")),
+            "{shown}"
+        );
+    }
+    let shown = format!("{:?}", Sound::new_guarded(0, u32::MAX, 0));
+    assert_eq!(shown.matches("set parameters").count(), 127);
 }
 
 #[test]

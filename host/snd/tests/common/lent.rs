@@ -1,6 +1,6 @@
 //! Everything that can be lent to an entry.
-use super::Desk;
-use snd::{MESSAGE_SIZE, PAGE_SIZE, RESULT_SIZE, ffi};
+use super::{Desk, PARAMS};
+use snd::{MESSAGE_SIZE, PAGE_SIZE, RESULT_SIZE, Sound, ffi};
 
 /// The frames of the transfer that runs in [`Lent::good`].
 pub const FRAMES: &[u8] = b"feeder one four, breaker open";
@@ -61,6 +61,22 @@ impl Lent {
         Self {
             ring: desk.ring.store().to_vec(),
             ..Self::good()
+        }
+    }
+
+    /// The same under the guard, and the stream was prepared.
+    pub fn guarded() -> Self {
+        let mut desk = Desk {
+            sound: Sound::new_guarded(2, 2, 0),
+            ..Desk::new()
+        };
+        let step = desk.sound.pcm_set_params(&desk.ring, 0, PARAMS);
+        desk.finish(step).unwrap();
+        let step = desk.sound.pcm_prepare(&desk.ring, 0);
+        desk.finish(step).unwrap();
+        Self {
+            state: desk.sound.store().to_vec(),
+            ..Self::idle()
         }
     }
 

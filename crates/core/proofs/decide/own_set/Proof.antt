@@ -16,7 +16,18 @@ returns-2 c = passes _ _ _ (passed (c .before .before .before .period-ok .ensure
 
 returns-3 : tie.Need-returns-3
 unfolding ownSet
-returns-3 c = passes _ _ _ (passed (c .before .before .before .before .period-ok .ensures) (c .before .before .before .if1 .left)) (passes _ _ _ (lt-ltb _ _ (c .before .before .if2 .left)) (simp (c .send .ensures, c .before .set-parameters .ensures)))
+returns-3 c =
+    let d = c .before .before .before in
+    passes _ _ _ (passed (d .before .period-ok .ensures) (d .if1 .left))
+    (passes _ _ _ (lt-ltb _ _ (c .before .before .if2 .left)) (stops _ _ _ (failed (d .before .before .may .ensures) (c .before .if3 .taken)) (c .end3 .ensures)))
+
+returns-4 : tie.Need-returns-4
+unfolding ownSet
+returns-4 c =
+    let d = c .before .before .before .before in
+    passes _ _ _ (passed (d .before .period-ok .ensures) (d .if1 .left))
+    (passes _ _ _ (lt-ltb _ _ (c .before .before .before .if2 .left))
+    (passes _ _ _ (passed (d .before .before .may .ensures) (c .before .before .if3 .left)) (simp (c .send .ensures, c .before .set-parameters .ensures))))
 
 pub own-set-spec : {M : Type 1} → statement M
 own-set-spec =
@@ -24,9 +35,12 @@ own-set-spec =
     (tie.spec
     (λ c κs. search needs)
     (λ c κs. search needs)
+    (λ c κs. search needs)
     returns
     (λ c κs. search needs)
     returns-2
     (λ c κs. search needs)
+    returns-3
     (λ c κs. search needs)
-    returns-3)
+    (λ c κs. search needs)
+    returns-4)

@@ -1,6 +1,6 @@
 -- `core::decide::own_xfer` meets its contract, test by test. Assumes nothing.
 use borrow.Author.Tests.{lt-ltb, le-ltb}
-use Rattle.codes.specs.SaysLaws.{passes, stops}
+use Rattle.codes.specs.SaysLaws.{passed, failed, passes, stops}
 use borrow.Author.Needs.{needs}
 use Rattle.core.specs.Plan.{ownXfer}
 use Rattle.core.proofs.decide.own_xfer.Statement.{statement}
@@ -12,7 +12,28 @@ returns c = stops _ _ _ (le-ltb _ _ (c .before .if1 .taken)) (c .end .ensures)
 
 returns-2 : tie.Need-returns-2
 unfolding ownXfer
-returns-2 c = passes _ _ _ (lt-ltb _ _ (c .before .if1 .left)) (c .end2 .ensures)
+returns-2 c =
+    let d = c .before .before .before .before in
+    passes _ _ _ (lt-ltb _ _ (c .before .before .if1 .left))
+    (stops _ _ _ (failed (rw (d .before .takes .ensures, d .before .before .life-in .ensures) at (d .held-to .ensures)) (c .before .if2 .taken)) (c .end2 .ensures))
+
+returns-3 : tie.Need-returns-3
+unfolding ownXfer
+returns-3 c =
+    let d = c .before .before .before .before in
+    passes _ _ _ (lt-ltb _ _ (c .before .before .if1 .left))
+    (passes _ _ _ (passed (rw (d .before .takes .ensures, d .before .before .life-in .ensures) at (d .held-to .ensures)) (c .before .if2 .left)) (c .end3 .ensures))
 
 pub own-xfer-spec : {M : Type 1} → statement M
-own-xfer-spec = tie.close (tie.spec (λ c κs. search needs) returns (λ c κs. search needs) returns-2)
+own-xfer-spec =
+    tie.close
+    (tie.spec
+    (λ c κs. search needs)
+    (λ c κs. search needs)
+    (λ c κs. search needs)
+    (λ c κs. search needs)
+    returns
+    (λ c κs. search needs)
+    returns-2
+    (λ c κs. search needs)
+    returns-3)

@@ -7,8 +7,10 @@ use Rattle.exchange.proofs.xfer.set_up.Tie as tie
 
 returns : tie.Need-returns
 returns c =
-    let a = c .before .before .before .before .before .before .before .before .before .ask-jacks .ensures in
-    (simp a, simp (c .before .before .before .before .before .before .tell .ensures .1 ∙ tells-message (c .before .before .before .before .before .before .before .before .before .ask-jacks .result .say) (c .before .before .before .before .before .before .before .before .before .before .before .args .message .now) (c .before .before .before .before .before .before .before .before .before .before .before .pre), a))
+    let t = c .before .before .before .before .before .before .before in
+    let q = t .before .before .before in
+    let a = q .ask-jacks .ensures in
+    (simp a, simp (t .tell .ensures .1 ∙ tells-message (q .ask-jacks .result .say) (q .before .before .args .message .now) (q .before .before .pre), a))
 
 pub set-up-spec : {M : Type 1} → statement M
 set-up-spec = tie.close (tie.spec (λ c κs. search needs) (λ c κs. search needs) (λ c. search needs) returns)

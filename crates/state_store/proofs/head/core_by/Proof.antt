@@ -4,7 +4,9 @@ use Rattle.state_store.proofs.head.core_by.Statement.{statement}
 use Rattle.state_store.proofs.head.core_by.Tie as tie
 
 returns : tie.Need-returns
-returns c = rw (sym (c .before .before .before .before .before .before .pre) ∙ c .before .before .if1 .taken) (cc (c .before .stage-of .ensures))
+returns c =
+    let d = c .before .before .before in
+    rw (sym (d .before .before .before .before .pre) ∙ d .if1 .taken) (cc (c .before .before .stage-of .ensures))
 
 returns-2 : tie.Need-returns-2
 returns-2 c = rw (sym (c .before .before .before .before .pre) ∙ c .if1 .left)

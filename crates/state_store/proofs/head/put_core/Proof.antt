@@ -9,7 +9,7 @@ returns c =
     let f = c .before .before .before .before .before .before in
     let d = f .before .before .before .before in
     let a = d .before .before .before .before .args in
-    core-runs (a .s .now) (a .c) (d .before .before .flat-of .ensures) (d .put-counts .ensures) (f .put-flat .ensures) (c .before .before .put-reserved .ensures)
+    core-runs (a .s .now) (a .c) (d .before .before .flat-of .ensures) (d .put-counts .ensures) (f .put-flat .ensures) (c .before .before .put-guard .ensures)
 
 pub put-core-spec : {M : Type 1} → statement M
 put-core-spec = tie.close (tie.spec (λ c κs. tt) (λ c κs. search needs) (λ c κs. search needs) (λ c κs. search needs) (λ c. search needs) returns)

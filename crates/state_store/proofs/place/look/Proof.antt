@@ -5,19 +5,30 @@ use Rattle.core.specs.declared.plan.Look.the-variants as look
 use Rattle.state_store.proofs.place.look.Statement.{statement}
 use Rattle.state_store.proofs.place.look.Tie as tie
 
+returns : tie.Need-returns
+returns c = rw (c .before .before .call .given .1) (ap look.Life (c .life-at .ensures))
+
+returns-2 : tie.Need-returns-2
+returns-2 c = rw (c .before .before .call2 .given .1) (ap look.Life (c .life-at2 .ensures))
+
 returns-3 : tie.Need-returns-3
-returns-3 c = rw (c .before .before .call .given .1) (ap look.Jack (c .jack-features .ensures))
+returns-3 c = rw (c .before .before .call3 .given .1) (ap look.Jack (c .jack-features .ensures))
 
 returns-5 : tie.Need-returns-5
-returns-5 c = rw (c .before .before .call2 .given .1) (ap look.Stream (c .stream-field .ensures))
+returns-5 c = rw (c .before .before .call4 .given .1) (ap look.Stream (c .stream-field .ensures))
+
+returns-6 : tie.Need-returns-6
+returns-6 c = rw (c .before .before .call5 .given .1) (ap look.Life (c .life-at3 .ensures))
 
 pub look-spec : {M : Type 1} → statement M
 look-spec =
     tie.close
     (tie.spec
-    (λ c. search needs) (λ c. search needs) (λ c. search needs) (λ c κs. search needs) (λ c. search needs) (λ c. search needs) (λ c κs. search needs)
-    (λ c. search needs) (λ c. search needs) (λ c. search needs)
+    (λ c. search needs) (λ c κs. search needs) (λ c. search needs) (λ c κs. search needs) (λ c. search needs) (λ c κs. search needs) (λ c. search needs)
+    (λ c. search needs) (λ c κs. search needs) (λ c. search needs) (λ c κs. search needs)
+    returns
+    returns-2
     returns-3
     (λ c. search needs)
     returns-5
-    (λ c. search needs))
+    returns-6)
