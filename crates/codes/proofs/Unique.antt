@@ -44,6 +44,8 @@ use Rattle.codes.proofs.formats.PcmFormat.number.Reads as format-number
 use Rattle.codes.proofs.formats.PcmFormat.from_number.Reads as format-from-number
 use Rattle.codes.proofs.rates.PcmRate.number.Reads as rate-number
 use Rattle.codes.proofs.rates.PcmRate.from_number.Reads as rate-from-number
+use Rattle.codes.proofs.formats.PcmFormat.sample_bits.Reads as sample-bits
+use Rattle.codes.proofs.formats.PcmFormat.storage_bits.Reads as storage-bits
 use Rattle.codes.proofs.rates.PcmRate.hz.Reads as rate-hz
 use Rattle.codes.proofs.rates.PcmRate.from_hz.Reads as rate-from-hz
 use Rattle.codes.proofs.events.NotificationType.code.Reads as kind-code
@@ -199,6 +201,12 @@ rate-number-one κs a r₁ r₂ e₁ e₂ p q = same p q
 
 pub rate-from-number-one : (κs : _) (a : _) (r₁ r₂ : _) (e₁ e₂ : _) → rate-from-number.Post κs a r₁ e₁ → rate-from-number.Post κs a r₂ e₂ → r₁ ≡ r₂
 rate-from-number-one κs a r₁ r₂ e₁ e₂ p q = one saysRate (answer foundRate.Is foundRate.InvalidParam rateOf) rate-answer p q
+
+pub sample-bits-one : (κs : _) (a : _) (r₁ r₂ : _) (e₁ e₂ : _) → sample-bits.Post κs a r₁ e₁ → sample-bits.Post κs a r₂ e₂ → r₁ ≡ r₂
+sample-bits-one κs a r₁ r₂ e₁ e₂ p q = same p q
+
+pub storage-bits-one : (κs : _) (a : _) (r₁ r₂ : _) (e₁ e₂ : _) → storage-bits.Post κs a r₁ e₁ → storage-bits.Post κs a r₂ e₂ → r₁ ≡ r₂
+storage-bits-one κs a r₁ r₂ e₁ e₂ p q = same p q
 
 pub rate-hz-one : (κs : _) (a : _) (r₁ r₂ : _) (e₁ e₂ : _) → rate-hz.Post κs a r₁ e₁ → rate-hz.Post κs a r₂ e₂ → r₁ ≡ r₂
 rate-hz-one κs a r₁ r₂ e₁ e₂ p q = same p q

@@ -15,6 +15,7 @@ pub mod CodesLaws
 pub mod FlagsLaws
 pub mod TableLaws
 pub mod RatesLaws
+pub mod FormatsLaws
 pub mod AnswersLaws
 pub mod StatusesLaws
 pub mod LifeLaws

@@ -1,7 +1,7 @@
 // PCM sample formats and their numbers.
 ghost use mathlib.Core.Path.{_≡_};
 ghost use Rattle.codes.specs.Codes.{numberSays};
-ghost use Rattle.codes.specs.Formats.{formatNumber, saysFormat};
+ghost use Rattle.codes.specs.Formats.{formatNumber, saysFormat, sampleBits, storageBits};
 
 pub enum PcmFormat {
     ImaAdpcm,
@@ -36,6 +36,63 @@ pub enum FoundFormat {
     Is(PcmFormat),
     InvalidParam,
 }
+
+// By format number: the bits of a sample, and the bits that it takes.
+const SAMPLE: [u8; 25] = [
+    4,
+    8,
+    8,
+    8,
+    8,
+    16,
+    16,
+    18,
+    18,
+    20,
+    20,
+    24,
+    24,
+    20,
+    20,
+    24,
+    24,
+    32,
+    32,
+    32,
+    64,
+    8,
+    16,
+    32,
+    32,
+];
+
+const STORAGE: [u8; 25] = [
+    4,
+    8,
+    8,
+    8,
+    8,
+    16,
+    16,
+    24,
+    24,
+    24,
+    24,
+    24,
+    24,
+    32,
+    32,
+    32,
+    32,
+    32,
+    32,
+    32,
+    64,
+    8,
+    16,
+    32,
+    32,
+];
 
 impl PcmFormat {
     pub fn number(self) -> u8
@@ -101,5 +158,21 @@ impl PcmFormat {
             24 => FoundFormat::Is(PcmFormat::Iec958Subframe),
             _ => FoundFormat::InvalidParam,
         }
+    }
+
+    // The bits of a sample.
+    pub fn sample_bits(self) -> u8
+        ensures { λ r. ⌜ r ≡ sampleBits self ⌝ }
+    {
+        let n = self.number() as usize;
+        SAMPLE[n]
+    }
+
+    // The bits that a sample takes where it is stored.
+    pub fn storage_bits(self) -> u8
+        ensures { λ r. ⌜ r ≡ storageBits self ⌝ }
+    {
+        let at = self.number() as usize;
+        STORAGE[at]
     }
 }
