@@ -55,6 +55,8 @@ use Rattle.console.proofs.device.snd_model_transfer.Reads as model-tran
 use Rattle.console.proofs.device.snd_model_payload.Reads as model-payload
 use Rattle.console.proofs.device.snd_model_params.Reads as model-params
 use Rattle.console.proofs.device.snd_model_played.Reads as model-played
+use Rattle.console.proofs.wave.snd_wav_read.Reads as wav-read
+use Rattle.console.proofs.wave.snd_wav_write.Reads as wav-write
 
 left-one : {x : Told} {a b : ℕ} {s t m n r u : List ℕ} → left a s m r ≡ x → left b t n u ≡ x → (a ≡ b) × (s ≡ t) × (m ≡ n) × (r ≡ u)
 left-one p q = let e = same p q in (ap (λ (y : Told). y .answer) e, ap (λ (y : Told). y .state) e, ap (λ (y : Told). y .message) e, ap (λ (y : Told). y .result) e)
@@ -232,3 +234,11 @@ model-params-one κs a r₁ r₂ e₁ e₂ p q = shown-one p q
 
 pub model-played-one : (κs : _) (a : _) (r₁ r₂ : _) (e₁ e₂ : _) → model-played.Post κs a r₁ e₁ → model-played.Post κs a r₂ e₂ → (r₁ ≡ r₂) × (now (e₁ .1 .1 .0) ≡ now (e₂ .1 .1 .0))
 model-played-one κs a r₁ r₂ e₁ e₂ p q = shown-one p q
+
+-- lent: result
+pub wav-read-one : (κs : _) (a : _) (r₁ r₂ : _) (e₁ e₂ : _) → wav-read.Post κs a r₁ e₁ → wav-read.Post κs a r₂ e₂ → (r₁ ≡ r₂) × (now (e₁ .1 .0) ≡ now (e₂ .1 .0))
+wav-read-one κs a r₁ r₂ e₁ e₂ p q = shown-one p q
+
+-- lent: file
+pub wav-write-one : (κs : _) (a : _) (r₁ r₂ : _) (e₁ e₂ : _) → wav-write.Post κs a r₁ e₁ → wav-write.Post κs a r₂ e₂ → (r₁ ≡ r₂) × (now (e₁ .1 .1 .1 .1 .0) ≡ now (e₂ .1 .1 .1 .1 .0))
+wav-write-one κs a r₁ r₂ e₁ e₂ p q = made-one p q

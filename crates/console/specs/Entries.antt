@@ -1,14 +1,14 @@
--- What the C entries say where an entry puts stores together: a state with a ring, and an event. The others say what `state_store`, `ring_store` and
+-- What the C entries say where an entry puts stores together, a state with a ring, and where there is no store: an event, a WAVE file. The others say what `state_store`, `ring_store` and
 -- `model_store` say.
 -- Assumes nothing.
 use mathlib.Core.Bool.{_&&_}
-use mathlib.Core.List.{List}
+use mathlib.Core.List.{List, [], _∷_}
 use Prim.Native.Nat.{ℕ}
 use lib.Dec.{leb, eqb}
 use lib.ListN.{length}
 use lib.Seq.{sets}
 use Rattle.layout.specs.Bytes.{le}
-use Rattle.layout.specs.Layout.{read}
+use Rattle.layout.specs.Layout.{read, write}
 use Rattle.layout.specs.Rows.{rowsBytes}
 use Rattle.codes.specs.Says.{pick, guard}
 use Rattle.turns.specs.Ring.{isRefused}
@@ -21,10 +21,14 @@ use Rattle.exchange.specs.declared.xfer.XferReply.the-variants.{Send, Says}
 use Rattle.exchange.specs.declared.xfer.XferStep.{XferStep}
 use Rattle.ring_store.specs.Store.{ringSize}
 use Rattle.state_store.specs.Places.{stateSize}
-use Rattle.layout.specs.Lent.{Shown, shown, resultSize}
+use Rattle.layout.specs.Lent.{Made, made, Shown, shown, resultSize}
 use Rattle.ring_store.specs.Store.{trackAt, ringOf, ringBytes}
 use Rattle.state_store.specs.Store.{soundOf, stateAfter}
 use Rattle.state_store.specs.Calls.{Told, tooShort, callIn}
+use Rattle.wav.specs.Wave.{waveOf, saysWave, wroteOf, saysWrote, fileOf, writtenBy}
+use Rattle.wav.specs.declared.reader.Wave.{Wave}
+use Rattle.wav.specs.declared.reader.ReadWave.{ReadWave}
+use Rattle.wav.specs.declared.reader.ReadWave.the-variants as wave
 
 -- ---- a call: the state's, with the ring that tells Busy
 
@@ -72,3 +76,30 @@ noticeEntry e r =
     guard (leb resultSize (length r)) (shown 10 r)
     (guard (eqb (length e) 8) (shown 513 r)
     (shown (x .number) (sets r 0 (rowsBytes (le 4) (x .values)))))
+
+-- ---- a WAVE file that is read: where its data chunk is, offset 8 and length 8, and its sound as set parameters takes it, channels 1, format 1, rate 1
+
+abbrev pub waveRow : List ℕ
+waveRow = 8 ∷ 8 ∷ 1 ∷ 1 ∷ 1 ∷ []
+
+abbrev pub waveValues : Wave → List ℕ
+waveValues w = w .offset ∷ w .len ∷ w .sound .channels ∷ w .sound .format ∷ w .sound .rate ∷ []
+
+abbrev pub waveResult : ReadWave → List ℕ → List ℕ
+waveResult (wave.Is w) r = sets r 0 (write waveRow (waveValues w))
+waveResult wave.NotWave r = r
+waveResult wave.BadSound r = r
+
+-- by what reading said
+abbrev pub waveShown : List ℕ → ReadWave → Shown
+waveShown r x = shown (saysWave x .number) (waveResult x r)
+
+unfoldable pub waveEntry : List ℕ → List ℕ → Shown
+waveEntry file r = guard (leb resultSize (length r)) (shown 10 r) (waveShown r (waveOf file))
+
+-- ---- a WAVE file that is written at the front of a slice
+
+unfoldable pub fileEntry : ℕ → ℕ → ℕ → List ℕ → List ℕ → Made
+fileEntry channels format rate frames l =
+    let x = wroteOf channels format rate (length frames) (length l) in
+    made (saysWrote x .number) (writtenBy x (fileOf channels format rate frames) l)

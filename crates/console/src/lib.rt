@@ -6,3 +6,4 @@ mod ring;
 mod sizes;
 mod stores;
 mod transfer;
+mod wave;

@@ -78,11 +78,13 @@ pub(crate) fn answers() {
     show::number(b"D_INPUT", direction::INPUT as u64);
 }
 
-// A format's number, and its mask.
+// A format's number, its mask and its widths.
 fn format(name: &[u8], f: PcmFormat) {
     show::number(name, f.number() as u64);
     let mask = PcmFormats::from_format(f);
     show::plain(b"1 <<", mask.bits);
+    show::plain(b"sample", f.sample_bits() as u64);
+    show::plain(b"storage", f.storage_bits() as u64);
 }
 
 fn formats_to_8() {
