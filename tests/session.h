@@ -8,7 +8,7 @@ enum { JACKS = 3, STREAMS = 2, MAPS = 1, FRAMES = 40000 };
 struct stores {
     uint64_t answer;
     uint8_t state[SND_STATE_SIZE], ring[SND_RING_SIZE], message[SND_MESSAGE_SIZE], result[SND_RESULT_SIZE];
-    uint8_t page[SND_PAGE_SIZE], model[SND_MODEL_SIZE], status[8];
+    uint8_t page[SND_PAGE_SIZE], model[SND_MODEL_SIZE], status[8], file[64];
 };
 
 static struct stores s;
@@ -20,6 +20,7 @@ static uint8_t frames[FRAMES];
 #define RESULT s.result, sizeof s.result
 #define PAGE s.page, sizeof s.page
 #define MODEL s.model, sizeof s.model
+#define WAVE s.file, sizeof s.file
 
 /* Hands each request to the model device and feeds its answer, until the call says something else. */
 static uint64_t answered(uint64_t said) {
@@ -169,6 +170,17 @@ static void others(void) {
     answered(CALL(snd_pcm_release, STATE, RING, 0, MESSAGE, RESULT));
 }
 
+/* A WAVE file is written and read, and refused for its structure, its sound and its room. */
+static void waves(void) {
+    CALL(snd_wav_write, 1, 11, 6, frames, 9, WAVE);
+    CALL(snd_wav_read, WAVE, RESULT);
+    CALL(snd_wav_read, s.file, 53, RESULT);          /* the pad is cut off */
+    CALL(snd_wav_write, 1, 11, 6, frames, 10, WAVE); /* no whole frame */
+    CALL(snd_wav_write, 1, 11, 6, frames, 21, WAVE); /* no room */
+    s.file[20] = 3;
+    CALL(snd_wav_read, WAVE, RESULT);                /* floats */
+}
+
 static void session(void) {
     for (size_t i = 0; i < sizeof frames; i++)
         frames[i] = i * 7;
@@ -180,6 +192,7 @@ static void session(void) {
     transfer(5, ~0u);
     others();
     guarded();
+    waves();
     strict();
     refusals();
 }

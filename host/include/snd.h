@@ -1,7 +1,7 @@
 /* The driver's C entries. docs/BOUNDARY.md says what each answers and writes.
  *
  * Every entry answers one number: the answer's number in its low 32 bits, 0 above. 0 to 10 are
- * document 01's answers, 11 and 12 are document 02's; a request of n bytes to send is SND_SEND + n; a turn
+ * document 01's answers, 11 to 14 are document 02's; a request of n bytes to send is SND_SEND + n; a turn
  * that goes on is SND_GOING; an event that says nothing is SND_NOTHING.
  *
  * A slice is a pointer and a length; an empty one may have any pointer but NULL. Slices that are
@@ -30,7 +30,7 @@ extern "C" {
 /* The version of this header and of the archive beside it: docs/BOUNDARY.md says when it changes.
  * As one number it can be compared by #if. */
 #define SND_VERSION_MAJOR 0u
-#define SND_VERSION_MINOR 3u
+#define SND_VERSION_MINOR 4u
 #define SND_VERSION_PATCH 0u
 #define SND_VERSION (SND_VERSION_MAJOR * 1000000u + SND_VERSION_MINOR * 1000u + SND_VERSION_PATCH)
 
@@ -47,6 +47,8 @@ extern "C" {
 #define SND_BAD_LENGTH 10u
 #define SND_SHORT 11u
 #define SND_BAD_STATE 12u
+#define SND_NOT_WAVE 13u
+#define SND_BAD_SOUND 14u
 #define SND_SEND 256u
 #define SND_GOING 512u
 #define SND_NOTHING 513u
@@ -153,6 +155,14 @@ uint64_t snd_ring_oldest(const uint8_t *ring, size_t ring_len, uint8_t *result, 
 
 /* An event. Result: code 4, data 4. */
 uint64_t snd_latest_notification(const uint8_t *event, size_t event_len, uint8_t *result, size_t result_len);
+
+/* A WAVE file: what it holds (result: offset 8 and length 8 of its data chunk in the file, then
+ * channels 1, format 1, rate 1 as snd_pcm_set_params takes them), or 13 where it is no WAVE file, 14
+ * where its sound is not taken; and a file written at the front of a slice, 44 bytes and the frames,
+ * padded to even: 14 first, then 10 where the slice is too short. They use no store. */
+uint64_t snd_wav_read(const uint8_t *file, size_t file_len, uint8_t *result, size_t result_len);
+uint64_t snd_wav_write(uint8_t channels, uint8_t format, uint8_t rate, const uint8_t *frames, size_t frames_len,
+                       uint8_t *file, size_t file_len);
 
 /* The model device, for tests and demonstrations: made from three tables of records as they stand in
  * an answer. control: result has the answer's length, 8. payload: result has its offset 8 and length 8

@@ -5,13 +5,15 @@ announce: speak announcements through the proved driver to the model device
 
 usage: announce [OPTIONS] [FILE]...
 
-FILE has raw frames (signed 16 bits, little-endian); - is standard input;
-without a FILE a tone is made. Several are spoken one after the other on one
-device that is set up once: a page for each, and a closing line.
+FILE is a WAVE file (8, 16, 24 or 32 bits PCM), which says its own channels,
+format and rate, or has raw frames (signed 16 bits, little-endian); - is
+standard input; without a FILE a tone is made. Several are spoken one after the
+other on one device that is set up once: a page for each, and a closing line.
 
   --seconds S        length of the tone (3)
-  --rate HZ          frames a second, one of VirtIO's 14 (48000)
-  --channels N       channels of a frame, 1 to 255 (2)
+  --rate HZ          frames a second, one of VirtIO's 14 (48000): of raw frames
+                     and the tone
+  --channels N       channels of a frame, 1 to 255 (2): likewise
   --period BYTES     bytes of a period (4096)
   --buffer BYTES     bytes of the device's buffer, a multiple of the period
                      (4 periods)
@@ -26,13 +28,14 @@ device that is set up once: a page for each, and a closing line.
                      in a page that holds an old jack; a remap is then asked for
   --accepted FILE    write the bytes that the device had accepted when the
                      transfer answered: compare FILE with the frames
+  --wav FILE         write the same as a WAVE file, in whole frames: play it
   --log FILE         write one JSON object: the page's facts, every period
   --picture FILE     write a timeline of the transfer, an SVG
   -h, --help         this text
 
 --name=value is --name value, and -- ends the options. With several FILEs the
 device counts N of --fail-at and --wrong-slot-at over all of them; --accepted,
---log and --picture have all of them, in order. Nothing that is read is
+--wav, --log and --picture have all of them, in order. Nothing that is read is
 overwritten, and no two outputs are one file.
 
 Exit status, the worst of all FILEs: 0 the device accepted the whole

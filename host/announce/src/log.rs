@@ -31,6 +31,13 @@ fn before(to: &mut Object, report: &Report) {
     let (options, recording, told) = (report.options, report.recording, &report.told);
     to.text("announcement", &recording.name);
     to.number("bytes", recording.frames.len() as u64);
+    match &recording.file {
+        Some(file) => to.object("wave", |to| {
+            to.number("bytes", file.bytes as u64);
+            to.number("offset", file.offset as u64);
+        }),
+        None => to.null("wave"),
+    }
     to.text("sha256", &recording.sha256);
     to.seconds("seconds", Some(report.seconds()));
     to.texts("warnings", &recording.warnings(options));
@@ -52,9 +59,9 @@ fn before(to: &mut Object, report: &Report) {
     to.object("parameters", |to| {
         to.number("buffer", options.buffer.into());
         to.number("period", options.period.into());
-        to.number("channels", options.channels.into());
-        to.text("format", "S16");
-        to.number("rate", options.rate.hz().into());
+        to.number("channels", recording.form.channels.into());
+        to.text("format", recording.form.format_name());
+        to.number("rate", recording.form.rate.hz().into());
     });
     let periods = recording.frames.len().div_ceil(options.period as usize);
     to.number("period_count", periods as u64);
@@ -98,7 +105,7 @@ fn device(to: &mut Object, report: &Report) {
         Some(gap) => to.object("broke_off", |to| {
             to.number("period", gap.first as u64);
             to.number("byte", gap.offset as u64);
-            to.seconds("second", Some(report.options.second(gap.offset)));
+            to.seconds("second", Some(report.recording.form.second(gap.offset)));
         }),
     }
 }

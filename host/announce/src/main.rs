@@ -5,6 +5,7 @@
 mod account;
 mod clock;
 mod device;
+mod form;
 mod help;
 mod json;
 mod log;
@@ -21,6 +22,7 @@ mod svg;
 mod timeline;
 mod told;
 mod tone;
+mod wave;
 
 use options::{Asked, Options};
 use report::{Built, Report};
@@ -70,9 +72,12 @@ fn run(options: &Options) -> Result<u8, String> {
 }
 
 fn write_outputs(options: &Options, reports: &[Report], built: &Built, status: u8) -> Result<(), String> {
+    let accepted: Vec<u8> = reports.iter().flat_map(Report::accepted).copied().collect();
     if let Some(file) = &options.accepted {
-        let accepted: Vec<u8> = reports.iter().flat_map(Report::accepted).copied().collect();
         write(file, &accepted)?;
+    }
+    if let (Some(file), Some(first)) = (&options.wav, reports.first()) {
+        write(file, &wave::file(first.recording.form, &accepted)?)?;
     }
     if let Some(file) = &options.log {
         write(file, log::of(reports, built, status).as_bytes())?;

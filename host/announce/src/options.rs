@@ -1,7 +1,8 @@
 //! The command line.
+use crate::form::Form;
 use crate::help::HELP;
 use crate::sizes;
-use snd::Rate;
+use snd::{Format, Rate};
 use std::ffi::{OsStr, OsString};
 use std::os::unix::ffi::OsStrExt;
 use std::path::PathBuf;
@@ -37,8 +38,9 @@ impl Source {
 pub struct Options {
     pub sources: Vec<Source>,
     pub seconds: u32,
-    pub rate: Rate,
-    pub channels: u8,
+    /// Of raw frames and of the tone; a WAVE file says its own.
+    pub rate: Option<Rate>,
+    pub channels: Option<u8>,
     pub period: u32,
     pub buffer: u32,
     pub slow: u64,
@@ -52,6 +54,7 @@ pub struct Options {
     /// The jack query is answered by its header alone.
     pub short_jacks: bool,
     pub accepted: Option<PathBuf>,
+    pub wav: Option<PathBuf>,
     pub log: Option<PathBuf>,
     pub picture: Option<PathBuf>,
 }
@@ -61,8 +64,8 @@ impl Options {
         Self {
             sources: Vec::new(),
             seconds: 3,
-            rate: Rate::Hz48000,
-            channels: 2,
+            rate: None,
+            channels: None,
             period: 4096,
             buffer: 0,
             slow: 1,
@@ -73,25 +76,26 @@ impl Options {
             guard: false,
             short_jacks: false,
             accepted: None,
+            wav: None,
             log: None,
             picture: None,
         }
     }
 
-    /// Bytes of a frame.
-    pub fn frame(&self) -> usize {
-        usize::from(self.channels) * 2
-    }
-
-    /// Where a byte of the frames is heard, in seconds.
-    pub fn second(&self, byte: usize) -> f64 {
-        byte as f64 / (self.frame() as f64 * f64::from(self.rate.hz()))
+    /// The form of raw frames and of the tone.
+    pub fn form(&self) -> Form {
+        Form {
+            channels: self.channels.unwrap_or(2),
+            format: Format::S16,
+            rate: self.rate.unwrap_or(Rate::Hz48000),
+        }
     }
 
     /// What is written, by the options that name it.
     pub fn outputs(&self) -> impl Iterator<Item = (&'static str, &PathBuf)> {
         let all = [
             ("--accepted", &self.accepted),
+            ("--wav", &self.wav),
             ("--log", &self.log),
             ("--picture", &self.picture),
         ];
@@ -152,8 +156,8 @@ fn take<'w>(
 ) -> Result<(), String> {
     match name {
         "--seconds" => options.seconds = number(name, value()?, 0, 3600)? as u32,
-        "--rate" => options.rate = rate(value()?)?,
-        "--channels" => options.channels = number(name, value()?, 1, 255)? as u8,
+        "--rate" => options.rate = Some(rate(value()?)?),
+        "--channels" => options.channels = Some(number(name, value()?, 1, 255)? as u8),
         "--period" => options.period = number(name, value()?, 1, u32::MAX.into())? as u32,
         "--buffer" => *buffer = Some(number(name, value()?, 1, u32::MAX.into())? as u32),
         "--slow" => options.slow = number(name, value()?, 1, 1_000_000)?,
@@ -161,6 +165,7 @@ fn take<'w>(
         "--wrong-slot-at" => options.wrong_slot_at = Some(number(name, value()?, 1, u64::MAX)?),
         "--budget" => options.budget = Some(number(name, value()?, 0, u64::MAX)?),
         "--accepted" => options.accepted = Some(output(name, value()?)?),
+        "--wav" => options.wav = Some(output(name, value()?)?),
         "--log" => options.log = Some(output(name, value()?)?),
         "--picture" => options.picture = Some(output(name, value()?)?),
         _ => return Err(format!("unknown option {name}; see --help")),

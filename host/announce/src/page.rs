@@ -48,7 +48,7 @@ impl Lines {
 fn before(lines: &mut Lines, report: &Report) {
     let (options, recording) = (report.options, report.recording);
     let bytes = recording.frames.len();
-    lines.line("announcement", &format!("{}, {bytes} bytes", recording.name));
+    lines.line("announcement", &format!("{}, {}", recording.name, recording.bytes()));
     lines.line("frames", &format!("sha256 {}", recording.sha256));
     lines.line("recording", &format!("{:.6} s", report.seconds()));
     for warning in recording.warnings(options) {
@@ -67,7 +67,7 @@ fn before(lines: &mut Lines, report: &Report) {
         lines.line("jacks", &jacks(told));
     }
     lines.line("stream", &stream(&report.told));
-    lines.line("parameters", &parameters(options));
+    lines.line("parameters", &parameters(report));
     lines.line("periods", &periods(bytes, options.period as usize));
 }
 
@@ -140,14 +140,9 @@ fn stream(told: &Told) -> String {
     }
 }
 
-fn parameters(options: &Options) -> String {
-    let channels = count(options.channels.into(), "channel");
-    format!(
-        "buffer {}, period {}, {channels}, S16, {} Hz",
-        options.buffer,
-        options.period,
-        options.rate.hz()
-    )
+fn parameters(report: &Report) -> String {
+    let Options { buffer, period, .. } = report.options;
+    format!("buffer {buffer}, period {period}, {}", report.recording.form.shown())
 }
 
 fn periods(bytes: usize, period: usize) -> String {
@@ -222,7 +217,7 @@ fn broke_off(report: &Report) -> String {
             "at period {}, byte {}, second {:.6}",
             gap.first,
             gap.offset,
-            report.options.second(gap.offset)
+            report.recording.form.second(gap.offset)
         ),
     }
 }

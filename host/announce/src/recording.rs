@@ -1,31 +1,61 @@
 //! What is to be spoken.
+use crate::form::Form;
 use crate::options::{Options, Source};
-use crate::{sizes, tone};
+use crate::{sizes, tone, wave};
 use std::io::Read;
 
 pub struct Recording {
     /// As the page names it.
     pub name: String,
     pub frames: Vec<u8>,
+    pub form: Form,
+    /// Where the frames stood, if a WAVE file was read.
+    pub file: Option<InFile>,
     pub sha256: String,
+}
+
+pub struct InFile {
+    /// Bytes of the whole file.
+    pub bytes: usize,
+    /// Where in it the frames begin.
+    pub offset: usize,
 }
 
 /// Reads all of them, or says what cannot be read.
 pub fn all(options: &Options) -> Result<Vec<Recording>, String> {
-    options.sources.iter().map(|source| read(options, source)).collect()
+    let recordings: Result<Vec<_>, _> = options.sources.iter().map(|source| read(options, source)).collect();
+    let recordings = recordings?;
+    wave::one_form(options, &recordings)?;
+    Ok(recordings)
 }
 
 fn read(options: &Options, source: &Source) -> Result<Recording, String> {
     let name = name(options, source);
-    let frames = match source {
-        Source::Tone => Ok(tone::of(options.seconds, options.rate, options.channels)),
+    let bytes = match source {
+        Source::Tone => Ok(tone::of(options.seconds, options.form())),
         Source::Input => input(),
         Source::File(file) => std::fs::read(file),
     };
-    let frames = frames.map_err(|why| format!("cannot read {name}: {why}"))?;
+    let bytes = bytes.map_err(|why| format!("cannot read {name}: {why}"))?;
+    let (frames, form, file) = if wave::begins(&bytes) {
+        let (form, place) = wave::read(options, &name, &bytes)?;
+        let file = InFile {
+            bytes: bytes.len(),
+            offset: place.start,
+        };
+        (bytes.get(place).unwrap_or_default().to_vec(), form, Some(file))
+    } else {
+        (bytes, options.form(), None)
+    };
     sizes::periods(&name, frames.len(), options.period)?;
     let sha256 = sha256::hex(&frames);
-    Ok(Recording { name, frames, sha256 })
+    Ok(Recording {
+        name,
+        frames,
+        form,
+        file,
+        sha256,
+    })
 }
 
 fn input() -> std::io::Result<Vec<u8>> {
@@ -56,18 +86,36 @@ pub fn plain(name: &str) -> String {
 }
 
 impl Recording {
+    /// How many bytes there are to speak, and where they stood.
+    pub fn bytes(&self) -> String {
+        let frames = self.frames.len();
+        match &self.file {
+            None => format!("{frames} bytes"),
+            Some(file) => format!("{} bytes, {frames} of frames from byte {}", file.bytes, file.offset),
+        }
+    }
+
     /// What a user should know of the frames before all else.
     pub fn warnings(&self, options: &Options) -> Vec<String> {
-        let (bytes, frame) = (self.frames.len(), options.frame());
+        let (bytes, frame) = (self.frames.len(), self.form.frame());
         if bytes == 0 {
             return vec!["there are no frames: nothing is spoken".into()];
         }
-        match bytes % frame {
-            0 => vec![],
-            over => vec![format!(
+        let mut warnings = Vec::new();
+        let over = bytes % frame;
+        if over > 0 {
+            warnings.push(format!(
                 "the last frame is cut: {bytes} bytes are {} frames of {frame} bytes and {over} over; a device may never complete it",
                 bytes / frame
-            )],
+            ));
         }
+        let period = options.period as usize;
+        if period < bytes && !period.is_multiple_of(frame) {
+            warnings.push(format!(
+                "a period of {period} bytes cuts frames of {frame} bytes in two; --period {} would not",
+                (period / frame).max(1) * frame
+            ));
+        }
+        warnings
     }
 }

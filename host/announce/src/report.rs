@@ -61,6 +61,6 @@ impl<'r> Report<'r> {
 
     /// How long the recording is, in seconds.
     pub fn seconds(&self) -> f64 {
-        self.options.second(self.recording.frames.len())
+        self.recording.form.second(self.recording.frames.len())
     }
 }

@@ -22,16 +22,17 @@ pub fn buffer(named: Option<u32>, period: u32) -> Result<u32, String> {
 
 /// Whether the tone can be made.
 pub fn tone(options: &Options) -> Result<(), String> {
-    let frames = u64::from(options.seconds) * u64::from(options.rate.hz());
-    let bytes = frames.saturating_mul(options.frame() as u64);
+    let form = options.form();
+    let frames = u64::from(options.seconds) * u64::from(form.rate.hz());
+    let bytes = frames.saturating_mul(form.frame() as u64);
     if bytes <= MOST_TONE {
         return Ok(());
     }
     Err(format!(
         "a tone of {} s at {} Hz with {} channels is {bytes} bytes; at most {MOST_TONE} are made",
         options.seconds,
-        options.rate.hz(),
-        options.channels
+        form.rate.hz(),
+        form.channels
     ))
 }
 

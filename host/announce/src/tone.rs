@@ -1,8 +1,9 @@
 //! The announcement of a console that has no recording: two notes, again and again.
-use snd::Rate;
+use crate::form::Form;
 
 /// Frames of signed 16 bits, the same in each channel.
-pub fn of(seconds: u32, rate: Rate, channels: u8) -> Vec<u8> {
+pub fn of(seconds: u32, form: Form) -> Vec<u8> {
+    let Form { channels, rate, .. } = form;
     let mut frames = Vec::new();
     for frame in 0..u64::from(seconds) * u64::from(rate.hz()) {
         let time = frame as f64 / f64::from(rate.hz());

@@ -1,7 +1,8 @@
 //! What is refused: one sentence, status 2, no page, and nothing written.
 mod common;
 
-use common::{Folder, complains, frames};
+use common::{Folder, complains, frames, wave};
+use snd::{Format, Rate};
 use std::fs::{self, File, OpenOptions};
 use std::os::unix::fs::symlink;
 
@@ -81,6 +82,52 @@ fn sizes_that_cannot_be() {
     );
 }
 
+/// A WAVE file that is not taken: what it is, and what to do.
+#[test]
+fn wave_files() {
+    let folder = Folder::new("wave-files");
+    let good = wave(1, Format::S16, Rate::Hz22050, &frames(1000));
+    let written = |name: &str, at: usize, bytes: &[u8]| {
+        let mut file = good.clone();
+        file[at..at + bytes.len()].copy_from_slice(bytes);
+        folder.write(name, &file);
+    };
+    folder.write("good.wav", &good);
+    folder.write("cut.wav", &good[..1000]);
+    written("extensible.wav", 20, &[0xfe, 0xff]);
+    written("float.wav", 20, &[3, 0]);
+    folder.write("wide.wav", &wave(2, Format::S32, Rate::Hz22050, &frames(1000)));
+    complains(
+        &folder.run("good.wav cut.wav --log log.json"),
+        "cut.wav is no whole WAVE file (13 NotWave): it is cut short, went through a pipe, or a chunk of it lacks bytes or a pad; \
+         sox cut.wav -t wavpcm out.wav may mend it",
+    );
+    assert!(!folder.0.join("log.json").exists());
+    complains(
+        &folder.run("extensible.wav"),
+        "extensible.wav has an extensible header, which the driver does not take (14 BadSound); \
+         sox extensible.wav -t wavpcm out.wav writes the same sound with a plain one",
+    );
+    complains(
+        &folder.run("float.wav"),
+        "float.wav has a sound that the driver does not take (14 BadSound): it takes PCM of 8, 16, 24 or 32 bits at \
+         5512, 8000, 11025, 16000, 22050, 32000, 44100, 48000, 64000, 88200, 96000, 176400, 192000, 384000 Hz; \
+         sox float.wav -b 16 -r 48000 -t wavpcm out.wav writes such a file",
+    );
+    for option in ["--rate", "--channels"] {
+        complains(
+            &folder.run(&format!("good.wav {option} 8000").replace("--channels 8000", "--channels 1")),
+            &format!("good.wav says its own rate, channels and format: leave {option} out"),
+        );
+    }
+    complains(
+        &folder.run("good.wav wide.wav --wav out.wav"),
+        "--wav writes one file, and the announcements have frames of two forms: \
+         good.wav has 1 channel, S16, 22050 Hz, and wide.wav has 2 channels, S32, 22050 Hz",
+    );
+    assert!(!folder.0.join("out.wav").exists());
+}
+
 /// A folder with a recording, other names for it, and links to files that are not there.
 fn with_links(name: &str) -> Folder {
     let folder = Folder::new(name);
@@ -106,7 +153,7 @@ fn no_input_is_overwritten() {
         "link",
         "twin",
     ];
-    for output in ["--accepted", "--log", "--picture"] {
+    for output in ["--accepted", "--wav", "--log", "--picture"] {
         for path in spelled {
             let said = folder.run(&format!("--seconds 0 feeder.raw {output} {path}"));
             complains(&said, &format!("{output} {path} would overwrite the input feeder.raw"));

@@ -45,6 +45,20 @@ fn a_good_run() {
     periods_in_order(announcement.at("periods").list(), &[4096, 4096, 1808]);
 }
 
+#[test]
+fn a_wave_file() {
+    let folder = Folder::new("log-wav");
+    let file = common::wave(1, snd::Format::S24In3, snd::Rate::Hz22050, &frames(9_999));
+    folder.write("feeder.wav", &file);
+    let log = log(&folder, "feeder.wav");
+    let announcement = &log.at("announcements").list()[0];
+    assert_eq!(numbers(announcement.at("wave"), ["bytes", "offset"]), [10_044, 44]);
+    assert_eq!(announcement.at("bytes").number(), 9_999);
+    let parameters = announcement.at("parameters");
+    assert_eq!(numbers(parameters, ["channels", "rate"]), [1, 22_050]);
+    assert_eq!(parameters.at("format").text(), "S24_3");
+}
+
 /// Each is submitted in its own turn, and completed in the same.
 fn periods_in_order(periods: &[Json], lengths: &[u64]) {
     assert_eq!(periods.len(), lengths.len());

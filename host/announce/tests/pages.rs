@@ -1,7 +1,8 @@
 //! The pages, as a newcomer sees them: each run is compared with a stored text, what differs from run to run and from build to build masked.
 mod common;
 
-use common::{Folder, frames, stored};
+use common::{Folder, frames, stored, wave};
+use snd::{Format, Rate};
 use std::process::Output;
 
 /// The page with its times, its date and what it was built with blotted out.
@@ -175,6 +176,76 @@ fn a_file_of_frames_is_accepted_byte_for_byte() {
     let output = folder.run("feeder.raw --accepted accepted.raw --fail-at 2");
     held(&output, "file-cut-short", 1);
     assert_eq!(folder.read("accepted.raw"), frames[..4096]);
+}
+
+/// The sentence comes from a desk computer; what the device accepted goes back to one, the same file.
+#[test]
+fn a_wave_file_says_its_own_parameters() {
+    let folder = Folder::new("wav");
+    let file = wave(1, Format::S16, Rate::Hz22050, &frames(10_000));
+    folder.write("feeder.wav", &file);
+    let output = folder.run("feeder.wav --accepted accepted.raw --wav accepted.wav");
+    held(&output, "wav", 0);
+    assert_eq!(folder.read("accepted.raw"), frames(10_000));
+    assert_eq!(folder.read("accepted.wav"), file);
+    // its name does not matter, and standard input is read likewise
+    folder.write("feeder.raw", &file);
+    let renamed = masked(&folder.run("feeder.raw")).replace("feeder.raw", "feeder.wav");
+    stored("pages/wav", &renamed);
+    let input = masked(&folder.run_with("-", &file)).replace("standard input", "feeder.wav");
+    stored("pages/wav", &input);
+}
+
+/// 24 bits in three bytes, five channels: periods cut frames, which is told; the file written has whole frames.
+#[test]
+fn a_wave_file_of_frames_that_periods_cut() {
+    let folder = Folder::new("wav-24");
+    let all = frames(15 * 1000);
+    folder.write("feeder.wav", &wave(5, Format::S24In3, Rate::Hz96000, &all));
+    held(&folder.run("feeder.wav --fail-at 2 --wav accepted.wav"), "wav-24", 1);
+    let whole = &all[..4096 / 15 * 15];
+    assert_eq!(
+        folder.read("accepted.wav"),
+        wave(5, Format::S24In3, Rate::Hz96000, whole)
+    );
+}
+
+/// A list behind the frames, an odd number of bytes, 8 bits; then the last frame of two channels cut.
+#[test]
+fn wave_files_of_odd_lengths() {
+    let folder = Folder::new("wav-8");
+    let mut file = wave(1, Format::U8, Rate::Hz5512, &frames(5001));
+    file.extend(b"LIST\x04\0\0\0text");
+    let size = file.len() as u32 - 8;
+    file[4..8].copy_from_slice(&size.to_le_bytes());
+    folder.write("feeder.wav", &file);
+    held(&folder.run("feeder.wav"), "wav-8", 0);
+    file[22] = 2;
+    file[32] = 2;
+    folder.write("feeder.wav", &file);
+    held(&folder.run("feeder.wav --wav accepted.wav"), "wav-part-frame", 0);
+    assert_eq!(
+        folder.read("accepted.wav"),
+        wave(2, Format::U8, Rate::Hz5512, &frames(5000))
+    );
+}
+
+/// Each file says its own; the device has as many channels as the widest needs.
+#[test]
+fn several_wave_files_on_one_device() {
+    let folder = Folder::new("wav-several");
+    folder.write("one.wav", &wave(1, Format::S16, Rate::Hz16000, &frames(6_000)));
+    folder.write("two.wav", &wave(6, Format::S32, Rate::Hz192000, &frames(24 * 300)));
+    folder.write("three.raw", &frames(5_000));
+    held(&folder.run("one.wav two.wav three.raw"), "wav-several", 0);
+    // of one form they go into one file
+    let output = folder.run("one.wav one.wav --wav accepted.wav");
+    assert_eq!(output.status.code(), Some(0));
+    let twice = [frames(6_000), frames(6_000)].concat();
+    assert_eq!(folder.read("accepted.wav"), wave(1, Format::S16, Rate::Hz16000, &twice));
+    // a tone can be played too
+    assert_eq!(folder.run("--seconds 0 --wav tone.wav").status.code(), Some(0));
+    assert_eq!(folder.read("tone.wav"), wave(2, Format::S16, Rate::Hz48000, b""));
 }
 
 #[test]

@@ -3,7 +3,7 @@
 #![no_std]
 use snd::{
     Features, Format, Formats, Model, Page, Params, Rate, Rates, Reading, Refusal, Ring, Sound, Started, Step,
-    StreamList, Unfed, Value, latest_notification,
+    StreamList, Unfed, Value, latest_notification, wav,
 };
 
 unsafe extern "C" {
@@ -30,9 +30,11 @@ pub struct Console {
 /// What comes of it; the sum keeps the compiler from leaving a call out.
 #[unsafe(no_mangle)]
 pub extern "C" fn guest_main(console: &mut Console) -> u64 {
-    [calls, supported, feeds, lists, turns, transfer, reads, device, values]
-        .iter()
-        .fold(0, |sum, part| part(console).wrapping_add(sum))
+    [
+        calls, supported, feeds, lists, turns, transfer, reads, device, waves, values,
+    ]
+    .iter()
+    .fold(0, |sum, part| part(console).wrapping_add(sum))
 }
 
 fn sum(bytes: &[u8]) -> u64 {
@@ -211,6 +213,23 @@ fn device(console: &mut Console) -> u64 {
         .map_or(0, |set| set.map_or(0, |set| u64::from(set[23])));
     let event = latest_notification(request).map_or(0, |event| event.map_or(0, |event| event.data.into()));
     control ^ status ^ payload ^ params ^ event ^ model.played(*number).unwrap_or(0)
+}
+
+fn waves(console: &mut Console) -> u64 {
+    let Console {
+        number, bytes, length, ..
+    } = console;
+    let format = Format::from_number(*number as u8).unwrap_or(Format::S16);
+    let rate = Rate::from_number(*number as u8).unwrap_or(Rate::Hz48000);
+    let wave = wav::Wave {
+        channels: *number as u8,
+        format,
+        rate,
+        frames: bytes.get(..*length).unwrap_or_default(),
+    };
+    let mut file = [0; 128];
+    let written = wav::write(&wave, &mut file).map_or_else(|refusal| refusal.number().into(), |length| length as u64);
+    wav::read(&file).map_or(written, |read| written ^ sum(read.frames) ^ u64::from(read.channels))
 }
 
 fn values(console: &mut Console) -> u64 {

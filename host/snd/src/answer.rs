@@ -109,6 +109,10 @@ table! {
     /// Under the guard ([`crate::Sound::new_guarded`]): the stream's last ok command does not permit this. A stream is started after it was
     /// prepared, prepared or set after it was released, and plays while it is prepared or started. Nothing was sent.
     BadState = 12,
+    /// No RIFF WAVE file: its tags, the order of its chunks or a size is at fault ([`crate::wav::read`]).
+    NotWave = 13,
+    /// A WAVE file's format, rate, channels or block size is not taken; to write one, the frames too ([`crate::wav`]).
+    BadSound = 14,
 }
 
 impl Answer {
@@ -192,7 +196,7 @@ mod tests {
 
     #[test]
     fn a_number_outside_the_table_is_unknown() {
-        for number in [13, 255, 514, u64::MAX] {
+        for number in [15, 255, 514, u64::MAX] {
             assert_eq!(Said::of(number), Said::Refused(Refusal::Unknown));
         }
         assert_eq!(Said::done(512), Err(Refusal::Unknown));

@@ -132,6 +132,11 @@ entries! {
     /// What an event says.
     fn snd_latest_notification(event: &[u8], result: &mut [u8],);
 
+    /// What a WAVE file holds, and where.
+    fn snd_wav_read(file: &[u8], result: &mut [u8],);
+    /// Writes a WAVE file.
+    fn snd_wav_write(channels: u8, format: u8, rate: u8, frames: &[u8], file: &mut [u8],);
+
     /// Fills a store with a model device.
     fn snd_model_new(model: &mut [u8], jacks: &[u8], pcms: &[u8], maps: &[u8],);
     /// The model's answer to a control request.

@@ -31,6 +31,8 @@
 //! Where a stream must not be started unprepared, make the state by [`Sound::new_guarded`]: it sends no command, and takes no transfer, that the
 //! standard's lifecycle of a stream does not permit.
 //!
+//! Announcements that were recorded on a desk computer come as WAVE files: see [`wav`].
+//!
 //! A transfer goes turn by turn, and keeps its frames until no device reads them: see [`Transfer`].
 //!
 //! With the feature `alloc` frames may be a `Vec<u8>` or a `Box<[u8]>`; else the crate needs no allocator.
@@ -64,6 +66,7 @@ mod sound;
 mod step;
 mod supported;
 mod transfer;
+pub mod wav;
 
 pub use answer::{Answer, Refusal};
 pub use event::{Event, EventKind, latest_notification};

@@ -264,6 +264,19 @@ fn short_11() {
     }
 }
 
+/// Each way to them: tests/wav.rs.
+#[test]
+fn not_wave_13_and_bad_sound_14() {
+    let mut lent = common::lent::Lent::good();
+    assert!(snd::wav::read(&lent.file).is_ok());
+    lent.file[20] = 3;
+    assert_eq!(snd::wav::read(&lent.file), Err(Refusal::BadSound));
+    lent.file[0] = b'r';
+    assert_eq!(snd::wav::read(&lent.file), Err(Refusal::NotWave));
+    lent.narrow[1] = 6;
+    assert_eq!((common::entries::entry("snd_wav_write").call)(&mut lent), 14);
+}
+
 #[test]
 fn bad_state_12() {
     // each call that a stream's state may bar; tests/lifecycle.rs has every state
@@ -298,20 +311,22 @@ fn a_model_with_too_many_records_is_refused() {
 #[test]
 fn answers_have_the_documents_numbers() {
     let names = [
-        "InvalidParam",
-        "IoError",
-        "Unsupported",
-        "NoInfo",
-        "TooMany",
-        "WrongToken",
-        "QueueFailed",
-        "Busy",
-        "OutOfTurns",
-        "BadLength",
-        "Short",
-        "BadState",
+        (1, "InvalidParam"),
+        (2, "IoError"),
+        (3, "Unsupported"),
+        (4, "NoInfo"),
+        (5, "TooMany"),
+        (6, "WrongToken"),
+        (7, "QueueFailed"),
+        (8, "Busy"),
+        (9, "OutOfTurns"),
+        (10, "BadLength"),
+        (11, "Short"),
+        (12, "BadState"),
+        (13, "NotWave"),
+        (14, "BadSound"),
     ];
-    for (number, name) in (1..).zip(names) {
+    for (number, name) in names {
         let refusal = Refusal::from_number(number);
         assert_eq!((refusal.number(), refusal.name()), (number, name));
         let answer = snd::Answer::from(refusal);
@@ -321,5 +336,5 @@ fn answers_have_the_documents_numbers() {
         );
     }
     assert_eq!((snd::Answer::Ok.number(), snd::Answer::Ok.name()), (0, "Ok"));
-    assert_eq!(Refusal::from_number(13), Refusal::Unknown);
+    assert_eq!(Refusal::from_number(15), Refusal::Unknown);
 }

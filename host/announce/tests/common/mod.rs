@@ -69,6 +69,19 @@ pub fn frames(bytes: u32) -> Vec<u8> {
     (0..bytes).map(|n| ((n * n) >> 5) as u8).collect()
 }
 
+/// A WAVE file of these frames.
+pub fn wave(channels: u8, format: snd::Format, rate: snd::Rate, frames: &[u8]) -> Vec<u8> {
+    let mut file = vec![0; snd::wav::file_len(frames.len())];
+    let wave = snd::wav::Wave {
+        channels,
+        format,
+        rate,
+        frames,
+    };
+    snd::wav::write(&wave, &mut file).unwrap();
+    file
+}
+
 /// Holds a text to the stored one. With STORE_TEXTS set it is stored anew: read the difference before you keep it.
 pub fn stored(name: &str, text: &str) {
     let file = Path::new(env!("CARGO_MANIFEST_DIR")).join("tests").join(name);

@@ -16,7 +16,7 @@ macro_rules! entries {
     };
 }
 
-/// The 45 entries, in the header's order.
+/// The 47 entries, in the header's order.
 pub const ENTRIES: &[Entry] = entries! {
     snd_state_size [] |_l| ();
     snd_ring_size [] |_l| ();
@@ -62,6 +62,8 @@ pub const ENTRIES: &[Entry] = entries! {
     snd_ring_carried [Ring Result] |l| (&l.ring, l.numbers[0] as usize, &mut l.result);
     snd_ring_oldest [Ring Result] |l| (&l.ring, &mut l.result);
     snd_latest_notification [Result] |l| (&l.event, &mut l.result);
+    snd_wav_read [Result] |l| (&l.file, &mut l.result);
+    snd_wav_write [File] |l| (l.narrow[0], l.narrow[1], l.narrow[2], &l.samples, &mut l.file);
     snd_model_new [Model Jacks Pcms Maps] |l| (&mut l.model, &l.jacks, &l.pcms, &l.maps);
     snd_model_control [Model Page Result] |l| (&mut l.model, &l.request, &mut l.page, &mut l.result);
     snd_model_transfer [Model Answer] |l| (&mut l.model, &l.request, &mut l.answer);

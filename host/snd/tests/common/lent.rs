@@ -18,6 +18,9 @@ pub struct Lent {
     pub request: Vec<u8>,
     pub answer: Vec<u8>,
     pub event: Vec<u8>,
+    /// A WAVE file of [`Lent::samples`], as `narrow` has them.
+    pub file: Vec<u8>,
+    pub samples: Vec<u8>,
     pub jacks: Vec<u8>,
     pub pcms: Vec<u8>,
     pub maps: Vec<u8>,
@@ -38,6 +41,7 @@ pub enum Part {
     Model,
     Frames,
     Answer,
+    File,
     Jacks,
     Pcms,
     Maps,
@@ -101,6 +105,8 @@ impl Lent {
             request: vec![2, 1, 0, 0, 0, 0, 0, 0],
             answer: vec![0xa3; 8],
             event: vec![0, 16, 0, 0, 1, 0, 0, 0],
+            file: file(b"two frames, and one more"),
+            samples: b"the same, in other words".to_vec(),
             jacks: vec![0; 2 * 24],
             pcms: vec![0; 2 * 32],
             maps: vec![0; 24],
@@ -121,9 +127,17 @@ impl Lent {
             Part::Model => &mut self.model,
             Part::Frames => &mut self.frames,
             Part::Answer => &mut self.answer,
+            Part::File => &mut self.file,
             Part::Jacks => &mut self.jacks,
             Part::Pcms => &mut self.pcms,
             Part::Maps => &mut self.maps,
         }
     }
+}
+
+/// A file of two channels, S16, 48000 Hz.
+fn file(frames: &[u8]) -> Vec<u8> {
+    let mut file = vec![0; snd::wav::file_len(frames.len())];
+    assert_eq!(ffi::snd_wav_write(2, 5, 7, frames, &mut file), 0);
+    file
 }
