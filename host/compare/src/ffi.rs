@@ -218,6 +218,16 @@ unsafe extern "C" {
     pub fn snd_ring_carried(ring: *const u8, ring_len: usize, slot: usize, result: *mut u8, result_len: usize) -> u64;
     pub fn snd_ring_oldest(ring: *const u8, ring_len: usize, result: *mut u8, result_len: usize) -> u64;
     pub fn snd_latest_notification(event: *const u8, event_len: usize, result: *mut u8, result_len: usize) -> u64;
+    pub fn snd_wav_read(file: *const u8, file_len: usize, result: *mut u8, result_len: usize) -> u64;
+    pub fn snd_wav_write(
+        channels: u8,
+        format: u8,
+        rate: u8,
+        frames: *const u8,
+        frames_len: usize,
+        file: *mut u8,
+        file_len: usize,
+    ) -> u64;
     pub fn snd_model_new(
         model: *mut u8,
         model_len: usize,

@@ -18,6 +18,7 @@ pub mod short;
 pub mod shown;
 pub mod stages;
 pub mod text;
+pub mod waves;
 
 // it links the port's archive
 use snd as _;

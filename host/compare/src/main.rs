@@ -7,6 +7,7 @@ use compare::entries::Entries;
 use compare::plain::Plain;
 use compare::port::Port;
 use compare::run::{Counts, With, report, run};
+use compare::waves::{self, Kinds};
 use compare::{guarded, raw, record, rust, short, shown, stages};
 use options::{Options, Run, Seeds, USAGE, options};
 use std::process::exit;
@@ -17,6 +18,9 @@ const CASES: Seeds = 1..=60_000;
 const STRICT: Seeds = 1..=10_000;
 const GUARD: Seeds = 1..=10_000;
 const ENTRIES: Seeds = 1..=8_000;
+const WAVES: Seeds = 1..=200_000;
+/// From so many files on every kind of fault must have been seen.
+const ENOUGH: u64 = 10_000;
 /// Entries in one sequence.
 const LENGTH: usize = 60;
 const RECORDED: &str = concat!(env!("CARGO_MANIFEST_DIR"), "/recorded.txt");
@@ -39,11 +43,12 @@ fn main() {
         Run::Case(case) => finish(one(&case, with)),
         Run::Short => finish(short_cases(with)),
         Run::Differences => finish(shown::print() == 0),
-        Run::Random { cases, strict, guard, entries } => {
+        Run::Random { cases, strict, guard, entries, waves } => {
             let agreed = cases.is_none_or(|seeds| random_cases(with, seeds));
             let agreed = agreed && strict.is_none_or(|seeds| strict_cases(with, seeds));
             let agreed = agreed && guard.is_none_or(|seeds| guarded_cases(with, seeds));
-            finish(agreed && entries.is_none_or(random_entries))
+            let agreed = agreed && entries.is_none_or(random_entries);
+            finish(agreed && waves.is_none_or(|seeds| random_waves(seeds) && large_waves()))
         }
         Run::Gate { short } => finish(gate(with, short)),
     }
@@ -64,8 +69,9 @@ fn gate(with: With, short: bool) -> bool {
     let short = !short || short_cases(with);
     let random = random_cases(with, CASES) && strict_cases(with, STRICT) && guarded_cases(with, GUARD);
     let entries = !with.port || entries_by_stage() && random_entries(ENTRIES);
+    let waves = !with.port || random_waves(WAVES) && large_waves();
     let recorded = !with.port || replay(RECORDED);
-    short && random && entries && recorded
+    short && random && entries && waves && recorded
 }
 
 fn told(name: &str, counts: &Counts, since: Instant) {
@@ -173,6 +179,39 @@ fn random_entries(seeds: Seeds) -> bool {
     );
     println!("  {:.1} s", since.elapsed().as_secs_f64());
     true
+}
+
+fn random_waves(seeds: Seeds) -> bool {
+    let (since, mut kinds, first) = (Instant::now(), Kinds::default(), *seeds.start());
+    let count = (seeds.end() - first).saturating_add(1);
+    for seed in seeds {
+        if let Err(text) = waves::tried(seed, &mut kinds) {
+            println!("DIFFERENCE\n{text}\nrepeat with --wav 1 --seed {seed}");
+            return false;
+        }
+    }
+    println!("WAVE files from seed {first}: {count} read, {count} written");
+    println!("  {:?}", kinds.0);
+    println!("  {:.1} s", since.elapsed().as_secs_f64());
+    let missing = kinds.missing();
+    let enough = count < ENOUGH || missing.is_empty();
+    if !enough {
+        println!("never seen: {missing:?}");
+    }
+    enough
+}
+
+/// A file of 64 MiB, and sizes around 2^32.
+fn large_waves() -> bool {
+    let since = Instant::now();
+    let tried = waves::large().and_then(|count| Ok((count, waves::huge()?)));
+    match &tried {
+        Ok((count, Some(more))) => println!("large WAVE files: {count} of 64 MiB, {more} of about 4 GiB"),
+        Ok((count, None)) => println!("large WAVE files: {count} of 64 MiB; there is no room for 4 GiB"),
+        Err(text) => println!("DIFFERENCE\n{text}"),
+    }
+    println!("  {:.1} s", since.elapsed().as_secs_f64());
+    tried.is_ok()
 }
 
 fn write(file: &str) {

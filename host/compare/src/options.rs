@@ -5,12 +5,13 @@ use compare::text;
 use std::ops::RangeInclusive;
 
 pub const USAGE: &str = "\
-compare                      short cases, random cases, single entries, the recorded list (the gate)
+compare                      short cases, random cases, single entries, WAVE files, the recorded list (the gate)
 compare --cases N --seed S   N random cases from seed S; case i has seed S + i, so that `--cases 1 --seed S+i` repeats it
 compare --strict N --seed S  the same in strict mode
 compare --guard N --seed S   the same under the guard
 compare --short              the short cases alone
 compare --entries N --seed S N sequences of single entries, the port against the rules
+compare --wav N --seed S     N random WAVE files read and N written, and large ones, the port against the rules
 compare --case TEXT          one case (src/text.rs)
 compare --record FILE        writes the recorded list; --check FILE fails where it would be another; --replay FILE holds the port to it
 compare --differences        the smallest input of each intended difference, run
@@ -22,12 +23,13 @@ pub enum Run {
         short: bool,
     },
     Short,
-    /// random cases, those of strict mode, those under the guard, and sequences of entries, by their seeds
+    /// random cases, those of strict mode, those under the guard, sequences of entries, and WAVE files, by their seeds
     Random {
         cases: Option<Seeds>,
         strict: Option<Seeds>,
         guard: Option<Seeds>,
         entries: Option<Seeds>,
+        waves: Option<Seeds>,
     },
     Case(Case),
     Record(String),
@@ -44,10 +46,10 @@ pub struct Options {
 }
 
 const WORDS: [&str; 5] = ["--short", "--differences", "--no-port", "--no-rust", "--no-short"];
-const WITH_VALUE: [&str; 9] =
-    ["--cases", "--strict", "--guard", "--entries", "--seed", "--case", "--record", "--check", "--replay"];
+const WITH_VALUE: [&str; 10] =
+    ["--cases", "--strict", "--guard", "--entries", "--wav", "--seed", "--case", "--record", "--check", "--replay"];
 /// These go together; of all others one at a time.
-const SEEDED: [&str; 4] = ["--cases", "--strict", "--guard", "--entries"];
+const SEEDED: [&str; 5] = ["--cases", "--strict", "--guard", "--entries", "--wav"];
 const OTHERS: [&str; 6] = ["--short", "--differences", "--case", "--record", "--check", "--replay"];
 
 /// The options given, each with its value, if it takes one.
@@ -100,7 +102,7 @@ impl Given {
         let runs: Vec<&str> = OTHERS.into_iter().chain(SEEDED).filter(|name| self.has(name)).collect();
         let file = |name| self.value(name).unwrap_or_default().to_string();
         if self.has("--seed") && !SEEDED.iter().any(|name| self.has(name)) {
-            return Err("--seed goes with --cases, --strict, --guard or --entries".into());
+            return Err("--seed goes with --cases, --strict, --guard, --entries or --wav".into());
         }
         Ok(match runs[..] {
             [] => Run::Gate { short: !self.has("--no-short") },
@@ -115,6 +117,7 @@ impl Given {
                 strict: self.seeds("--strict")?,
                 guard: self.seeds("--guard")?,
                 entries: self.seeds("--entries")?,
+                waves: self.seeds("--wav")?,
             },
             _ => return Err(format!("{}: one of these at a time", runs.join(", "))),
         })
@@ -129,7 +132,7 @@ pub fn options(args: impl IntoIterator<Item = String>, rust_at_hand: bool) -> Re
     let nothing = match &run {
         _ if given.has("--no-rust") && given.has("--no-port") => "--no-rust and --no-port leave nothing to compare",
         Run::Short if given.has("--no-short") => "--short and --no-short leave no case",
-        Run::Random { entries: Some(_), .. } | Run::Replay(_) if !with.port => {
+        Run::Random { entries: Some(_), .. } | Run::Random { waves: Some(_), .. } | Run::Replay(_) if !with.port => {
             "--no-port leaves nothing of this to run"
         }
         Run::Case(case) if case.steps.is_empty() => "the case has no step",

@@ -1,6 +1,6 @@
 //! The comparison in small, for `cargo test`; the gate's run is the program's own.
 use compare::run::{Counts, With, report, run};
-use compare::{guarded, judge::Intended, random, raw, record, rust, short, shown, stages, text};
+use compare::{guarded, judge::Intended, random, raw, record, rust, short, shown, stages, text, waves};
 
 const WITH: With = With { rust: oracle::AT_HAND, port: true };
 
@@ -44,6 +44,16 @@ fn entries_agree() {
         assert!(raw::sequence(seed, 60).is_ok(), "compare --entries 1 --seed {seed}");
         assert!(raw::damaged(seed, 60).is_ok(), "compare --entries 1 --seed {seed}");
     }
+}
+
+#[test]
+fn waves_agree() {
+    let mut kinds = waves::Kinds::default();
+    for seed in 0..10_000 {
+        let tried = waves::tried(seed, &mut kinds);
+        assert_eq!(tried.err(), None, "compare --wav 1 --seed {seed}");
+    }
+    assert_eq!(kinds.missing(), []);
 }
 
 #[test]

@@ -195,6 +195,20 @@ pub fn notification(event: &[u8], result: &mut [u8]) -> Answer {
     }
 }
 
+/// The lent slice of a file is of any length; that of the result comes first. Result: offset 8, length 8, channels 1, format 1, rate 1.
+pub fn wav_read(file: &[u8], result: &mut [u8]) -> Answer {
+    lengths(result.len() >= RESULT_SIZE)?;
+    let wave = wave::read(file).map_err(|fault| fault.number() as u64)?;
+    put(result, &[wave.offset as u64, wave.length as u64]);
+    result[16..19].copy_from_slice(&[wave.channels, wave.format, wave.rate]);
+    Ok(OK as u64)
+}
+
+pub fn wav_write(channels: u8, format: u8, rate: u8, frames: &[u8], file: &mut [u8]) -> Answer {
+    wave::write(channels, format, rate, frames, file).map_err(|why| why.number() as u64)?;
+    Ok(OK as u64)
+}
+
 pub fn model_control(model: Store<&mut Model>, request: &[u8], page: &mut [u8], result: &mut [u8]) -> Answer {
     let lent = page.len() == PAGE && result.len() >= RESULT_SIZE;
     lengths(model.len >= MODEL_SIZE && lent)?;

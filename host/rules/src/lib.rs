@@ -1,7 +1,7 @@
 //! Document 01, read a second time: plain Rust, written from the paper (and from the decisions on what
 //! it leaves open) and from nothing else. The port and the Rust driver are both held to it by `compare`.
 //! Of document 02 these requests are read here too: 2026-01, feeds that carry the length the device wrote; 2026-02, the guard
-//! over a stream's lifecycle.
+//! over a stream's lifecycle; 2026-03, announcements from WAV.
 //!
 //! Clarity before speed: tables are vectors, refusals are numbers.
 
@@ -11,6 +11,7 @@ pub mod life;
 pub mod model;
 pub mod ring;
 pub mod sound;
+pub mod wave;
 pub mod wire;
 
 /// The answers' numbers.
@@ -29,6 +30,9 @@ pub const BAD_LENGTH: u8 = 10;
 pub const SHORT: u8 = 11;
 /// Under the guard only: the stream's state does not permit it.
 pub const BAD_STATE: u8 = 12;
+/// Of WAVE files only: their structure, then their sound.
+pub const NOT_WAVE: u8 = 13;
+pub const BAD_SOUND: u8 = 14;
 
 /// The answer page.
 pub const PAGE: usize = 4096;
