@@ -1,8 +1,10 @@
-//! The audio loop and the strict feed of docs/HOST.md run, and the page shows the texts that ran.
+//! The audio loop, the strict feed and the announcement from a file of docs/HOST.md run, and the page shows the texts that ran.
 #[path = "../examples/audio_loop.rs"]
 mod audio_loop;
 #[path = "../examples/strict_mode.rs"]
 mod strict_mode;
+#[path = "../examples/wave_file.rs"]
+mod wave_file;
 
 #[test]
 fn the_audio_loop_speaks() {
@@ -15,11 +17,17 @@ fn the_strict_feed_believes_what_was_written() {
 }
 
 #[test]
+fn a_file_says_what_a_stream_is_set_to() {
+    assert_eq!(wave_file::main(), Ok(()));
+}
+
+#[test]
 fn the_page_shows_the_texts_that_ran() {
     let page = include_str!("../../../docs/HOST.md");
     let texts = [
         include_str!("../examples/audio_loop.rs"),
         include_str!("../examples/strict_mode.rs"),
+        include_str!("../examples/wave_file.rs"),
     ];
     let blocks: Vec<_> = page.split("```").skip(1).step_by(2).collect();
     assert_eq!(blocks.len(), texts.len());
