@@ -2,8 +2,9 @@
 -- Assumes nothing.
 use mathlib.Core.Path.{_≡_, sym, ap, _∙_}
 use mathlib.Core.List.{List, [], _∷_}
-use Prim.Native.Nat.{ℕ, _<_, _^_}
-use native.Mathlib.Nat.{one-le-pow}
+use Prim.Native.Nat.{ℕ, _<_, _*_, _%_, _^_}
+use native.Mathlib.Nat.{one-le-pow, one-mul, mod-eq-of-lt}
+use lib.Pow.{pow-lt}
 use lib.Dec.{lit<, ltb}
 use lib.ListN.{getD}
 use Rattle.codes.specs.Says.{says}
@@ -23,3 +24,7 @@ bit-taken k n v b e p =
 -- the number was refused: so is its bit
 pub bit-refused : (k n : ℕ) → says 1 [] ≡ numberSays k n n → says 1 [] ≡ numberSays k n (2 ^ n)
 bit-refused k n e = sym (skips _ _ _ (refused (ltb n k) 0 (n ∷ []) e))
+
+-- one shift: nothing is shifted out
+pub shifted : (n : ℕ) → n < 64 → (1 * 2 ^ n) % 2 ^ 64 ≡ 2 ^ n
+shifted n h = ap (λ (x : ℕ). x % 2 ^ 64) (one-mul (2 ^ n)) ∙ mod-eq-of-lt (pow-lt h)

@@ -6,7 +6,6 @@ ghost use Rattle.codes.specs.Codes.{numberSays};
 ghost use Rattle.codes.specs.Formats.{formatNumber};
 ghost use Rattle.codes.specs.Rates.{rateNumber};
 ghost use Rattle.codes.specs.Flags.{hasBit, remapFeature, featureNumber, saysBit};
-use crate::formats::FoundFormat;
 use crate::formats::PcmFormat;
 use crate::rates::FoundRate;
 use crate::rates::PcmRate;
@@ -172,94 +171,19 @@ impl PcmFormats {
     pub fn from_format(format: PcmFormat) -> PcmFormats
         ensures { λ r. ⌜ r .bits ≡ 2 ^ formatNumber format ⌝ }
     {
-        match format {
-            PcmFormat::ImaAdpcm => PcmFormats {
-                bits: PcmFormats::IMA_ADPCM,
-            },
-            PcmFormat::MuLaw => PcmFormats {
-                bits: PcmFormats::MU_LAW,
-            },
-            PcmFormat::ALaw => PcmFormats {
-                bits: PcmFormats::A_LAW,
-            },
-            PcmFormat::S8 => PcmFormats {
-                bits: PcmFormats::S8,
-            },
-            PcmFormat::U8 => PcmFormats {
-                bits: PcmFormats::U8,
-            },
-            PcmFormat::S16 => PcmFormats {
-                bits: PcmFormats::S16,
-            },
-            PcmFormat::U16 => PcmFormats {
-                bits: PcmFormats::U16,
-            },
-            PcmFormat::S18_3 => PcmFormats {
-                bits: PcmFormats::S18_3,
-            },
-            PcmFormat::U18_3 => PcmFormats {
-                bits: PcmFormats::U18_3,
-            },
-            PcmFormat::S20_3 => PcmFormats {
-                bits: PcmFormats::S20_3,
-            },
-            PcmFormat::U20_3 => PcmFormats {
-                bits: PcmFormats::U20_3,
-            },
-            PcmFormat::S24_3 => PcmFormats {
-                bits: PcmFormats::S24_3,
-            },
-            PcmFormat::U24_3 => PcmFormats {
-                bits: PcmFormats::U24_3,
-            },
-            PcmFormat::S20 => PcmFormats {
-                bits: PcmFormats::S20,
-            },
-            PcmFormat::U20 => PcmFormats {
-                bits: PcmFormats::U20,
-            },
-            PcmFormat::S24 => PcmFormats {
-                bits: PcmFormats::S24,
-            },
-            PcmFormat::U24 => PcmFormats {
-                bits: PcmFormats::U24,
-            },
-            PcmFormat::S32 => PcmFormats {
-                bits: PcmFormats::S32,
-            },
-            PcmFormat::U32 => PcmFormats {
-                bits: PcmFormats::U32,
-            },
-            PcmFormat::FLOAT => PcmFormats {
-                bits: PcmFormats::FLOAT,
-            },
-            PcmFormat::FLOAT64 => PcmFormats {
-                bits: PcmFormats::FLOAT64,
-            },
-            PcmFormat::DsdU8 => PcmFormats {
-                bits: PcmFormats::DSD_U8,
-            },
-            PcmFormat::DsdU16 => PcmFormats {
-                bits: PcmFormats::DSD_U16,
-            },
-            PcmFormat::DsdU32 => PcmFormats {
-                bits: PcmFormats::DSD_U32,
-            },
-            PcmFormat::Iec958Subframe => PcmFormats {
-                bits: PcmFormats::IEC958_SUBFRAME,
-            },
-        }
+        let n = format.number();
+        PcmFormats { bits: 1u64 << n }
     }
 
     // The mask bit of a format number.
     pub fn from_number(n: u8) -> FoundBit
         ensures { λ r. ⌜ saysBit r ≡ numberSays 25 n (2 ^ n) ⌝ }
     {
-        let FoundFormat::Is(format) = PcmFormat::from_number(n) else {
-            return FoundBit::InvalidParam;
-        };
-        let mask = PcmFormats::from_format(format);
-        FoundBit::Is(mask.bits)
+        if n < 25 {
+            FoundBit::Is(1u64 << n)
+        } else {
+            FoundBit::InvalidParam
+        }
     }
 
     pub fn contains(self, format: PcmFormat) -> bool

@@ -1,45 +1,23 @@
--- `codes::flags::PcmFormats::from_format` meets its contract: each arm by the case that led there. Assumes nothing.
-use mathlib.Core.Path.{_≡_, sym, ap}
-use Prim.Native.Nat.{_^_}
-use Rattle.codes.specs.Formats.{formatNumber}
-use Rattle.codes.specs.declared.formats.PcmFormat.{PcmFormat}
+-- `codes::flags::PcmFormats::from_format` meets its contract: one shift, by a number below 25. Assumes nothing.
+use mathlib.Core.Path.{_≡_, ap, _∙_}
+use Prim.Native.Nat.{ℕ, _<_, _^_}
+use native.Mathlib.Omega.{arith}
 use borrow.Author.Needs.{needs}
+use Rattle.codes.specs.Formats.{formatNumber}
+use Rattle.codes.specs.FormatsLaws.{format-below}
+use Rattle.codes.specs.FlagsLaws.{shifted}
 use Rattle.codes.proofs.flags.PcmFormats.from_format.Statement.{statement}
 use Rattle.codes.proofs.flags.PcmFormats.from_format.Tie as tie
 
-arm : {f g : PcmFormat} → f ≡ g → 2 ^ formatNumber g ≡ 2 ^ formatNumber f
-arm e = sym (ap (λ (f : PcmFormat). 2 ^ formatNumber f) e)
+shl-t4 : tie.Need-shl-t4
+shl-t4 c = omega (arith, format-below (c .before .args .format), c .number .ensures)
+
+returns : tie.Need-returns
+returns c =
+    let f = c .before .args .format in
+    let e : c .number .result ≡ formatNumber f = c .number .ensures in
+    let h : c .number .result < 64 = omega (arith, format-below f) in
+    shifted (c .number .result) h ∙ ap (λ (n : ℕ). 2 ^ n) e
 
 pub from-format-spec : {M : Type 1} → statement M
-from-format-spec =
-    tie.close
-    (tie.spec
-    (λ c. search needs) (λ c. search needs) (λ c. search needs) (λ c. search needs) (λ c. search needs) (λ c. search needs) (λ c. search needs)
-    (λ c. search needs) (λ c. search needs) (λ c. search needs) (λ c. search needs) (λ c. search needs) (λ c. search needs) (λ c. search needs)
-    (λ c. search needs) (λ c. search needs) (λ c. search needs) (λ c. search needs) (λ c. search needs) (λ c. search needs) (λ c. search needs)
-    (λ c. search needs) (λ c. search needs) (λ c. search needs) (λ c. search needs)
-    (λ c. arm (c .enum-told .given .1))
-    (λ c. arm (c .enum-told2 .given .1))
-    (λ c. arm (c .enum-told3 .given .1))
-    (λ c. arm (c .enum-told4 .given .1))
-    (λ c. arm (c .enum-told5 .given .1))
-    (λ c. arm (c .enum-told6 .given .1))
-    (λ c. arm (c .enum-told7 .given .1))
-    (λ c. arm (c .enum-told8 .given .1))
-    (λ c. arm (c .enum-told9 .given .1))
-    (λ c. arm (c .enum-told10 .given .1))
-    (λ c. arm (c .enum-told11 .given .1))
-    (λ c. arm (c .enum-told12 .given .1))
-    (λ c. arm (c .enum-told13 .given .1))
-    (λ c. arm (c .enum-told14 .given .1))
-    (λ c. arm (c .enum-told15 .given .1))
-    (λ c. arm (c .enum-told16 .given .1))
-    (λ c. arm (c .enum-told17 .given .1))
-    (λ c. arm (c .enum-told18 .given .1))
-    (λ c. arm (c .enum-told19 .given .1))
-    (λ c. arm (c .enum-told20 .given .1))
-    (λ c. arm (c .enum-told21 .given .1))
-    (λ c. arm (c .enum-told22 .given .1))
-    (λ c. arm (c .enum-told23 .given .1))
-    (λ c. arm (c .enum-told24 .given .1))
-    (λ c. arm (c .enum-told25 .given .1)))
+from-format-spec = tie.close (tie.spec (λ c κs. search needs) (λ c. search needs) shl-t4 returns)
