@@ -1,60 +1,7 @@
 //! What was accepted, place by place: each payload is compared with the frames at its own offset.
 use crate::told::{Period, When};
+pub use page::{Gap, Part, Same, Why};
 use sha256::Sha256;
-use std::fmt;
-
-/// How a part of what was accepted stands to the frames.
-#[derive(Clone, Copy, PartialEq, Eq, Debug)]
-pub enum Same {
-    /// Nothing was accepted.
-    Nothing,
-    /// One run of the frames' bytes, in order, from this byte on.
-    Run { from: usize },
-    /// Every payload is the frames' bytes of its own place, with gaps between or out of order.
-    Places,
-    /// This period's payload is not the frames' bytes of its place.
-    Not { period: usize },
-}
-
-/// What was accepted in the transfer, or in the drain.
-#[derive(Clone, PartialEq, Eq, Debug)]
-pub struct Part {
-    pub periods: usize,
-    pub bytes: usize,
-    /// Of the payloads, joined.
-    pub sha256: String,
-    pub same: Same,
-}
-
-/// Why a period was not accepted.
-#[derive(Clone, Copy, PartialEq, Eq, Debug)]
-pub enum Why {
-    Status(u32),
-    NotCompleted,
-    NotSubmitted,
-    OtherBytes,
-}
-
-impl fmt::Display for Why {
-    fn fmt(&self, f: &mut fmt::Formatter<'_>) -> fmt::Result {
-        match self {
-            Self::Status(status) => write!(f, "came back with status {status:#06x}"),
-            Self::NotCompleted => write!(f, "not completed"),
-            Self::NotSubmitted => write!(f, "not submitted"),
-            Self::OtherBytes => write!(f, "OTHER BYTES were accepted in this place"),
-        }
-    }
-}
-
-/// Periods in a row that were not accepted, for one reason; the first of the frames is 1.
-#[derive(Clone, Copy, PartialEq, Eq, Debug)]
-pub struct Gap {
-    pub first: usize,
-    pub last: usize,
-    pub offset: usize,
-    pub length: usize,
-    pub why: Why,
-}
 
 pub struct Account {
     pub accepted: Part,
@@ -72,14 +19,13 @@ impl Account {
         Self {
             accepted: of(false),
             drained: of(true),
-            gaps: gaps(frames, size, periods),
+            gaps: page::gaps(frames.len(), size, missing(frames, size, periods)).collect(),
         }
     }
 
     /// Whether the device had accepted all the frames, in order, when the transfer answered.
     pub fn whole(&self, frames: &[u8]) -> bool {
-        let all = self.accepted.bytes == frames.len();
-        all && matches!(self.accepted.same, Same::Run { from: 0 } | Same::Nothing)
+        self.accepted.whole(frames.len())
     }
 }
 
@@ -105,7 +51,7 @@ fn part<'p>(frames: &[u8], size: usize, taken: impl Iterator<Item = &'p Period>)
     let mut part = Part {
         periods: 0,
         bytes: 0,
-        sha256: String::new(),
+        sha256: None,
         same: Same::Nothing,
     };
     for period in taken {
@@ -119,13 +65,13 @@ fn part<'p>(frames: &[u8], size: usize, taken: impl Iterator<Item = &'p Period>)
             },
             Same::Nothing => Same::Run { from: period.offset },
             Same::Run { from } if from + part.bytes == period.offset => Same::Run { from },
-            Same::Run { .. } | Same::Places => Same::Places,
+            Same::Run { .. } | Same::Places | Same::Told => Same::Places,
         };
         sum.update(payload);
         part.periods += 1;
         part.bytes += payload.len();
     }
-    part.sha256 = sum.hex();
+    part.sha256 = Some(sum.sum());
     part
 }
 
@@ -144,27 +90,6 @@ fn missing(frames: &[u8], size: usize, periods: &[Period]) -> Vec<Option<Why>> {
         }
     }
     missing
-}
-
-fn gaps(frames: &[u8], size: usize, periods: &[Period]) -> Vec<Gap> {
-    let missing = missing(frames, size, periods);
-    let mut first = 1;
-    let mut gaps = Vec::new();
-    for run in missing.chunk_by(|one, next| one == next) {
-        let last = first + run.len() - 1;
-        if let Some(Some(why)) = run.first() {
-            let offset = (first - 1) * size;
-            gaps.push(Gap {
-                first,
-                last,
-                offset,
-                length: frames.len().min(last * size) - offset,
-                why: *why,
-            });
-        }
-        first = last + 1;
-    }
-    gaps
 }
 
 #[cfg(test)]
@@ -198,7 +123,7 @@ mod tests {
         let periods = [given(0, b"aa"), given(2, b"bb"), given(4, b"cc"), given(6, b"d")];
         let account = Account::new(FRAMES, 2, &periods);
         assert!(account.whole(FRAMES) && account.gaps.is_empty());
-        assert_eq!(account.accepted.sha256, sha256::hex(FRAMES));
+        assert_eq!(account.accepted.sha256, Some(sha256::sum(FRAMES)));
         assert_eq!(account.drained.same, Same::Nothing);
     }
 

@@ -1,5 +1,5 @@
 //! What frames are.
-use snd::{Format, Rate};
+use snd::{Format, Params, Rate};
 
 #[derive(Clone, Copy, PartialEq, Eq, Debug)]
 pub struct Form {
@@ -9,28 +9,31 @@ pub struct Form {
 }
 
 impl Form {
-    /// The format's name in the documents, and the bytes of a sample. A WAVE file has one of four; raw frames and the tone are S16.
-    const fn sample(self) -> (&'static str, usize) {
-        match self.format {
-            Format::U8 => ("U8", 1),
-            Format::S24In3 => ("S24_3", 3),
-            Format::S32 => ("S32", 4),
-            _ => ("S16", 2),
+    /// What a stream is set to for such frames.
+    pub const fn params(self, buffer: u32, period: u32) -> Params {
+        Params {
+            buffer,
+            period,
+            features: 0,
+            channels: self.channels,
+            format: self.format,
+            rate: self.rate,
         }
     }
 
+    /// The format's name in the documents.
     pub const fn format_name(self) -> &'static str {
-        self.sample().0
+        page::sample(self.format).0
     }
 
     /// Bytes of a frame.
     pub fn frame(self) -> usize {
-        usize::from(self.channels) * self.sample().1
+        page::frame(&self.params(0, 0))
     }
 
     /// Where a byte of the frames is heard, in seconds.
     pub fn second(self, byte: usize) -> f64 {
-        byte as f64 / (self.frame() as f64 * f64::from(self.rate.hz()))
+        page::second(&self.params(0, 0), byte)
     }
 
     /// As a line of the page has it.

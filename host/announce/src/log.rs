@@ -1,17 +1,18 @@
 //! The log: the facts of all pages, and every period, as one JSON object.
 use crate::account::{Gap, Part, Same};
 use crate::json::{self, Object};
-use crate::report::{Built, Report};
+use crate::report::Report;
 use crate::told::{Control, Fault, Jacks, Period, What, When};
+use page::Built;
 
 /// The form of the log; a change that a reader would notice counts it up.
 const VERSION: u64 = 1;
 
-pub fn of(reports: &[Report], built: &Built, status: u8) -> String {
+pub fn of(reports: &[Report], built: Built, status: u8) -> String {
     json::object(|log| {
         log.text("program", "announce");
         log.number("version", VERSION);
-        log.text("date", &built.date);
+        log.text_if("date", built.date);
         log.text_if("kit", built.kit);
         log.text_if("archive_sha256", built.archive);
         log.number("exit_status", status.into());
@@ -38,7 +39,7 @@ fn before(to: &mut Object, report: &Report) {
         }),
         None => to.null("wave"),
     }
-    to.text("sha256", &recording.sha256);
+    to.text("sha256", &recording.sha256.to_string());
     to.seconds("seconds", Some(report.seconds()));
     to.texts("warnings", &recording.warnings(options));
     to.truth("strict", options.strict);
@@ -128,7 +129,7 @@ fn after(to: &mut Object, report: &Report) {
 fn part(to: &mut Object, part: &Part) {
     to.number("bytes", part.bytes as u64);
     to.number("periods", part.periods as u64);
-    to.text("sha256", &part.sha256);
+    to.text_if("sha256", part.sha256.map(|sum| sum.to_string()).as_deref());
     to.truth("same", !matches!(part.same, Same::Not { .. }));
 }
 

@@ -11,7 +11,6 @@ mod json;
 mod log;
 mod options;
 mod overwrite;
-mod page;
 mod picture;
 mod progress;
 mod recording;
@@ -25,10 +24,12 @@ mod tone;
 mod wave;
 
 use options::{Asked, Options};
-use report::{Built, Report};
+use page::Built;
+use report::Report;
 use std::io::Write;
 use std::path::Path;
 use std::process::ExitCode;
+use std::time::SystemTime;
 
 /// Exit status where every announcement was given whole.
 const GIVEN: u8 = 0;
@@ -54,7 +55,8 @@ fn main() -> ExitCode {
 /// Reads all, speaks all, writes the outputs, prints the pages.
 fn run(options: &Options) -> Result<u8, String> {
     overwrite::refuse(options)?;
-    let built = Built::now();
+    let date = clock::utc(SystemTime::now());
+    let built = Built::here(Some(&date));
     let recordings = recording::all(options)?;
     let told = speak::all(options, &recordings);
     let pairs = recordings.iter().zip(told);
@@ -66,12 +68,12 @@ fn run(options: &Options) -> Result<u8, String> {
     } else {
         NOT_GIVEN
     };
-    write_outputs(options, &reports, &built, status)?;
-    say(&pages(&reports, &built))?;
+    write_outputs(options, &reports, built, status)?;
+    say(&pages(&reports, built))?;
     Ok(status)
 }
 
-fn write_outputs(options: &Options, reports: &[Report], built: &Built, status: u8) -> Result<(), String> {
+fn write_outputs(options: &Options, reports: &[Report], built: Built, status: u8) -> Result<(), String> {
     let accepted: Vec<u8> = reports.iter().flat_map(Report::accepted).copied().collect();
     if let Some(file) = &options.accepted {
         write(file, &accepted)?;
@@ -93,11 +95,12 @@ fn write(file: &Path, bytes: &[u8]) -> Result<(), String> {
 }
 
 /// A page for each, with an empty line between, and a closing line where there are several.
-fn pages(reports: &[Report], built: &Built) -> String {
-    let pages: Vec<_> = reports.iter().map(|report| page::of(report, built)).collect();
+fn pages(reports: &[Report], built: Built) -> String {
+    let pages: Vec<_> = reports.iter().map(|report| report.page(built).to_string()).collect();
+    let given = reports.iter().filter(|report| report.given()).count();
     match pages.len() {
         1 => pages.concat(),
-        _ => pages.join("\n") + &page::closing(reports),
+        all => pages.join("\n") + "\n" + &page::Together { all, given }.to_string(),
     }
 }
 

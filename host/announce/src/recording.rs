@@ -2,6 +2,8 @@
 use crate::form::Form;
 use crate::options::{Options, Source};
 use crate::{sizes, tone, wave};
+use page::InFile;
+use sha256::Sum;
 use std::io::Read;
 
 pub struct Recording {
@@ -11,14 +13,7 @@ pub struct Recording {
     pub form: Form,
     /// Where the frames stood, if a WAVE file was read.
     pub file: Option<InFile>,
-    pub sha256: String,
-}
-
-pub struct InFile {
-    /// Bytes of the whole file.
-    pub bytes: usize,
-    /// Where in it the frames begin.
-    pub offset: usize,
+    pub sha256: Sum,
 }
 
 /// Reads all of them, or says what cannot be read.
@@ -48,7 +43,7 @@ fn read(options: &Options, source: &Source) -> Result<Recording, String> {
         (bytes, options.form(), None)
     };
     sizes::periods(&name, frames.len(), options.period)?;
-    let sha256 = sha256::hex(&frames);
+    let sha256 = sha256::sum(&frames);
     Ok(Recording {
         name,
         frames,
@@ -86,36 +81,10 @@ pub fn plain(name: &str) -> String {
 }
 
 impl Recording {
-    /// How many bytes there are to speak, and where they stood.
-    pub fn bytes(&self) -> String {
-        let frames = self.frames.len();
-        match &self.file {
-            None => format!("{frames} bytes"),
-            Some(file) => format!("{} bytes, {frames} of frames from byte {}", file.bytes, file.offset),
-        }
-    }
-
     /// What a user should know of the frames before all else.
     pub fn warnings(&self, options: &Options) -> Vec<String> {
-        let (bytes, frame) = (self.frames.len(), self.form.frame());
-        if bytes == 0 {
-            return vec!["there are no frames: nothing is spoken".into()];
-        }
-        let mut warnings = Vec::new();
-        let over = bytes % frame;
-        if over > 0 {
-            warnings.push(format!(
-                "the last frame is cut: {bytes} bytes are {} frames of {frame} bytes and {over} over; a device may never complete it",
-                bytes / frame
-            ));
-        }
-        let period = options.period as usize;
-        if period < bytes && !period.is_multiple_of(frame) {
-            warnings.push(format!(
-                "a period of {period} bytes cuts frames of {frame} bytes in two; --period {} would not",
-                (period / frame).max(1) * frame
-            ));
-        }
-        warnings
+        let params = self.form.params(options.buffer, options.period);
+        let warnings = page::warnings(&params, self.frames.len());
+        warnings.map(|warning| warning.to_string()).collect()
     }
 }

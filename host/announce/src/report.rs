@@ -1,30 +1,9 @@
 //! All that page, log and picture tell of an announcement.
 use crate::account::{self, Account, Gap};
-use crate::clock;
 use crate::options::Options;
 use crate::recording::Recording;
 use crate::told::Told;
-use std::time::SystemTime;
-
-/// What the program was built with, and when it runs.
-pub struct Built {
-    pub date: String,
-    /// As .ci/kit names it; none where it was built outside the repository.
-    pub kit: Option<&'static str>,
-    /// The sha256 of the archive that is linked.
-    pub archive: Option<&'static str>,
-}
-
-impl Built {
-    pub fn now() -> Self {
-        let known = |text: &'static str| (!text.is_empty()).then_some(text);
-        Self {
-            date: clock::utc(SystemTime::now()),
-            kit: known(env!("ANNOUNCE_KIT")),
-            archive: known(env!("ANNOUNCE_ARCHIVE_SHA256")),
-        }
-    }
-}
+use page::{Built, Drain, Page, Stream, Times, Turns};
 
 pub struct Report<'r> {
     pub options: &'r Options,
@@ -41,6 +20,48 @@ impl<'r> Report<'r> {
             recording,
             told,
             account,
+        }
+    }
+
+    /// The page of it.
+    pub fn page<'p>(&'p self, built: Built<'p>) -> Page<'p> {
+        let (options, recording, told, account) = (self.options, self.recording, &self.told, &self.account);
+        Page {
+            name: &recording.name,
+            bytes: recording.frames.len(),
+            file: recording.file,
+            sha256: recording.sha256,
+            params: recording.form.params(options.buffer, options.period),
+            strict: options.strict,
+            guard: options.guard,
+            jacks: told.jacks,
+            stream: told.stream.map(|number| Stream {
+                number,
+                output: true,
+                channels: told.channels,
+            }),
+            turns: Turns {
+                run: told.turns,
+                allowed: told.allowed,
+                enough: told.enough,
+                slow: options.slow,
+            },
+            submitted: told.periods.len() as u64,
+            accepted: account.accepted,
+            faults: &told.faults,
+            owed: told.owed,
+            drain: Drain {
+                run: told.drain_turns,
+                allowed: told.drain_allowed,
+                accepted: account.drained,
+            },
+            gaps: &account.gaps,
+            refused: told.refused,
+            times: Times {
+                longest: told.longest,
+                whole: told.time,
+            },
+            built,
         }
     }
 

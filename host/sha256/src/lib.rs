@@ -1,6 +1,13 @@
-//! SHA-256 (FIPS 180-4), so that a run can say which bytes it had before it.
+//! SHA-256 (FIPS 180-4), so that a run can say which bytes it had before it. Without the feature `alloc` it needs no allocator.
+#![no_std]
 #![forbid(unsafe_code)]
 #![deny(clippy::unwrap_used, clippy::expect_used, clippy::panic, clippy::indexing_slicing)]
+
+#[cfg(feature = "alloc")]
+extern crate alloc;
+#[cfg(feature = "alloc")]
+use alloc::string::{String, ToString};
+use core::fmt;
 
 /// The first 32 bits of the fractional parts of the cube roots of the first 64 primes.
 #[rustfmt::skip]
@@ -21,12 +28,22 @@ const START: [u32; 8] = [
     0x6a09e667, 0xbb67ae85, 0x3c6ef372, 0xa54ff53a, 0x510e527f, 0x9b05688c, 0x1f83d9ab, 0x5be0cd19,
 ];
 
+/// A sum, which shows itself in 64 hexadecimal digits.
+#[derive(Clone, Copy, PartialEq, Eq, Debug)]
+pub struct Sum([u32; 8]);
+
+impl fmt::Display for Sum {
+    fn fmt(&self, f: &mut fmt::Formatter<'_>) -> fmt::Result {
+        self.0.iter().try_for_each(|word| write!(f, "{word:08x}"))
+    }
+}
+
 /// A sum over bytes that come in parts.
 #[derive(Clone, Debug)]
 pub struct Sha256 {
     state: [u32; 8],
-    /// What came since the last whole block.
-    rest: Vec<u8>,
+    /// What came since the last whole block stands at its beginning.
+    rest: [u8; 64],
     length: u64,
 }
 
@@ -36,38 +53,45 @@ impl Sha256 {
     pub const fn new() -> Self {
         Self {
             state: START,
-            rest: Vec::new(),
+            rest: [0; 64],
             length: 0,
         }
     }
 
     /// Takes the next bytes.
     pub fn update(&mut self, bytes: &[u8]) {
+        let held = (self.length % 64) as usize;
         self.length = self.length.wrapping_add(bytes.len() as u64);
-        let open = if self.rest.is_empty() { 0 } else { 64 - self.rest.len() };
-        let (filling, after) = bytes.split_at(open.min(bytes.len()));
-        self.rest.extend_from_slice(filling);
-        if let Ok(whole) = self.rest.as_slice().try_into() {
-            block(&mut self.state, whole);
-            self.rest.clear();
+        let (filling, after) = bytes.split_at(bytes.len().min(64 - held));
+        fill(self.rest.iter_mut().skip(held), filling);
+        if held + filling.len() == 64 {
+            block(&mut self.state, &self.rest);
         }
         let (blocks, rest) = after.as_chunks();
         for whole in blocks {
             block(&mut self.state, whole);
         }
-        self.rest.extend_from_slice(rest);
+        // there is none where the block before was not filled
+        fill(self.rest.iter_mut(), rest);
+    }
+
+    /// The sum of all that came.
+    #[must_use]
+    pub fn sum(mut self) -> Sum {
+        let bits = self.length.wrapping_mul(8).to_be_bytes();
+        self.update(&[0x80]);
+        while self.length % 64 != 56 {
+            self.update(&[0]);
+        }
+        self.update(&bits);
+        Sum(self.state)
     }
 
     /// The sum, in 64 hexadecimal digits.
+    #[cfg(feature = "alloc")]
     #[must_use]
-    pub fn hex(mut self) -> String {
-        let bits = self.length.wrapping_mul(8).to_be_bytes();
-        let zeros = 63 - (self.rest.len() + 8) % 64;
-        let mut end = vec![0x80];
-        end.resize(1 + zeros, 0);
-        end.extend(bits);
-        self.update(&end);
-        self.state.iter().map(|word| format!("{word:08x}")).collect()
+    pub fn hex(self) -> String {
+        self.sum().to_string()
     }
 }
 
@@ -79,10 +103,23 @@ impl Default for Sha256 {
 
 /// The sum of bytes that are all at hand.
 #[must_use]
-pub fn hex(bytes: &[u8]) -> String {
+pub fn sum(bytes: &[u8]) -> Sum {
     let mut sum = Sha256::new();
     sum.update(bytes);
-    sum.hex()
+    sum.sum()
+}
+
+/// The same, in 64 hexadecimal digits.
+#[cfg(feature = "alloc")]
+#[must_use]
+pub fn hex(bytes: &[u8]) -> String {
+    sum(bytes).to_string()
+}
+
+fn fill<'p>(places: impl Iterator<Item = &'p mut u8>, bytes: &[u8]) {
+    for (place, byte) in places.zip(bytes) {
+        *place = *byte;
+    }
 }
 
 fn block(state: &mut [u32; 8], bytes: &[u8; 64]) {

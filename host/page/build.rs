@@ -10,15 +10,15 @@ fn main() {
     let repository = here.join("../..");
     let kit = read(&repository.join(".ci/kit"));
     let kit = kit.and_then(|text| String::from_utf8(text).ok());
-    tell("ANNOUNCE_KIT", kit.map(|text| text.trim().replace('\n', " ")));
+    tell("PAGE_KIT", kit.map(|text| text.trim().replace('\n', " ")));
     let archive = match env::var_os("SND_LIB") {
         Some(path) => PathBuf::from(path),
         None => repository.join("target/staticlib/libconsole.a"),
     };
     // the path is for a test
-    tell("ANNOUNCE_ARCHIVE", archive.to_str().map(String::from));
+    tell("PAGE_ARCHIVE", archive.to_str().map(String::from));
     let sum = read(&archive).map(|bytes| sha256::hex(&bytes));
-    tell("ANNOUNCE_ARCHIVE_SHA256", sum);
+    tell("PAGE_ARCHIVE_SHA256", sum);
 }
 
 /// A file that may not be there. Cargo is told of one that is; it would build anew each time for one that is not.

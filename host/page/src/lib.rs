@@ -1,0 +1,14 @@
+//! The auditor's page of an announcement: one fact a line, its name first. `announce` prints it of the model device, `host/console` of a real one.
+#![no_std]
+#![forbid(unsafe_code)]
+#![deny(clippy::unwrap_used, clippy::expect_used, clippy::panic, clippy::indexing_slicing)]
+
+mod account;
+mod faults;
+mod frames;
+mod page;
+
+pub use account::{Gap, Part, Same, Why, gaps};
+pub use faults::{Completed, Fault, Refused, What, When};
+pub use frames::{Warning, frame, sample, second, warnings};
+pub use page::{ARCHIVE, Answered, Built, Drain, InFile, Jacks, Page, Stream, Times, Together, Turns, at_most};

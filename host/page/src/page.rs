@@ -1,0 +1,455 @@
+//! The auditor's page.
+use crate::account::{Gap, Part, Same};
+use crate::faults::{Fault, Refused};
+use crate::frames::{sample, second, warnings};
+use core::fmt;
+use core::time::Duration;
+use sha256::Sum;
+use snd::{Answer, ChannelRange, Params};
+
+/// All that the page tells of an announcement. What is not known where it is written has no line.
+pub struct Page<'p> {
+    /// What is spoken: a name that fits on a line.
+    pub name: &'p str,
+    /// How many bytes the frames have.
+    pub bytes: usize,
+    /// Where they stood, if a file has more than the frames.
+    pub file: Option<InFile>,
+    /// Of the frames.
+    pub sha256: Sum,
+    /// What the stream is set to.
+    pub params: Params,
+    /// Whether feeds carry the length that the device wrote.
+    pub strict: bool,
+    /// The state was made with the guard.
+    pub guard: bool,
+    /// What came of the query of jacks, where the device cut its answer.
+    pub jacks: Option<Jacks>,
+    /// Where one was found.
+    pub stream: Option<Stream>,
+    /// The turns of the transfer.
+    pub turns: Turns,
+    /// Periods that were submitted.
+    pub submitted: u64,
+    /// What was accepted when the transfer answered.
+    pub accepted: Part,
+    /// What the device did wrong, in order.
+    pub faults: &'p [Fault],
+    /// Slots in flight when the transfer answered.
+    pub owed: u64,
+    /// The turns after that.
+    pub drain: Drain,
+    /// What was not accepted, the drain included, in order.
+    pub gaps: &'p [Gap],
+    /// The call that was refused; none where all went well.
+    pub refused: Option<Refused>,
+    /// How long it took.
+    pub times: Times,
+    /// What it was built with.
+    pub built: Built<'p>,
+}
+
+/// Where frames stood in a file.
+#[derive(Clone, Copy, PartialEq, Eq, Debug)]
+pub struct InFile {
+    /// Bytes of the whole file.
+    pub bytes: usize,
+    /// Where in it the frames begin.
+    pub offset: usize,
+}
+
+/// The stream that speaks.
+#[derive(Clone, Copy, PartialEq, Eq, Debug)]
+pub struct Stream {
+    /// Its number.
+    pub number: u32,
+    /// Whether it is an output.
+    pub output: bool,
+    /// How many channels it may have.
+    pub channels: ChannelRange,
+}
+
+/// A jack query that was answered by its header alone, and what came of a remap of jack 0.
+#[derive(Clone, Copy, PartialEq, Eq, Debug)]
+pub struct Jacks {
+    /// Bytes that the device wrote.
+    pub written: usize,
+    /// What the whole answer would have been.
+    pub whole: usize,
+    /// Whether the remap went out, and so a jack was known.
+    pub sent: bool,
+    /// What the remap was answered.
+    pub answer: Answer,
+}
+
+/// The turns of a transfer.
+#[derive(Clone, Copy, PartialEq, Eq, Debug, Default)]
+pub struct Turns {
+    /// Turns that ran.
+    pub run: u64,
+    /// Turns that the budget allows.
+    pub allowed: u64,
+    /// Turns that are enough: n·g + 1.
+    pub enough: u64,
+    /// The g of that: a device completes one in any so many turns.
+    pub slow: u64,
+}
+
+/// The turns of a drain.
+#[derive(Clone, Copy, PartialEq, Eq, Debug)]
+pub struct Drain {
+    /// Turns that ran.
+    pub run: u64,
+    /// Turns that are allowed.
+    pub allowed: u64,
+    /// What was accepted in them.
+    pub accepted: Part,
+}
+
+/// How long a transfer took.
+#[derive(Clone, Copy, PartialEq, Eq, Debug, Default)]
+pub struct Times {
+    /// Its longest turn.
+    pub longest: Duration,
+    /// The whole of it.
+    pub whole: Duration,
+}
+
+/// What a program was built with, and when it runs.
+#[derive(Clone, Copy, PartialEq, Eq, Debug, Default)]
+pub struct Built<'p> {
+    /// None where there is no clock.
+    pub date: Option<&'p str>,
+    /// As .ci/kit names it; none where it was built outside the repository.
+    pub kit: Option<&'p str>,
+    /// The sha256 of the archive that is linked.
+    pub archive: Option<&'p str>,
+}
+
+/// The path of that archive when it was built, for a test.
+#[doc(hidden)]
+pub const ARCHIVE: &str = env!("PAGE_ARCHIVE");
+
+impl<'p> Built<'p> {
+    /// As this was built.
+    #[must_use]
+    pub fn here(date: Option<&'p str>) -> Self {
+        let known = |text: &'static str| (!text.is_empty()).then_some(text);
+        Self {
+            date,
+            kit: known(env!("PAGE_KIT")),
+            archive: known(env!("PAGE_ARCHIVE_SHA256")),
+        }
+    }
+}
+
+impl fmt::Display for Page<'_> {
+    fn fmt(&self, f: &mut fmt::Formatter<'_>) -> fmt::Result {
+        let mut lines = Lines(f);
+        before(&mut lines, self)?;
+        device(&mut lines, self)?;
+        after(&mut lines, self)?;
+        built(&mut lines, &self.built)
+    }
+}
+
+/// The line below several pages.
+#[derive(Clone, Copy, PartialEq, Eq, Debug)]
+pub struct Together {
+    /// Announcements.
+    pub all: usize,
+    /// Those of them that were given whole.
+    pub given: usize,
+}
+
+impl fmt::Display for Together {
+    fn fmt(&self, f: &mut fmt::Formatter<'_>) -> fmt::Result {
+        let Self { all, given } = *self;
+        let not = all - given;
+        Lines(f).line(
+            "together",
+            format_args!("{all} announcements on one device: {given} given whole, {not} not"),
+        )
+    }
+}
+
+struct Lines<'l, 'f>(&'l mut fmt::Formatter<'f>);
+
+impl Lines<'_, '_> {
+    fn line(&mut self, name: &str, fact: impl fmt::Display) -> fmt::Result {
+        writeln!(self.0, "{name:<13}{fact}")
+    }
+}
+
+/// What was to be spoken.
+fn before(lines: &mut Lines, page: &Page) -> fmt::Result {
+    announcement(lines, page)?;
+    lines.line("frames", format_args!("sha256 {}", page.sha256))?;
+    lines.line("recording", format_args!("{:.6} s", second(&page.params, page.bytes)))?;
+    for warning in warnings(&page.params, page.bytes) {
+        lines.line("warning", warning)?;
+    }
+    if page.strict {
+        lines.line("mode", "strict: of each answer only what the device wrote was read")?;
+    }
+    if page.guard {
+        lines.line(
+            "guard",
+            "on: nothing was sent that the stream's lifecycle does not permit",
+        )?;
+    }
+    if let Some(told) = &page.jacks {
+        jacks(lines, told)?;
+    }
+    stream(lines, page)?;
+    parameters(lines, &page.params)?;
+    periods(lines, page.bytes, page.params.period as usize)
+}
+
+fn announcement(lines: &mut Lines, page: &Page) -> fmt::Result {
+    let Page { name, bytes, .. } = page;
+    match page.file {
+        None => lines.line("announcement", format_args!("{name}, {bytes} bytes")),
+        Some(InFile { bytes: all, offset }) => lines.line(
+            "announcement",
+            format_args!("{name}, {all} bytes, {bytes} of frames from byte {offset}"),
+        ),
+    }
+}
+
+/// What the device did.
+fn device(lines: &mut Lines, page: &Page) -> fmt::Result {
+    turns(lines, &page.turns)?;
+    lines.line("submitted", Count(page.submitted, "period"))?;
+    accepted(lines, page)?;
+    sum(lines, "accepted", &page.accepted)?;
+    for fault in page.faults {
+        lines.line("fault", fault)?;
+    }
+    owed(lines, page.owed)?;
+    if page.owed > 0 {
+        drained(lines, &page.drain)?;
+        sum(lines, "drained", &page.drain.accepted)?;
+    }
+    for gap in page.gaps {
+        lines.line("gap", gap)?;
+    }
+    broke_off(lines, page)
+}
+
+/// The answer, and how long it took.
+fn after(lines: &mut Lines, page: &Page) -> fmt::Result {
+    lines.line("answer", Answered(page.refused))?;
+    match at_most(page.turns.run, page.turns.allowed, page.times.longest) {
+        Some(seconds) => {
+            let turns = Count(page.turns.allowed, "turn");
+            lines.line(
+                "longest turn",
+                format_args!("{:.9} s", page.times.longest.as_secs_f64()),
+            )?;
+            lines.line(
+                "at most",
+                format_args!("{seconds:.9} s in the transfer: {turns} allowed, each no longer than the longest"),
+            )?;
+        }
+        None => {
+            lines.line("longest turn", "no turn ran")?;
+            lines.line("at most", "not known: no turn was measured")?;
+        }
+    }
+    lines.line("wall time", format_args!("{:.6} s", page.times.whole.as_secs_f64()))
+}
+
+fn built(lines: &mut Lines, built: &Built) -> fmt::Result {
+    if let Some(date) = built.date {
+        lines.line("date", date)?;
+    }
+    match built.kit {
+        Some(kit) => lines.line("kit", format_args!("{kit} (.ci/kit)"))?,
+        None => lines.line("kit", "not known: built outside the repository")?,
+    }
+    match built.archive {
+        Some(sum) => lines.line("archive", format_args!("sha256 {sum}")),
+        None => lines.line("archive", "not known"),
+    }
+}
+
+impl Page<'_> {
+    /// Whether the announcement was given: Ok, and the device had accepted all of it, in order.
+    #[must_use]
+    pub fn given(&self) -> bool {
+        self.refused.is_none() && self.accepted.whole(self.bytes)
+    }
+}
+
+/// No turn longer than the longest measured: how many seconds the budget allows. None where no turn ran.
+#[must_use]
+pub fn at_most(run: u64, allowed: u64, longest: Duration) -> Option<f64> {
+    let seconds = allowed as f64 * longest.as_secs_f64();
+    (run > 0).then_some(seconds)
+}
+
+/// The answer, and to which call it was given.
+#[derive(Clone, Copy, PartialEq, Eq, Debug)]
+pub struct Answered(pub Option<Refused>);
+
+impl fmt::Display for Answered {
+    fn fmt(&self, f: &mut fmt::Formatter<'_>) -> fmt::Result {
+        match self.0 {
+            None => Answer::Ok.fmt(f),
+            Some((call, refusal)) => write!(f, "{refusal}, to {call}"),
+        }
+    }
+}
+
+/// So many of a thing.
+struct Count<'t>(u64, &'t str);
+
+impl fmt::Display for Count<'_> {
+    fn fmt(&self, f: &mut fmt::Formatter<'_>) -> fmt::Result {
+        let Self(number, thing) = self;
+        let ending = if *number == 1 { "" } else { "s" };
+        write!(f, "{number} {thing}{ending}")
+    }
+}
+
+/// The auditor's question: did the console act on what the device did not say?
+fn jacks(lines: &mut Lines, told: &Jacks) -> fmt::Result {
+    let Jacks {
+        written, whole, answer, ..
+    } = told;
+    let (known, remap) = if told.sent {
+        ("1, left in the page from before", "was sent, and answered")
+    } else {
+        ("none", "was not sent")
+    };
+    let query = format_args!("the device wrote {written} of {whole} bytes to their query");
+    lines.line(
+        "jacks",
+        format_args!("{known}: {query}; a remap of jack 0 {remap}: {answer}"),
+    )
+}
+
+fn stream(lines: &mut Lines, page: &Page) -> fmt::Result {
+    let Some(Stream {
+        number,
+        output,
+        channels,
+    }) = page.stream
+    else {
+        return lines.line("stream", "none");
+    };
+    let kind = if output { "output" } else { "input" };
+    let ChannelRange { min, max } = channels;
+    lines.line("stream", format_args!("{number}, {kind}, {min} to {max} channels"))
+}
+
+fn parameters(lines: &mut Lines, to: &Params) -> fmt::Result {
+    let channels = Count(to.channels.into(), "channel");
+    let (buffer, period, hz) = (to.buffer, to.period, to.rate.hz());
+    let (format, _bytes) = sample(to.format);
+    lines.line(
+        "parameters",
+        format_args!("buffer {buffer}, period {period}, {channels}, {format}, {hz} Hz"),
+    )
+}
+
+fn periods(lines: &mut Lines, bytes: usize, period: usize) -> fmt::Result {
+    const NAME: &str = "periods";
+    let (Some(whole), Some(rest)) = (bytes.checked_div(period), bytes.checked_rem(period)) else {
+        return lines.line(NAME, "none: a period of no bytes");
+    };
+    match (whole, rest) {
+        (0, 0) => lines.line(NAME, "0"),
+        (0, rest) => lines.line(NAME, format_args!("1: of {rest} bytes")),
+        (whole, 0) => lines.line(NAME, format_args!("{whole}: each of {period} bytes")),
+        (whole, rest) => lines.line(
+            NAME,
+            format_args!("{}: {whole} of {period} bytes, the last of {rest}", whole + 1),
+        ),
+    }
+}
+
+fn turns(lines: &mut Lines, turns: &Turns) -> fmt::Result {
+    let Turns {
+        run,
+        allowed,
+        enough,
+        slow,
+    } = turns;
+    lines.line(
+        "turns",
+        format_args!("{run} of {allowed} allowed (n*g + 1 = {enough} with g = {slow})"),
+    )
+}
+
+fn accepted(lines: &mut Lines, page: &Page) -> fmt::Result {
+    let (part, all) = (&page.accepted, page.bytes);
+    let bytes = part.bytes;
+    let periods = Count(part.periods as u64, "period");
+    let which = match part.same {
+        Same::Run { from: 0 } if bytes == all => "the frames, byte for byte",
+        Same::Run { from: 0 } => "the frames' first bytes, byte for byte",
+        same => return lines.line("accepted", format_args!("{bytes} of {all} bytes, in {periods}: {same}")),
+    };
+    lines.line(
+        "accepted",
+        format_args!("{bytes} of {all} bytes, in {periods}: {which}"),
+    )
+}
+
+impl fmt::Display for Same {
+    fn fmt(&self, f: &mut fmt::Formatter<'_>) -> fmt::Result {
+        match self {
+            Self::Nothing => f.write_str("none"),
+            Self::Run { from } => write!(f, "the frames' bytes from {from} on"),
+            Self::Places => f.write_str("the frames' bytes, each period those of its own place"),
+            Self::Not { period } => write!(f, "NOT the frames' bytes, first in period {period}"),
+            Self::Told => f.write_str("by the device's completions"),
+        }
+    }
+}
+
+fn sum(lines: &mut Lines, name: &str, part: &Part) -> fmt::Result {
+    match part.sha256 {
+        Some(sum) => lines.line(name, format_args!("sha256 {sum}")),
+        None => Ok(()),
+    }
+}
+
+fn owed(lines: &mut Lines, slots: u64) -> fmt::Result {
+    match slots {
+        0 => lines.line("owed", "nothing"),
+        slots => lines.line(
+            "owed",
+            format_args!("{} in flight when the transfer answered", Count(slots, "slot")),
+        ),
+    }
+}
+
+fn drained(lines: &mut Lines, drain: &Drain) -> fmt::Result {
+    let (part, allowed) = (&drain.accepted, drain.allowed);
+    let (turns, periods) = (Count(drain.run, "turn"), Count(part.periods as u64, "period"));
+    lines.line(
+        "drained",
+        format_args!(
+            "in {turns} of {allowed} allowed; the device accepted {} bytes more meanwhile, in {periods}: {}",
+            part.bytes, part.same
+        ),
+    )
+}
+
+fn broke_off(lines: &mut Lines, page: &Page) -> fmt::Result {
+    match page.gaps.first() {
+        None => lines.line("broke off", "nowhere"),
+        Some(gap) => lines.line(
+            "broke off",
+            format_args!(
+                "at period {}, byte {}, second {:.6}",
+                gap.first,
+                gap.offset,
+                second(&page.params, gap.offset)
+            ),
+        ),
+    }
+}
