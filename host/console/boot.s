@@ -170,5 +170,8 @@ directories: .skip 4 * 4096
 interrupts: .skip 4096
     .skip 4096
 trap_stack_top:
-    .skip 65536
+    .global guest_stack
+guest_stack:
+    .skip 262144
+    .global guest_stack_top
 guest_stack_top:

@@ -1,5 +1,7 @@
 //! Stand-in for `bitflags` 2. Assumed: a set is its number; `from_bits_retain` keeps unknown bits; `contains` asks for every bit of
 //! the other. Only the methods that sound.rs and common.rs use.
+#![no_std]
+
 #[macro_export]
 macro_rules! bitflags {
     ($(#[$m:meta])* $v:vis struct $N:ident : $T:ty { $( $(#[$fm:meta])* const $F:ident = $x:expr; )* }) => {

@@ -1,6 +1,9 @@
 //! Stand-in for `log` 0.4. Assumed: the arguments are evaluated only where the level is enabled, and by default it is not, as in a
 //! program that installs no logger. Enabled, the text is made and dropped.
-use std::sync::atomic::{AtomicBool, Ordering};
+#![no_std]
+pub extern crate alloc;
+
+use core::sync::atomic::{AtomicBool, Ordering};
 
 pub static ENABLED: AtomicBool = AtomicBool::new(false);
 
@@ -9,8 +12,8 @@ pub fn enabled() -> bool {
 }
 
 #[macro_export]
-macro_rules! info { ($($a:tt)*) => { if $crate::enabled() { drop(format!($($a)*)); } } }
+macro_rules! info { ($($a:tt)*) => { if $crate::enabled() { drop($crate::alloc::format!($($a)*)); } } }
 #[macro_export]
-macro_rules! warn { ($($a:tt)*) => { if $crate::enabled() { drop(format!($($a)*)); } } }
+macro_rules! warn { ($($a:tt)*) => { if $crate::enabled() { drop($crate::alloc::format!($($a)*)); } } }
 #[macro_export]
-macro_rules! error { ($($a:tt)*) => { if $crate::enabled() { drop(format!($($a)*)); } } }
+macro_rules! error { ($($a:tt)*) => { if $crate::enabled() { drop($crate::alloc::format!($($a)*)); } } }

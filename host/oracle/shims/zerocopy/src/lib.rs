@@ -1,9 +1,13 @@
 //! Stand-in for the parts of `zerocopy` 0.8 that sound.rs and fake.rs use. Assumed: `read_from_bytes` takes a slice of just the
 //! type's size, `read_from_prefix` one of at least that; bytes are those of memory, so the host is little-endian; the derives check
 //! that every field has the trait and (IntoBytes) that there is no padding.
+#![no_std]
+extern crate alloc;
+
+use alloc::boxed::Box;
+use core::mem::{MaybeUninit, size_of, size_of_val};
+use core::ptr;
 pub use derive::{FromBytes, Immutable, IntoBytes, KnownLayout};
-use std::mem::{MaybeUninit, size_of, size_of_val};
-use std::ptr;
 
 #[derive(Debug)]
 pub struct AllocError;
@@ -76,14 +80,14 @@ pub unsafe trait IntoBytes {
         Self: Immutable,
     {
         // SAFETY: no padding, so every byte is initialised.
-        unsafe { std::slice::from_raw_parts((&raw const *self).cast(), size_of_val(self)) }
+        unsafe { core::slice::from_raw_parts((&raw const *self).cast(), size_of_val(self)) }
     }
     fn as_mut_bytes(&mut self) -> &mut [u8]
     where
         Self: FromBytes,
     {
         // SAFETY: no padding, and any bytes are a value.
-        unsafe { std::slice::from_raw_parts_mut((&raw mut *self).cast(), size_of_val(self)) }
+        unsafe { core::slice::from_raw_parts_mut((&raw mut *self).cast(), size_of_val(self)) }
     }
 }
 macro_rules! plain { ($($t:ty),*) => { $(
