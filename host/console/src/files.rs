@@ -4,7 +4,10 @@ use crate::port::{FILE_DATA, FILE_SELECT};
 use crate::timer::{SECOND, Timer};
 use core::arch::asm;
 use core::ptr::{read_volatile, write_volatile};
+use page::InFile;
 use sha256::Sum;
+use snd::wav::{self, Wave};
+use snd::{Format, Params, Rate, Refusal};
 
 const SIGNATURE: u16 = 0;
 const ID: u16 = 1;
@@ -32,12 +35,65 @@ struct Copying {
     address: u64,
 }
 
-/// The frames of an announcement, for good.
+/// An announcement, for good.
 #[derive(Clone, Copy)]
 pub struct Recording {
     pub name: &'static str,
     pub frames: &'static [u8],
     pub sha256: Sum,
+    /// What a WAVE file says of itself; none of raw frames.
+    pub wave: Option<Result<InWave, Refusal>>,
+}
+
+/// What the frames of a WAVE file are, and where in it they stand.
+#[derive(Clone, Copy)]
+pub struct InWave {
+    pub channels: u8,
+    pub format: Format,
+    pub rate: Rate,
+    pub file: InFile,
+}
+
+impl Recording {
+    /// A file that begins so is read as a WAVE file, whatever its name; any other has raw frames, and so has one that is refused.
+    fn of(name: &'static str, file: &'static [u8]) -> Self {
+        let read = file.starts_with(b"RIFF").then(|| wav::read(file));
+        let frames = match &read {
+            Some(Ok(wave)) => wave.frames,
+            _ => file,
+        };
+        let in_wave = |wave: Wave| InWave {
+            channels: wave.channels,
+            format: wave.format,
+            rate: wave.rate,
+            file: InFile {
+                bytes: file.len(),
+                // the frames are a part of the file
+                offset: frames.as_ptr().addr().wrapping_sub(file.as_ptr().addr()),
+            },
+        };
+        Self {
+            name,
+            frames,
+            sha256: sha256::sum(frames),
+            wave: read.map(|read| read.map(in_wave)),
+        }
+    }
+
+    /// What the stream is set to: of a WAVE file what it says itself.
+    pub fn params(&self, asked: &Params) -> Params {
+        match self.wave {
+            Some(Ok(InWave {
+                channels, format, rate, ..
+            })) => Params {
+                channels,
+                format,
+                rate,
+                ..*asked
+            },
+            _ => *asked,
+        }
+    }
 }
 
 pub struct Files {
@@ -133,12 +189,7 @@ impl Files {
         if let Some(recording) = known {
             return Some(*recording);
         }
-        let frames = self.read(name)?;
-        let recording = Recording {
-            name,
-            frames,
-            sha256: sha256::sum(frames),
-        };
+        let recording = Recording::of(name, self.read(name)?);
         if let Some(place) = self.kept.iter_mut().find(|place| place.is_none()) {
             *place = Some(recording);
         }

@@ -124,7 +124,7 @@ fn step(
     count: &mut Count,
 ) -> Result<bool, &'static str> {
     match verb {
-        Verb::Speak(name, asked) => return speak(console, files, name, &asked, count),
+        Verb::Speak(name, asked) => return speak(console, files, name, asked, count),
         Verb::Reset => {
             console.reset().map_err(stopped)?;
             say!("reset        the device; state and ring are new\n");
@@ -158,15 +158,16 @@ fn speak(
     console: &mut Console,
     files: &mut Files,
     name: &'static str,
-    asked: &Asked,
+    mut asked: Asked,
     count: &mut Count,
 ) -> Result<bool, &'static str> {
     let recording = files
         .recording(name)
         .ok_or_else(|| stopped(format_args!("there is no file opt/console/{name}, or no room for it")))?;
+    asked.params = recording.params(&asked.params);
     let mut told = Told::new();
-    console.announce(asked, recording.frames, &mut told);
-    let page = told.page(asked, &recording);
+    console.announce(&asked, &recording, &mut told);
+    let page = told.page(&asked, &recording);
     count.all += 1;
     count.given += usize::from(page.given());
     let number = page.refused.map_or(0, |(_call, refusal)| refusal.number());

@@ -204,7 +204,7 @@ impl Told {
         Page {
             name: recording.name,
             bytes: recording.frames.len(),
-            file: None,
+            file: recording.wave.and_then(Result::ok).map(|wave| wave.file),
             sha256: recording.sha256,
             params: asked.params,
             strict: true,
