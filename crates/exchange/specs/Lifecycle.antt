@@ -173,6 +173,11 @@ few-asked c call e g =
     let d = both (eqb (c .read .streams) (c .counts .streams)) (leb (c .read .streams) 127) (both x (eqb (c .read .maps) 0) b .0) in
     omega (arith, eqb-true (c .read .streams) (c .counts .streams) (d .0), leb-true (c .read .streams) 127 (d .1))
 
+-- a table that is filled, or not, moves no stream
+unmoved : (s : Sound) (good : Bool) (x : Effect) (d : Core) (page : List ℕ) → soundAfter x d s page .lives ≡ s .lives → soundAfter (pick good x Nothing) d s page .lives ≡ s .lives
+unmoved s true x d page e = e
+unmoved s false x d page e = refl
+
 module _ (s : Sound) (on : s .core .guard ≡ true) where
   begun-waits : {call : Call} {look : Look} {p : Plan} → look ≡ lookOf s call → Waits (s .lives) (s .core .stage) → Begun (s .core) call look p → Waits (s .lives) (p .core .stage)
   begun-waits l w (bars r) = w
@@ -183,14 +188,6 @@ module _ (s : Sound) (on : s .core .guard ≡ true) where
   begun-permitted l (bars r) = tt
   begun-permitted l (asks _ _ _ _) = tt
   begun-permitted l (begins _ _ _ _ o) = own-permitted s l on refl o
-
-  maps-lives : (good : Bool) (n : ℕ) (d : Core) (page : List ℕ) → soundAfter (pick good (FillMaps n) Nothing) d s page .lives ≡ s .lives
-  maps-lives true n d page = refl
-  maps-lives false n d page = refl
-
-  jacks-lives : (good : Bool) (n : ℕ) (d : Core) (page : List ℕ) → soundAfter (pick good (FillJacks n) Nothing) d s page .lives ≡ s .lives
-  jacks-lives true n d page = refl
-  jacks-lives false n d page = refl
 
   looked : {look : Look} {call : Call} → look ≡ pendingLook (s .core .stage) s → s .core .stage ≡ MapsAsked call → look ≡ lookOf s call
   looked l g = l ∙ ap (λ (z : Stage). pendingLook z s) g
@@ -213,7 +210,7 @@ module _ (s : Sound) (on : s .core .guard ≡ true) where
     answered-waits page w (asks-maps _ _ _) = λ i k e. empty e
     answered-waits page w (cuts _ _ _ _ _) = λ i k e. empty e
     answered-waits page w (finishes {call} {p} e g o) =
-        subst (λ (z : List ℕ). Waits z (p .core .stage)) (sym (maps-lives (isGood v) (s .core .counts .maps) (p .core) page)) (own-waits s (looked l g) on (few-asked (s .core) call e g) o)
+        subst (λ (z : List ℕ). Waits z (p .core .stage)) (sym (unmoved s (isGood v) (FillMaps (s .core .counts .maps)) (p .core) page refl)) (own-waits s (looked l g) on (few-asked (s .core) call e g) o)
     answered-waits page w (ends _ _ _) = λ i k e. empty e
     answered-waits page w (fails _ _ _) = λ i k e. empty e
 
@@ -257,11 +254,11 @@ module _ (s : Sound) (page : List ℕ) (i l : ℕ) {ks : List ℕ} (h : Walk l k
       → Walk l (ks ++ okIn (p .say) (outTo i (s .core .stage))) (getD (soundAfter (p .effect) (p .core) s page .lives) i 0)
   answered-walk on n w (short _) = stay refl refl
   answered-walk on n w (idle _) = stay refl refl
-  answered-walk on n w {v} (asks-streams _ _) = stay refl (ap (λ (z : List ℕ). getD z i 0) (jacks-lives s on (isGood v) (s .core .counts .jacks) _ page))
+  answered-walk on n w {v} (asks-streams _ _) = stay refl (ap (λ (z : List ℕ). getD z i 0) (unmoved s (isGood v) (FillJacks (s .core .counts .jacks)) _ page refl))
   answered-walk on n w (asks-maps _ _ _) = stay refl refl
   answered-walk on n w (cuts _ _ _ _ _) = stay refl refl
   answered-walk on n w {v} (finishes {call} {p} _ g o) =
-      stay (ap (λ (z : Stage). okIn (p .say) (outTo i z)) g ∙ ok-none (p .say)) (ap (λ (z : List ℕ). getD z i 0) (maps-lives s on (isGood v) (s .core .counts .maps) (p .core) page))
+      stay (ap (λ (z : Stage). okIn (p .say) (outTo i z)) g ∙ ok-none (p .say)) (ap (λ (z : List ℕ). getD z i 0) (unmoved s (isGood v) (FillMaps (s .core .counts .maps)) (p .core) page refl))
   answered-walk on n w (ends {call} _ g _) =
       subst (λ (z : Stage). Walk l (ks ++ outTo i z) (getD (soundAfter (effectOf call) (withStage (s .core) Idle) s page .lives) i 0)) (sym g)
       (ended-walk (withStage (s .core) Idle) on n call (subst (Waits (s .lives)) g w))
