@@ -72,6 +72,8 @@ use Rattle.codes.proofs.flags.PcmRates.from_rate.Reads as rates-from-ra
 use Rattle.codes.proofs.flags.PcmRates.from_number.Reads as rates-from-number
 use Rattle.codes.proofs.flags.PcmRates.contains.Reads as rates-contains
 use Rattle.codes.proofs.answers.Refusal.number.Reads as refusal-number
+use Rattle.codes.proofs.answers.Refusal.word.Reads as refusal-word
+use Rattle.codes.proofs.answers.Cause.word.Reads as cause-word
 
 -- ---- the way back from what is said to what was returned: number 0 is the case found by its value; any other is the refusal
 
@@ -180,9 +182,13 @@ status-of SBadMsg = refl
 status-of SNotSupp = refl
 status-of SIoErr = refl
 
-status-answer : (a : FoundStatus) → answer foundStatus.Is foundStatus.IoError statusOf (saysStatus a) ≡ a
+foundOf : Says → FoundStatus
+foundOf s = pick (eqb (s .number) 0) (foundStatus.Is (statusOf (getD (s .values) 0 0))) (foundStatus.Unknown (getD (s .values) 0 0))
+
+status-answer : (a : FoundStatus) → foundOf (saysStatus a) ≡ a
+unfolding foundOf
 status-answer (foundStatus.Is c) = ap foundStatus.Is (status-of c)
-status-answer foundStatus.IoError = refl
+status-answer (foundStatus.Unknown n) = refl
 
 bit-answer : (a : FoundBit) → answer foundBit.Is foundBit.InvalidParam (λ b. b) (saysBit a) ≡ a
 bit-answer (foundBit.Is b) = refl
@@ -230,7 +236,7 @@ pub status-code-one : (κs : _) (a : _) (r₁ r₂ : _) (e₁ e₂ : _) → stat
 status-code-one κs a r₁ r₂ e₁ e₂ p q = same p q
 
 pub status-from-code-one : (κs : _) (a : _) (r₁ r₂ : _) (e₁ e₂ : _) → status-from-code.Post κs a r₁ e₁ → status-from-code.Post κs a r₂ e₂ → r₁ ≡ r₂
-status-from-code-one κs a r₁ r₂ e₁ e₂ p q = one saysStatus (answer foundStatus.Is foundStatus.IoError statusOf) status-answer p q
+status-from-code-one κs a r₁ r₂ e₁ e₂ p q = one saysStatus foundOf status-answer p q
 
 pub jack-features-from-bits-retain-one : (κs : _) (a : _) (r₁ r₂ : _) (e₁ e₂ : _) → jack-features-from-bits-retain.Post κs a r₁ e₁ → jack-features-from-bits-retain.Post κs a r₂ e₂ → r₁ ≡ r₂
 jack-features-from-bits-retain-one κs a r₁ r₂ e₁ e₂ p q = one (λ (x : JackFeatures). x .bits) (λ b. record { bits = b }) (λ x. refl) p q
@@ -273,6 +279,12 @@ rates-contains-one κs a r₁ r₂ e₁ e₂ p q = same p q
 
 pub refusal-number-one : (κs : _) (a : _) (r₁ r₂ : _) (e₁ e₂ : _) → refusal-number.Post κs a r₁ e₁ → refusal-number.Post κs a r₂ e₂ → r₁ ≡ r₂
 refusal-number-one κs a r₁ r₂ e₁ e₂ p q = same p q
+
+pub refusal-word-one : (κs : _) (a : _) (r₁ r₂ : _) (e₁ e₂ : _) → refusal-word.Post κs a r₁ e₁ → refusal-word.Post κs a r₂ e₂ → r₁ ≡ r₂
+refusal-word-one κs a r₁ r₂ e₁ e₂ p q = same p q
+
+pub cause-word-one : (κs : _) (a : _) (r₁ r₂ : _) (e₁ e₂ : _) → cause-word.Post κs a r₁ e₁ → cause-word.Post κs a r₂ e₂ → r₁ ≡ r₂
+cause-word-one κs a r₁ r₂ e₁ e₂ p q = same p q
 
 pub status-is-ok-one : (κs : _) (a : _) (r₁ r₂ : _) (e₁ e₂ : _) → status-is-ok.Post κs a r₁ e₁ → status-is-ok.Post κs a r₂ e₂ → r₁ ≡ r₂
 status-is-ok-one κs a r₁ r₂ e₁ e₂ p q = same p q

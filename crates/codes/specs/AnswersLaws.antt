@@ -12,8 +12,8 @@ pub record Numbered (r : Refusal) : Type 0 where
 
 pub numbered : (r : Refusal) → Numbered r
 numbered refusal.InvalidParam = record { least = omega arith; small = omega arith }
-numbered refusal.IoError = record { least = omega arith; small = omega arith }
-numbered refusal.Unsupported = record { least = omega arith; small = omega arith }
+numbered (refusal.IoError c) = record { least = omega arith; small = omega arith }
+numbered (refusal.Unsupported c) = record { least = omega arith; small = omega arith }
 numbered refusal.NoInfo = record { least = omega arith; small = omega arith }
 numbered refusal.TooMany = record { least = omega arith; small = omega arith }
 numbered refusal.WrongToken = record { least = omega arith; small = omega arith }

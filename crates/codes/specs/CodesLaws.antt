@@ -33,5 +33,8 @@ not-among X n (c ∷ cs) m =
     let r = not-among (X × (n ≡ c → ⊥)) n cs m in
     (r .0 .0, ap (λ (t : Bool). pick t true (among n cs)) (ne-eqb n c (r .0 .1)) ∙ r .1)
 
+pub no-code : (cs : List ℕ) (n : ℕ) → MissesOf (Unit {0}) n cs → among n cs ≡ false
+no-code cs n m = not-among (Unit {0}) n cs m .1
+
 pub code-refused : (cs : List ℕ) (refusal n : ℕ) → MissesOf (Unit {0}) n cs → codeSays cs refusal n ≡ says refusal []
-code-refused cs refusal n m = skips _ _ _ (not-among (Unit {0}) n cs m .1)
+code-refused cs refusal n m = skips _ _ _ (no-code cs n m)

@@ -9,6 +9,7 @@ pub mod Requests
 pub mod Statuses
 pub mod Answers
 pub mod Life
+pub mod Cause
 -- laws
 pub mod SaysLaws
 pub mod CodesLaws

@@ -12,6 +12,7 @@ mod requests;
 mod statuses;
 mod tests;
 
+pub use answers::Cause;
 pub use answers::Refusal;
 pub use events::FoundNotification;
 pub use events::NotificationType;

@@ -1,7 +1,6 @@
 // Status codes of an answer.
 ghost use mathlib.Core.Path.{_≡_};
-ghost use Rattle.codes.specs.Codes.{codeSays};
-ghost use Rattle.codes.specs.Statuses.{statusCodes, statusCode, saysStatus, isOk};
+ghost use Rattle.codes.specs.Statuses.{statusCode, saysStatus, statusSays, isOk};
 
 pub enum StatusCode {
     SOk,
@@ -10,10 +9,10 @@ pub enum StatusCode {
     SIoErr,
 }
 
-// What the status of an answer is.
+// What the status of an answer is: one of the four, or a number that the standard does not name.
 pub enum FoundStatus {
     Is(StatusCode),
-    IoError,
+    Unknown(u32),
 }
 
 impl StatusCode {
@@ -37,14 +36,14 @@ impl StatusCode {
     }
 
     pub fn from_code(code: u32) -> FoundStatus
-        ensures { λ r. ⌜ saysStatus r ≡ codeSays statusCodes 2 code ⌝ }
+        ensures { λ r. ⌜ saysStatus r ≡ statusSays code ⌝ }
     {
         match code {
             0x8000 => FoundStatus::Is(StatusCode::SOk),
             0x8001 => FoundStatus::Is(StatusCode::SBadMsg),
             0x8002 => FoundStatus::Is(StatusCode::SNotSupp),
             0x8003 => FoundStatus::Is(StatusCode::SIoErr),
-            _ => FoundStatus::IoError,
+            _ => FoundStatus::Unknown(code),
         }
     }
 }
@@ -55,7 +54,7 @@ impl FoundStatus {
     {
         match self {
             FoundStatus::Is(code) => code.code() == StatusCode::OK,
-            FoundStatus::IoError => false,
+            FoundStatus::Unknown(_) => false,
         }
     }
 }

@@ -13,20 +13,19 @@ use Rattle.layout.specs.Lent.{Made, messageSize}
 use Rattle.layout.specs.WrittenLaws.{Again}
 use Rattle.codes.specs.AnswersLaws.{numbered}
 use Rattle.turns.specs.Cut.{cut}
-use Rattle.turns.specs.Ring.{saysSaid}
+use Rattle.turns.specs.Ring.{saidWord}
 use Rattle.turns.specs.Log.{turnByTurn}
 use Rattle.turns.specs.Asked.{NoFault, CompletesWithin, Whole}
 use Rattle.turns.specs.declared.ring.Ring.{Ring}
 use Rattle.turns.specs.declared.ring.Said.{Said}
 use Rattle.turns.specs.declared.ring.Said.the-variants.{Going, Done, Ended, Refused}
 use Rattle.turns.specs.declared.reading.Reading.{Reading}
-use Rattle.exchange.specs.Xfer.{startOf, saysXfer}
+use Rattle.exchange.specs.Xfer.{startOf, xferWord}
 use Rattle.exchange.specs.Kept.{Playable}
 use Rattle.exchange.specs.XferLaws.{start-by}
 use Rattle.exchange.specs.declared.state.Sound.{Sound}
 use Rattle.exchange.specs.Demand as exchange
 use Rattle.exchange.specs.Demand.{periodOf, starting, playing}
-use Rattle.exchange.specs.declared.xfer.XferReply.{XferReply}
 use Rattle.exchange.specs.declared.xfer.XferReply.the-variants.{Says}
 use Rattle.ring_store.specs.Store.{ringSize, trackAt, ringOf}
 use Rattle.ring_store.specs.Run.{Words, readingBy, turnByTurnIn, Holds, run-holds, start-again}
@@ -47,21 +46,21 @@ abbrev pub playsIn : List ℕ → List ℕ → List ℕ → ℕ → ℕ → List
 playsIn s ring m stream budget frames script = turnByTurnIn (length frames) budget (startsIn s ring m stream budget frames .ring) script
 
 -- 0 is said by Done alone, and 512 at a start by Going alone
-done-by : (said : Said) → saysSaid said .number ≡ 0 → said ≡ Done
+done-by : (said : Said) → saidWord said ≡ 0 → said ≡ Done
 done-by Going e = absurd (omega arith)
 done-by Done e = refl
 done-by (Ended r) e = absurd (omega (arith, numbered r .least))
 done-by (Refused r) e = absurd (omega (arith, numbered r .least))
 
-going-by : (said : Said) → saysSaid said .number ≡ 512 → said ≡ Going
+going-by : (said : Said) → saidWord said ≡ 512 → said ≡ Going
 going-by Going e = refl
 going-by Done e = absurd (omega arith)
 going-by (Ended r) e = absurd (omega (arith, numbered r .small))
 going-by (Refused r) e = absurd (omega (arith, numbered r .small))
 
-goes-on : (x : Sound) (y : Ring) (stream len budget n : ℕ) → saysXfer (startOf x y stream len budget n .reply) .number ≡ 512 → startOf x y stream len budget n .reply ≡ Says Going
+goes-on : (x : Sound) (y : Ring) (stream len budget n : ℕ) → xferWord (startOf x y stream len budget n .reply) ≡ 512 → startOf x y stream len budget n .reply ≡ Says Going
 goes-on x y stream len budget n =
-    start-by (λ z. saysXfer (z .reply) .number ≡ 512 → z .reply ≡ Says Going) x y stream len budget n
+    start-by (λ z. xferWord (z .reply) ≡ 512 → z .reply ≡ Says Going) x y stream len budget n
     (λ w e. absurd (omega (arith, numbered w .small))) (λ _ _ _ e. absurd (omega arith)) (λ e. ap Says (going-by _ e))
 
 module _ (s ring m : List ℕ) (b : Bytes s) (c : Bytes ring) (h : stateSize ≤ length s) (k : ringSize ≤ length ring) (stream budget : ℕ) (frames : List ℕ)
@@ -85,7 +84,7 @@ module _ (s ring m : List ℕ) (b : Bytes s) (c : Bytes ring) (h : stateSize ≤
       (start-entry-holds s ring m b c h k stream (length frames) budget p q r)
       (run-holds (startsIn s ring m stream budget frames .ring) (again .0) (omega (arith, again .1)) (length frames) budget script)
 
-  start-says : startsIn s ring m stream budget frames .answer ≡ saysXfer (starting (soundOf s) (ringOf ring) stream budget (length m) frames .reply) .number
+  start-says : startsIn s ring m stream budget frames .answer ≡ xferWord (starting (soundOf s) (ringOf ring) stream budget (length m) frames .reply)
   start-says = ap (λ (x : Begun). x .answer) (entry-is s ring m b c h k stream (length frames) budget)
 
   -- THE FIRST HALF: the start answers 512, and then a turn answers 0, no later than turn n * g + 1
@@ -96,8 +95,8 @@ module _ (s ring m : List ℕ) (b : Bytes s) (c : Bytes ring) (h : stateSize ≤
       → (playsIn s ring m stream budget frames script .answer ≡ 0) × (length log ≤ length (cut (periodOf (soundOf s) stream) frames) * g + 1))
   entries-in-time g o long pos enough =
       let a = exchange.ok-in-time (soundOf s) (ringOf ring) stream budget (length m) g frames readings o long pos enough in (
-        start-says ∙ ap (λ (x : XferReply). saysXfer x .number) (a .0),
-        λ right within. let d = a .1 right within in (run-is .1 ∙ ap (λ (x : Said). saysSaid x .number) (d .0), d .1),
+        start-says ∙ ap xferWord (a .0),
+        λ right within. let d = a .1 right within in (run-is .1 ∙ ap saidWord (d .0), d .1),
       )
 
   -- THE SECOND HALF, with no premise about the queue: a turn answers 0 only where all periods went out in order, were completed with 0x8000, and are the frames

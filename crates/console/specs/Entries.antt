@@ -7,14 +7,18 @@ use Prim.Native.Nat.{ℕ}
 use lib.Dec.{leb, eqb}
 use lib.ListN.{length}
 use lib.Seq.{sets}
-use Rattle.layout.specs.Bytes.{le}
+use Rattle.layout.specs.Bytes.{le, numAt}
 use Rattle.layout.specs.Layout.{read, write}
 use Rattle.layout.specs.Rows.{rowsBytes}
 use Rattle.codes.specs.Says.{pick, guard}
+use Rattle.codes.specs.Codes.{among}
+use Rattle.codes.specs.Events.{eventCodes}
+use Rattle.codes.specs.Answers.{refusalWord}
+use Rattle.codes.specs.declared.answers.Cause.the-variants.{NoStatus}
+use Rattle.codes.specs.declared.answers.Refusal.the-variants.{IoError}
 use Rattle.turns.specs.Ring.{isRefused}
 use Rattle.records.specs.Records.{event}
-use Rattle.records.specs.Notice.{eventSays}
-use Rattle.exchange.specs.Xfer.{startOf, xferMessage, saysXfer}
+use Rattle.exchange.specs.Xfer.{startOf, xferMessage, xferWord}
 use Rattle.core.specs.declared.state.Call.{Call}
 use Rattle.exchange.specs.declared.xfer.XferReply.{XferReply}
 use Rattle.exchange.specs.declared.xfer.XferReply.the-variants.{Send, Says}
@@ -57,7 +61,7 @@ ringThen (Says x) old new = pick (isRefused x) old new
 abbrev pub begun : List ℕ → List ℕ → ℕ → List ℕ → XferStep → Begun
 begun s ring stream m x =
     record {
-      answer = saysXfer (x .reply) .number;
+      answer = xferWord (x .reply);
       state = stateAfter s (x .sound);
       ring = ringThen (x .reply) ring (sets ring 0 (ringBytes (x .ring)));
       message = xferMessage (x .reply) (soundOf s) stream m;
@@ -68,14 +72,14 @@ startEntry s ring stream len budget m =
     guard (leb stateSize (length s) && leb ringSize (length ring)) (began 10 s ring m)
     (begun s ring stream m (startOf (soundOf s) (ringOf ring) stream len budget (length m)))
 
--- ---- an event: its code 4 and its data 4 in the result; 513 where it says nothing
+-- ---- an event: its code 4 and its data 4 in the result; 513 where it says nothing; an unknown code is 2, which no status caused
 
 unfoldable pub noticeEntry : List ℕ → List ℕ → Shown
 noticeEntry e r =
-    let x = eventSays (read event e) in
     guard (leb resultSize (length r)) (shown 10 r)
     (guard (eqb (length e) 8) (shown 513 r)
-    (shown (x .number) (sets r 0 (rowsBytes (le 4) (x .values)))))
+    (guard (among (numAt 0 4 e) eventCodes) (shown (refusalWord (IoError NoStatus)) r)
+    (shown 0 (sets r 0 (rowsBytes (le 4) (read event e))))))
 
 -- ---- a WAVE file that is read: where its data chunk is, offset 8 and length 8, and its sound as set parameters takes it, channels 1, format 1, rate 1
 

@@ -15,12 +15,14 @@ use Rattle.layout.specs.BytesLaws.{length-le}
 use Rattle.layout.specs.StoreLaws.{sets-then}
 use Rattle.codes.specs.Says.{Says, says, pick, guard}
 use Rattle.codes.specs.SaysLaws.{passes, stops}
-use Rattle.codes.specs.Answers.{saysRefusal}
+use Rattle.codes.specs.Answers.{refusalWord}
 use Rattle.codes.specs.Codes.{among}
 use Rattle.codes.specs.Events.{eventCodes, eventCode}
+use Rattle.codes.specs.declared.answers.Cause.the-variants.{NoStatus}
 use Rattle.codes.specs.declared.answers.Refusal.{Refusal}
+use Rattle.codes.specs.declared.answers.Refusal.the-variants.{IoError}
 use Rattle.records.specs.Records.{event}
-use Rattle.records.specs.Notice.{saysNotice, eventSays, noticeSays}
+use Rattle.records.specs.Notice.{saysNotice, noticeSays}
 use Rattle.records.specs.declared.event.Notice.{Notice}
 use Rattle.records.specs.declared.event.Notice.the-variants as notice
 use Rattle.turns.specs.Calls.{startCall, startedOf}
@@ -44,27 +46,25 @@ use Rattle.console.specs.Entries.{Begun, began, begun, startEntry, notic
 -- what is told of a notice
 abbrev pub noticed : Notice → List ℕ → Shown
 noticed (notice.Is k d) r = shown 0 (sets r 0 (rowsBytes (le 4) (eventCode k ∷ d ∷ [])))
-noticed notice.IoError r = shown 2 r
+noticed notice.IoError r = shown (refusalWord (IoError NoStatus)) r
 noticed notice.Nothing r = shown 513 r
 
-notice-by : (t : Bool) (x : Says) (r : List ℕ) (n : Notice) → saysNotice n ≡ pick t x (says 0 []) → (says 0 [] ≡ x → ⊥)
-    → noticed n r ≡ guard t (shown 513 r) (shown (x .number) (sets r 0 (rowsBytes (le 4) (x .values))))
+notice-by : (t u : Bool) (vs r : List ℕ) (n : Notice) → saysNotice n ≡ pick t (pick u (says 0 vs) (says 2 [])) (says 0 []) → length vs ≡ 2
+    → noticed n r ≡ guard t (shown 513 r) (guard u (shown (refusalWord (IoError NoStatus)) r) (shown 0 (sets r 0 (rowsBytes (le 4) vs))))
 unfolding guard rowsBytes
-notice-by true x r (notice.Is k d) e h = ap (λ (y : Says). shown (y .number) (sets r 0 (rowsBytes (le 4) (y .values)))) e
-notice-by true x r notice.IoError e h = ap (λ (y : Says). shown (y .number) (sets r 0 (rowsBytes (le 4) (y .values)))) e
-notice-by true x r notice.Nothing e h = absurd (h e)
-notice-by false x r (notice.Is k d) e h = let z : _≡_ {A = ℕ} 2 0 = ap (λ (y : Says). length (y .values)) e in absurd (omega arith)
-notice-by false x r notice.IoError e h = let z : _≡_ {A = ℕ} 2 0 = ap (λ (y : Says). y .number) e in absurd (omega arith)
-notice-by false x r notice.Nothing e h = refl
-
--- an event of 8 bytes says something
-says-something : (t : Bool) (a b : ℕ) → says 0 [] ≡ pick t (says 0 (a ∷ b ∷ [])) (says 2 []) → ⊥
-says-something true a b e = let z : _≡_ {A = ℕ} 0 2 = ap (λ (y : Says). length (y .values)) e in omega arith
-says-something false a b e = let z : _≡_ {A = ℕ} 0 2 = ap (λ (y : Says). y .number) e in omega arith
+notice-by true true vs r (notice.Is k d) e h = ap (λ (y : Says). shown 0 (sets r 0 (rowsBytes (le 4) (y .values)))) e
+notice-by true true vs r notice.IoError e h = let z : _≡_ {A = ℕ} 2 0 = ap (λ (y : Says). y .number) e in absurd (omega arith)
+notice-by true true vs r notice.Nothing e h = let z : 0 ≡ length vs = ap (λ (y : Says). length (y .values)) e in absurd (omega arith)
+notice-by true false vs r (notice.Is k d) e h = let z : _≡_ {A = ℕ} 0 2 = ap (λ (y : Says). y .number) e in absurd (omega arith)
+notice-by true false vs r notice.IoError e h = refl
+notice-by true false vs r notice.Nothing e h = let z : _≡_ {A = ℕ} 0 2 = ap (λ (y : Says). y .number) e in absurd (omega arith)
+notice-by false u vs r (notice.Is k d) e h = let z : _≡_ {A = ℕ} 2 0 = ap (λ (y : Says). length (y .values)) e in absurd (omega arith)
+notice-by false u vs r notice.IoError e h = let z : _≡_ {A = ℕ} 2 0 = ap (λ (y : Says). y .number) e in absurd (omega arith)
+notice-by false u vs r notice.Nothing e h = refl
 
 pub noticed-is : (e r : List ℕ) (n : Notice) → leb resultSize (length r) ≡ true → saysNotice n ≡ noticeSays e → noticed n r ≡ noticeEntry e r
 unfolding noticeEntry
-noticed-is e r n long h = passes _ _ _ long (notice-by (eqb (length e) 8) (eventSays (read event e)) r n h (says-something (among (numAt 0 4 e) eventCodes) (numAt 0 4 e) (numAt 4 4 e)))
+noticed-is e r n long h = passes _ _ _ long (notice-by (eqb (length e) 8) (among (numAt 0 4 e) eventCodes) (read event e) r n h refl)
 
 -- its two numbers, put one after the other
 pub two-put : (r r₁ r₂ : List ℕ) (a b x : ℕ) → x ≡ a → r₁ ≡ sets r 0 (le 4 x) → r₂ ≡ sets r₁ 4 (le 4 b) → r₂ ≡ sets r 0 (rowsBytes (le 4) (a ∷ b ∷ []))
@@ -102,7 +102,7 @@ module _ (s ring : List ℕ) (stream len budget : ℕ) where
   module _ (m : List ℕ) (bytes : Bytes s) (room : leb ringSize (length ring) ≡ true) where
     -- each end of the checks
     refused-end : (x : Refusal) → startBy (shut s m x) ≡ begun s ring stream m (refusedStep (soundOf s) (ringOf ring) x)
-    refused-end x = ap (λ (l : List ℕ). began (saysRefusal x .number) l ring m) (sym (unchanged s bytes))
+    refused-end x = ap (λ (l : List ℕ). began (refusalWord x) l ring m) (sym (unchanged s bytes))
 
     set-up-end : startBy (settingUp s stream m) ≡ begun s ring stream m (setUpStep (soundOf s) (ringOf ring) stream)
     set-up-end = refl

@@ -3,6 +3,8 @@ ghost use mathlib.Core.Path.{_≡_};
 ghost use Rattle.layout.specs.Lent.{shown};
 ghost use Rattle.console.specs.Entries.{noticeEntry};
 use crate::calls::BAD_LENGTH;
+use codes::Cause;
+use codes::Refusal;
 use records::Notice;
 use records::latest_notification;
 
@@ -22,7 +24,7 @@ pub extern "C" fn snd_latest_notification(event: &[u8], result: &mut [u8]) -> u6
             layout::put_u32(result, 4, data);
             0
         }
-        Notice::IoError => 2,
+        Notice::IoError => Refusal::IoError(Cause::NoStatus).word(),
         Notice::Nothing => NOTHING,
     }
 }

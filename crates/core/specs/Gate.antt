@@ -11,7 +11,7 @@ use Rattle.turns.specs.Calls.{idleOf}
 use Rattle.turns.specs.Consistent as ring
 use Rattle.core.specs.Consistent.{consistentOf, streamOk, heldTo}
 use Rattle.core.specs.Plan.{isIdle}
-use Rattle.core.specs.Types.{Refusal, InvalidParam, IoError, Busy, BadLength, BadState, Track, Core, Params, Gate, Shut, SetUp, Open}
+use Rattle.core.specs.Types.{NoStatus, Refusal, InvalidParam, IoError, Busy, BadLength, BadState, Track, Core, Params, Gate, Shut, SetUp, Open}
 
 -- what is left of the checks once state and ring are at rest: set-up, range, where the stream is in its lifecycle, parameters
 abbrev pub restBy : {A : Type 0} → Core → Params → ℕ → ℕ → (Refusal → A) → A → (ℕ → A) → A
@@ -19,7 +19,7 @@ restBy c p life stream refuse setUp go =
     guard (c .ready) setUp
     (guard (ltb stream (c .counts .streams)) (refuse InvalidParam)
     (guard (heldTo (c .guard) (takesOf life)) (refuse BadState)
-    (guard (not (eqb (p .known) 0)) (refuse IoError)
+    (guard (not (eqb (p .known) 0)) (refuse (IoError NoStatus))
     (go (p .period)))))
 
 -- THE CHECKS, in their order, over what is done at each end: the lengths, the consistency of state, ring and stream, Busy, and the rest.

@@ -18,7 +18,7 @@ use Rattle.core.specs.Consistent.{periodOk, callOk, heldTo, consistentOf
 use Rattle.core.specs.declared.plan.Request.the-variants as request
 use Rattle.core.specs.declared.plan.Value.the-variants as value
 use Rattle.core.specs.declared.plan.Look.the-variants as look
-use Rattle.core.specs.Types.{Written, Refusal, InvalidParam, IoError, Unsupported, NoInfo, TooMany, Busy, BadLength, BadState, SetParameters, Verdict, Track, Counts, Params, Kind, Prepare, Release, Start, Stop, Call, SetParams, Command, Remap, Streams, Supported, Xfer, Stage, Idle, JacksAsked, StreamsAsked, MapsAsked, Sent, Core, Request, Value, Look, Say, Send, Done, Refused, Effect, Nothing, FillJacks, FillStreams, FillMaps, Store, Move, Plan}
+use Rattle.core.specs.Types.{Written, Cause, NoStatus, Status, Refusal, InvalidParam, IoError, Unsupported, NoInfo, TooMany, Busy, BadLength, BadState, SetParameters, Verdict, Track, Counts, Params, Kind, Prepare, Release, Start, Stop, Call, SetParams, Command, Remap, Streams, Supported, Xfer, Stage, Idle, JacksAsked, StreamsAsked, MapsAsked, Sent, Core, Request, Value, Look, Say, Send, Done, Refused, Effect, Nothing, FillJacks, FillStreams, FillMaps, Store, Move, Plan}
 
 -- ---- four ways to go on
 
@@ -117,7 +117,7 @@ unfoldable pub ownRemap : Core → ℕ → ℕ → ℕ → Look → Plan
 ownRemap c jack association sequence look =
     guard (ltb jack (c .counts .jacks)) (refusing c InvalidParam)
     (guard (not (eqb (c .read .jacks) 0)) (refusing c NoInfo)
-    (guard (canRemap look) (refusing c Unsupported)
+    (guard (canRemap look) (refusing c (Unsupported NoStatus))
     (sendOf c (Sent (Remap jack association sequence)) (request.Remap (record { code = 0x0002; jack = jack; association = association; sequence = sequence })) Nothing)))
 
 -- "stream too high 1, else the stored bits"
@@ -129,7 +129,7 @@ unfoldable pub ownXfer : Core → ℕ → Look → Plan
 ownXfer c stream look =
     guard (ltb stream (c .counts .streams)) (refusing c InvalidParam)
     (guard (heldTo (c .guard) (takesOf (lifeIn look))) (refusing c BadState)
-    (refusing c IoError))
+    (refusing c (IoError NoStatus)))
 
 abbrev pub ownOf : Core → Call → Look → Plan
 ownOf c (SetParams stream to) look = ownSet c stream to look
@@ -162,6 +162,12 @@ beginOf c t call look =
 
 -- ---- AN ANSWER, by what was asked. A page and a failure of the queue both come as a verdict
 
+-- "2 and 3 .. carry the status that caused them, or none": the header's word, where that is not ok
+abbrev pub causeOf : Verdict → Cause
+causeOf verdict.Good = NoStatus
+causeOf (verdict.Status word) = Status word
+causeOf (verdict.Refused r) = NoStatus
+
 -- `status` is what a status that is not ok says to the call
 abbrev pub refusalOf : Refusal → Verdict → Refusal
 refusalOf status verdict.Good = status
@@ -182,7 +188,7 @@ afterJacks c call v =
 -- "On streams it ends the call with 2 or 7."
 unfoldable pub afterStreams : Core → Call → Verdict → Plan
 afterStreams c call v =
-    guard (isGood v) (cutShortOf c (refusalOf IoError v))
+    guard (isGood v) (cutShortOf c (refusalOf (IoError (causeOf v)) v))
     (sendOf (readTo c (c .read .jacks) (c .counts .streams) 0 false) (MapsAsked call) (queryOf 0x0200 (c .counts .maps) (size channelMap)) (FillStreams (c .counts .streams)))
 
 -- "A set-up finished in a call stays done however that call ends."
@@ -215,16 +221,16 @@ effectOf (Supported field stream) = Nothing
 effectOf (Xfer stream) = Nothing
 
 -- what a status that is not ok says: 3 "remap status not ok", else 2
-abbrev pub statusRefusal : Call → Refusal
-statusRefusal (SetParams stream to) = IoError
-statusRefusal (Command kind stream) = IoError
-statusRefusal (Remap jack association sequence) = Unsupported
-statusRefusal (Streams direction) = IoError
-statusRefusal (Supported field stream) = IoError
-statusRefusal (Xfer stream) = IoError
+abbrev pub statusRefusal : Call → Cause → Refusal
+statusRefusal (SetParams stream to) cause = IoError cause
+statusRefusal (Command kind stream) cause = IoError cause
+statusRefusal (Remap jack association sequence) cause = Unsupported cause
+statusRefusal (Streams direction) cause = IoError cause
+statusRefusal (Supported field stream) cause = IoError cause
+statusRefusal (Xfer stream) cause = IoError cause
 
 unfoldable pub afterSent : Core → Call → Verdict → Plan
-afterSent c call v = guard (isGood v) (refusing c (refusalOf (statusRefusal call) v)) (endOf c (Done value.Nothing) (effectOf call))
+afterSent c call v = guard (isGood v) (refusing c (refusalOf (statusRefusal call (causeOf v)) v)) (endOf c (Done value.Nothing) (effectOf call))
 
 abbrev pub answerBy : Stage → Core → Verdict → Look → Plan
 answerBy Idle c v look = refuseOf c InvalidParam

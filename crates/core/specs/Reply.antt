@@ -7,7 +7,7 @@ use lib.ListN.{length, drop}
 use Rattle.layout.specs.Lent.{messageSize}
 use Rattle.layout.specs.Layout.{write}
 use Rattle.codes.specs.Says.{Says, says, guard}
-use Rattle.codes.specs.Answers.{saysRefusal}
+use Rattle.codes.specs.Answers.{saysRefusal, refusalWord}
 use Rattle.records.specs.Records.{query, queryValues, remap, remapValues, pcmCommand, pcmCommandValues, setParameters, setParametersValues}
 use Rattle.core.specs.declared.plan.Request.the-variants as request
 use Rattle.core.specs.declared.plan.Value.the-variants as value
@@ -39,6 +39,12 @@ abbrev pub saysReply : Reply → Says
 saysReply (reply.Send n) = says (256 + n) []
 saysReply (reply.Done v) = says 0 (valuesOf v)
 saysReply (reply.Refused r) = saysRefusal r
+
+-- the same as one word at the C boundary: a refusal's status stands in its high half
+abbrev pub replyWord : Reply → ℕ
+replyWord (reply.Send n) = 256 + n
+replyWord (reply.Done v) = 0
+replyWord (reply.Refused r) = refusalWord r
 
 abbrev pub replyOf : Say → Reply
 replyOf (Send q) = reply.Send (length (requestBytes q))

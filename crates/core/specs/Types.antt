@@ -1,5 +1,7 @@
 -- The types of the code, and their cases, as definitions and laws name them. Where two bear one name, the other stands beside its use.
 -- Assumes nothing.
+pub use Rattle.codes.specs.declared.answers.Cause.{Cause}
+pub use Rattle.codes.specs.declared.answers.Cause.the-variants.{NoStatus, Status}
 pub use Rattle.codes.specs.declared.answers.Refusal.{Refusal}
 pub use Rattle.codes.specs.declared.answers.Refusal.the-variants.{InvalidParam, IoError, Busy, BadLength, Unsupported, NoInfo, TooMany, BadState}
 pub use Rattle.records.specs.declared.control.SetParameters.{SetParameters}

@@ -11,7 +11,7 @@ use Rattle.core.specs.Consistent.{heldTo, periodOk, sentOk}
 use Rattle.core.specs.Plan.{sendOf, kindCode, setOf, refusing, ownSet, ownCommand, ownXfer}
 use Rattle.core.specs.Gate.{restBy}
 use Rattle.core.specs.declared.plan.Request.the-variants as request
-use Rattle.core.specs.Types.{Refusal, InvalidParam, IoError, Params, Kind, Command, SetParams, Sent, Core, Look, Nothing}
+use Rattle.core.specs.Types.{NoStatus, Refusal, InvalidParam, IoError, Params, Kind, Command, SetParams, Sent, Core, Look, Nothing}
 
 module _ (c : Core) (off : c .guard ≡ false) where
   -- a test that is made under the guard alone refuses nothing
@@ -31,14 +31,14 @@ module _ (c : Core) (off : c .guard ≡ false) where
   unfolding ownCommand
   off-command kind stream look = unheld _ _ _ ∙ unheld _ _ _
 
-  pub off-xfer : (stream : ℕ) (look : Look) → ownXfer c stream look ≡ guard (ltb stream (c .counts .streams)) (refusing c InvalidParam) (refusing c IoError)
+  pub off-xfer : (stream : ℕ) (look : Look) → ownXfer c stream look ≡ guard (ltb stream (c .counts .streams)) (refusing c InvalidParam) (refusing c (IoError NoStatus))
   unfolding ownXfer
   off-xfer stream look = ap (guard _ _) (unheld _ _ _)
 
   pub off-gate : {A : Type 0} (p : Params) (life stream : ℕ) (refuse : Refusal → A) (setUp : A) (go : ℕ → A) → restBy c p life stream refuse setUp go
       ≡ guard (c .ready) setUp
       (guard (ltb stream (c .counts .streams)) (refuse InvalidParam)
-      (guard (not (eqb (p .known) 0)) (refuse IoError)
+      (guard (not (eqb (p .known) 0)) (refuse (IoError NoStatus))
       (go (p .period))))
   off-gate p life stream refuse setUp go = ap (guard _ _) (ap (guard _ _) (unheld _ _ _))
 

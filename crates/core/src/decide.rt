@@ -5,7 +5,7 @@ ghost use Rattle.layout.specs.Layout.{size};
 ghost use Rattle.codes.specs.Says.{pick};
 ghost use Rattle.codes.specs.Life.{permitsOf};
 ghost use Rattle.core.specs.Consistent.{heldTo};
-ghost use Rattle.core.specs.Plan.{sendOf, endOf, refuseOf, cutShortOf, queryOf, kindCode, kindLife, setOf, lifeIn, ownSet, ownCommand, ownRemap, ownSupported, ownXfer, ownOf, isIdle, setUpOf, beginOf, refusalOf, afterJacks, afterStreams, afterMaps, storedOf, effectOf, afterSent, answerBy, answerOf, canRemap, foundOf, statusRefusal};
+ghost use Rattle.core.specs.Plan.{sendOf, endOf, refuseOf, cutShortOf, queryOf, kindCode, kindLife, setOf, lifeIn, ownSet, ownCommand, ownRemap, ownSupported, ownXfer, ownOf, isIdle, setUpOf, beginOf, refusalOf, afterJacks, afterStreams, afterMaps, storedOf, effectOf, afterSent, answerBy, answerOf, canRemap, foundOf, causeOf, statusRefusal};
 ghost use Rattle.core.specs.declared.state.Stage.the-variants.{JacksAsked};
 ghost use Rattle.core.specs.declared.plan.Effect.the-variants as done;
 use crate::consistency::call_ok;
@@ -24,6 +24,7 @@ use crate::state::Counts;
 use crate::state::Kind;
 use crate::state::Params;
 use crate::state::Stage;
+use codes::Cause;
 use codes::JackFeatures;
 use codes::Refusal;
 use codes::both;
@@ -243,7 +244,11 @@ fn own_remap(c: Core, jack: u32, association: u32, sequence: u32, look: Look) ->
         return end(c, Say::Refused(Refusal::NoInfo), Effect::Nothing);
     }
     if !can_remap(look) {
-        return end(c, Say::Refused(Refusal::Unsupported), Effect::Nothing);
+        return end(
+            c,
+            Say::Refused(Refusal::Unsupported(Cause::NoStatus)),
+            Effect::Nothing,
+        );
     }
     let call = Call::Remap {
         jack,
@@ -291,7 +296,11 @@ fn own_xfer(c: Core, stream: u32, look: Look) -> Plan
     if !taken {
         return end(c, Say::Refused(Refusal::BadState), Effect::Nothing);
     }
-    end(c, Say::Refused(Refusal::IoError), Effect::Nothing)
+    end(
+        c,
+        Say::Refused(Refusal::IoError(Cause::NoStatus)),
+        Effect::Nothing,
+    )
 }
 
 fn own(c: Core, call: Call, look: Look) -> Plan
@@ -367,6 +376,17 @@ pub fn begin(c: Core, t: Track, call: Call, look: Look) -> Plan
 
 // ---- an answer, by what was asked
 
+// The status that caused a refusal: the header's word, where it is not ok.
+fn cause(v: Verdict) -> Cause
+    ensures { λ r. ⌜ r ≡ causeOf v ⌝ }
+{
+    match v {
+        Verdict::Good => Cause::NoStatus,
+        Verdict::Status(word) => Cause::Status(word),
+        Verdict::Refused(_) => Cause::NoStatus,
+    }
+}
+
 // `status` is what a status that is not ok says to the call.
 fn refusal(status: Refusal, v: Verdict) -> Refusal
     ensures { λ r. ⌜ r ≡ refusalOf status v ⌝ }
@@ -426,7 +446,8 @@ fn after_streams(c: Core, call: Call, v: Verdict) -> Plan
     };
     let q = query(ChannelMap::CODE, c.counts.maps, ChannelMap::SIZE as u32);
     if !is_good(v) {
-        return cut_short(c, refusal(Refusal::IoError, v));
+        let r = refusal(Refusal::IoError(cause(v)), v);
+        return cut_short(c, r);
     }
     let core = Core {
         read,
@@ -503,24 +524,24 @@ fn effect_of(call: Call) -> Effect
     }
 }
 
-// What a status that is not ok says to a call.
-fn status_refusal(call: Call) -> Refusal
-    ensures { λ r. ⌜ r ≡ statusRefusal call ⌝ }
+// What a status that is not ok says to a call, with that status.
+fn status_refusal(call: Call, cause: Cause) -> Refusal
+    ensures { λ r. ⌜ r ≡ statusRefusal call cause ⌝ }
 {
     match call {
-        Call::SetParams { stream: _, to: _ } => Refusal::IoError,
-        Call::Command { kind: _, stream: _ } => Refusal::IoError,
+        Call::SetParams { stream: _, to: _ } => Refusal::IoError(cause),
+        Call::Command { kind: _, stream: _ } => Refusal::IoError(cause),
         Call::Remap {
             jack: _,
             association: _,
             sequence: _,
-        } => Refusal::Unsupported,
-        Call::Streams { direction: _ } => Refusal::IoError,
+        } => Refusal::Unsupported(cause),
+        Call::Streams { direction: _ } => Refusal::IoError(cause),
         Call::Supported {
             field: _,
             stream: _,
-        } => Refusal::IoError,
-        Call::Xfer { stream: _ } => Refusal::IoError,
+        } => Refusal::IoError(cause),
+        Call::Xfer { stream: _ } => Refusal::IoError(cause),
     }
 }
 
@@ -528,7 +549,7 @@ fn after_sent(c: Core, call: Call, v: Verdict) -> Plan
     ensures { λ r. ⌜ r ≡ afterSent c call v ⌝ }
 {
     if !is_good(v) {
-        let r = refusal(status_refusal(call), v);
+        let r = refusal(status_refusal(call, cause(v)), v);
         return end(c, Say::Refused(r), Effect::Nothing);
     }
     end(c, Say::Done(Value::Nothing), effect_of(call))

@@ -8,6 +8,7 @@ use crate::consistency::stream_ok;
 use crate::decide::is_idle_stage;
 use crate::state::Core;
 use crate::state::Params;
+use codes::Cause;
 use codes::Refusal;
 use codes::both;
 use codes::life::takes;
@@ -37,7 +38,7 @@ fn checked_by(c: Core, stream: u32, p: Params, life: u8) -> Gate
         return Gate::Shut(Refusal::BadState);
     }
     if p.known == 0 {
-        return Gate::Shut(Refusal::IoError);
+        return Gate::Shut(Refusal::IoError(Cause::NoStatus));
     }
     Gate::Open(p.period)
 }

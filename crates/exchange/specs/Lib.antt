@@ -21,6 +21,7 @@ pub mod Lists
 pub mod Reached
 pub mod Demand
 pub mod Lifecycle
+pub mod Carries
 -- laws
 pub mod ConsistentLaws
 pub mod OwnLaws

@@ -14,7 +14,7 @@ use Rattle.core.specs.Consistent.{periodOk, heldTo}
 use Rattle.core.specs.Plan.{sendOf, endOf, kindCode, kindLife, setOf, canRemap, foundOf, lifeIn, refusing, ownSet, ownCommand, ownRemap, ownSupported, ownXfer, ownOf}
 use Rattle.core.specs.declared.plan.Request.the-variants as request
 use Rattle.core.specs.declared.plan.Value.the-variants as value
-use Rattle.exchange.specs.Types.{Refusal, InvalidParam, IoError, Unsupported, NoInfo, BadState, Params, Kind, Field, Call, SetParams, Command, Remap, Streams, Supported, Xfer, Sent, Core, Look, Done, Nothing, Plan}
+use Rattle.exchange.specs.Types.{NoStatus, Refusal, InvalidParam, IoError, Unsupported, NoInfo, BadState, Params, Kind, Field, Call, SetParams, Command, Remap, Streams, Supported, Xfer, Sent, Core, Look, Done, Nothing, Plan}
 use Rattle.exchange.specs.Feed.{One, ownRefusals}
 
 -- what holds of both ends of a choice holds of it
@@ -57,7 +57,7 @@ module _ (c : Core) (look : Look) where
       let P = Own c look (Remap jack a q) in
       guarded-by P _ _ _
       (λ e. guarded-by P _ _ _
-      (λ f. guarded-by P _ _ _ (λ g. remaps (ltb-true _ _ e) (eqb-false _ _ (not-true _ f)) g) (λ _. refuses Unsupported (inr (inl refl))))
+      (λ f. guarded-by P _ _ _ (λ g. remaps (ltb-true _ _ e) (eqb-false _ _ (not-true _ f)) g) (λ _. refuses (Unsupported NoStatus) (inr (inl refl))))
       (λ _. refuses NoInfo (inr (inr (inl refl)))))
       (λ _. refuses InvalidParam (inl refl))
 
@@ -70,4 +70,4 @@ module _ (c : Core) (look : Look) where
   own (Supported field stream) = guarded-by (Own c look (Supported field stream)) _ _ _ (λ e. tells (ltb-true _ _ e)) (λ _. refuses InvalidParam (inl refl))
   own (Xfer stream) =
       let P = Own c look (Xfer stream) in
-      guarded-by P _ _ _ (λ _. guarded-by P _ _ _ (λ _. refuses IoError (inr (inl refl))) (λ _. refuses BadState (inr (inr (inl refl))))) (λ _. refuses InvalidParam (inl refl))
+      guarded-by P _ _ _ (λ _. guarded-by P _ _ _ (λ _. refuses (IoError NoStatus) (inr (inl refl))) (λ _. refuses BadState (inr (inr (inl refl))))) (λ _. refuses InvalidParam (inl refl))

@@ -18,7 +18,7 @@ use Rattle.turns.specs.Calls.{idleOf}
 use Rattle.turns.specs.Consistent as ring
 use Rattle.turns.specs.ConsistentLaws.{both}
 use Rattle.core.specs.Consistent.{callOk, consistentOf}
-use Rattle.core.specs.Plan.{sendOf, endOf, refusing, statusRefusal, refuseOf, cutShortOf, queryOf, ownOf, isIdle, beginOf, refusalOf, afterJacks, afterStreams, afterMaps, effectOf, afterSent, answerBy, answerOf, verdictBy, readTo}
+use Rattle.core.specs.Plan.{sendOf, endOf, refusing, statusRefusal, refuseOf, cutShortOf, queryOf, ownOf, isIdle, beginOf, causeOf, refusalOf, afterJacks, afterStreams, afterMaps, effectOf, afterSent, answerBy, answerOf, verdictBy, readTo}
 use Rattle.exchange.specs.Tables.{lookOf, pendingLook}
 use Rattle.exchange.specs.Exchange.{callOf, feedOf, failOf}
 use Rattle.exchange.specs.ConsistentLaws.{both-of}
@@ -76,7 +76,7 @@ Failing (verdict.Refused r) = (r ≡ TooMany) ⊎ ((r ≡ QueueFailed) ⊎ (r �
 abbrev pub Cut : Verdict → Refusal → Type 0
 Cut v r = Failing v → One (saysRefusal r .number) (2 ∷ 5 ∷ 7 ∷ 11 ∷ [])
 
-cut-by : (v : Verdict) → Cut v (refusalOf IoError v)
+cut-by : (v : Verdict) → Cut v (refusalOf (IoError (causeOf v)) v)
 cut-by verdict.Good l = inl refl
 cut-by (verdict.Status word) l = inl refl
 cut-by (verdict.Refused r) (inl e) = inr (inl (ap (λ (x : Refusal). saysRefusal x .number) e))
@@ -95,7 +95,7 @@ pub data Answered (c : Core) (v : Verdict) (look : Look) (long : Bool) : Plan �
       → Own (readTo c (c .read .jacks) (c .read .streams) (counted v (c .counts .maps)) true) look call p
       → Answered c v look long (record { core = p .core; say = p .say; effect = pick (isGood v) (FillMaps (c .counts .maps)) Nothing })
   ends : {call : Call} → consistentOf c ≡ true → c .stage ≡ Sent call → isGood v ≡ true → Answered c v look long (endOf c (Done value.Nothing) (effectOf call))
-  fails : {call : Call} → long ≡ true → consistentOf c ≡ true → c .stage ≡ Sent call → Answered c v look long (refusing c (refusalOf (statusRefusal call) v))
+  fails : {call : Call} → long ≡ true → consistentOf c ≡ true → c .stage ≡ Sent call → Answered c v look long (refusing c (refusalOf (statusRefusal call (causeOf v)) v))
 
 module _ (c : Core) (v : Verdict) (look : Look) (long : Bool) where
   abbrev P : Plan → Type 0
@@ -105,7 +105,7 @@ module _ (c : Core) (v : Verdict) (look : Look) (long : Bool) where
   unfolding afterJacks afterStreams afterMaps afterSent
   answered-at l Idle p e = idle (λ _. p)
   answered-at l (JacksAsked call) p e = guarded-by P _ _ _ (λ _. asks-streams e p) (λ _. cuts TooMany l (λ _. inr (inl refl)) e (ap asking p))
-  answered-at l (StreamsAsked call) p e = guarded-by P _ _ _ (λ g. asks-maps e p g) (λ _. cuts (refusalOf IoError v) l (cut-by v) e (ap asking p))
+  answered-at l (StreamsAsked call) p e = guarded-by P _ _ _ (λ g. asks-maps e p g) (λ _. cuts (refusalOf (IoError (causeOf v)) v) l (cut-by v) e (ap asking p))
   answered-at l (MapsAsked call) p e =
       let d = readTo c (c .read .jacks) (c .read .streams) (counted v (c .counts .maps)) true in
       guarded-by P _ _ _ (λ _. finishes e p (own d look call)) (λ _. cuts TooMany l (λ _. inr (inl refl)) e (ap asking p))

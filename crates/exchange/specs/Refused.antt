@@ -12,7 +12,7 @@ use Rattle.codes.specs.Answers.{saysRefusal}
 use Rattle.tables.specs.Tables.{judged, isGood, refusedBy, saysVerdict, mapsRead}
 use Rattle.tables.specs.declared.verdict.Verdict.the-variants as verdict
 use Rattle.core.specs.State.{none, withStage}
-use Rattle.core.specs.Plan.{refusalOf, statusRefusal, verdictBy, readTo}
+use Rattle.core.specs.Plan.{causeOf, refusalOf, statusRefusal, verdictBy, readTo}
 use Rattle.exchange.specs.Tables.{soundAfter}
 use Rattle.exchange.specs.OwnLaws.{Own, sets, commands, remaps, lists, tells, refuses}
 use Rattle.exchange.specs.PlanLaws.{Begun, bars, asks, goes, begun, Failing, long-verdict, Answered, short, idle, asks-streams, asks-maps, cuts, finishes, ends, fails, fed}
@@ -20,14 +20,14 @@ use Rattle.core.specs.Reply.{messageAfter, replyOf}
 use Rattle.exchange.specs.Exchange.{stepOf, callOf}
 use Rattle.exchange.specs.Feed.{Feed, paged, failed, pageOf, planOf, fedOf, verdictOf, longOf, One, ownRefusals, asking}
 use Rattle.exchange.specs.StayLaws.{own-stays}
-use Rattle.exchange.specs.Types.{Written, Refusal, IoError, ChannelMap, Verdict, Track, Call, SetParams, Command, Remap, Streams, Supported, Xfer, Stage, Idle, MapsAsked, Sent, Core, Sound, Say, Send, Done, Refused, Effect, Nothing, FillMaps, Look, Plan}
+use Rattle.exchange.specs.Types.{Written, Cause, Refusal, IoError, ChannelMap, Verdict, Track, Call, SetParams, Command, Remap, Streams, Supported, Xfer, Stage, Idle, MapsAsked, Sent, Core, Sound, Say, Send, Done, Refused, Effect, Nothing, FillMaps, Look, Plan}
 use Rattle.core.specs.declared.reply.Reply.the-variants as reply
 
--- `refusalOf` has the verdict's own number (of a remap, a status that is not ok says 3 instead)
-pub verdict-number : (v : Verdict) → isGood v ≡ false → saysRefusal (refusalOf IoError v) .number ≡ saysVerdict v .number
-verdict-number verdict.Good e = absurd (false≢true (sym e))
-verdict-number (verdict.Status word) e = refl
-verdict-number (verdict.Refused r) e = refl
+-- `refusalOf` has the verdict's own number and values (of a remap, a status that is not ok says 3 instead)
+pub verdict-says : (v : Verdict) → isGood v ≡ false → saysRefusal (refusalOf (IoError (causeOf v)) v) ≡ saysVerdict v
+verdict-says verdict.Good e = absurd (false≢true (sym e))
+verdict-says (verdict.Status word) e = refl
+verdict-says (verdict.Refused r) e = refl
 
 -- ---- a reply that refuses
 
@@ -105,17 +105,17 @@ module _ (r : Refusal) where
   own-number e (refuses {call} x o) = numbered (ownRefusals call) e o
 
 -- what a request of the call's own is refused with, by a page of the right length or a failure
-status-number : (call : Call) → One (saysRefusal (statusRefusal call) .number) (2 ∷ 3 ∷ 7 ∷ 11 ∷ [])
-status-number (SetParams stream to) = inl refl
-status-number (Command kind stream) = inl refl
-status-number (Remap jack association sequence) = inr (inl refl)
-status-number (Streams direction) = inl refl
-status-number (Supported field stream) = inl refl
-status-number (Xfer stream) = inl refl
+status-number : (call : Call) (cause : Cause) → One (saysRefusal (statusRefusal call cause) .number) (2 ∷ 3 ∷ 7 ∷ 11 ∷ [])
+status-number (SetParams stream to) cause = inl refl
+status-number (Command kind stream) cause = inl refl
+status-number (Remap jack association sequence) cause = inr (inl refl)
+status-number (Streams direction) cause = inl refl
+status-number (Supported field stream) cause = inl refl
+status-number (Xfer stream) cause = inl refl
 
-sent-number : (call : Call) (v : Verdict) → Failing v → refusedBy 5 v ≡ false → One (saysRefusal (refusalOf (statusRefusal call) v) .number) (2 ∷ 3 ∷ 7 ∷ 11 ∷ [])
-sent-number call verdict.Good a b = status-number call
-sent-number call (verdict.Status word) a b = status-number call
+sent-number : (call : Call) (v : Verdict) → Failing v → refusedBy 5 v ≡ false → One (saysRefusal (refusalOf (statusRefusal call (causeOf v)) v) .number) (2 ∷ 3 ∷ 7 ∷ 11 ∷ [])
+sent-number call verdict.Good a b = status-number call _
+sent-number call (verdict.Status word) a b = status-number call _
 sent-number call (verdict.Refused r) (inl e) b = absurd (false≢true (sym b ∙ ap (λ (x : Refusal). eqb (saysRefusal x .number) 5) e))
 sent-number call (verdict.Refused r) (inr (inl e)) b = inr (inr (inl (ap (λ (x : Refusal). saysRefusal x .number) e)))
 sent-number call (verdict.Refused r) (inr (inr e)) b = inr (inr (inr (inl (ap (λ (x : Refusal). saysRefusal x .number) e))))

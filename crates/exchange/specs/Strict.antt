@@ -27,7 +27,7 @@ use Rattle.exchange.specs.Tables.{pendingLook, soundAfter}
 use Rattle.exchange.specs.Exchange.{stepOf, feedOf, failOf}
 use Rattle.exchange.specs.Feed.{paged, longOf, Long}
 use Rattle.exchange.specs.PlanLaws.{Answered, short, idle, asks-streams, asks-maps, cuts, finishes, ends, fails, fed, long-of, long-verdict}
-use Rattle.exchange.specs.Types.{Refusal, Written, InFull, Short, QueueFailed, InvalidParam, BadLength, Verdict, Call, SetParams, Command, Remap, Streams, Supported, Xfer, Stage, Idle, JacksAsked, StreamsAsked, MapsAsked, Sent, Counts, Core, Look, Plan, Say, Send, Done, Refused, Sound, Effect, Nothing, FillJacks, FillStreams, FillMaps, Store, Move}
+use Rattle.exchange.specs.Types.{Cause, Refusal, Written, InFull, Short, QueueFailed, InvalidParam, BadLength, Verdict, Call, SetParams, Command, Remap, Streams, Supported, Xfer, Stage, Idle, JacksAsked, StreamsAsked, MapsAsked, Sent, Counts, Core, Look, Plan, Say, Send, Done, Refused, Sound, Effect, Nothing, FillJacks, FillStreams, FillMaps, Store, Move}
 
 -- how much of a page is read, by what was asked: the header, and the records of a table
 abbrev pub readsOf : Stage → Counts → ℕ
@@ -182,8 +182,8 @@ short-as-failed w s page n l e =
 
 eleven : (r : Refusal) → saysRefusal r .number ≡ 11 → r ≡ Short
 eleven refusal.InvalidParam e = absurd (omega arith)
-eleven refusal.IoError e = absurd (omega arith)
-eleven refusal.Unsupported e = absurd (omega arith)
+eleven (refusal.IoError c) e = absurd (omega arith)
+eleven (refusal.Unsupported c) e = absurd (omega arith)
 eleven refusal.NoInfo e = absurd (omega arith)
 eleven refusal.TooMany e = absurd (omega arith)
 eleven refusal.WrongToken e = absurd (omega arith)
@@ -200,13 +200,13 @@ numberOf (Send q) = 0
 numberOf (Done v) = 0
 numberOf (Refused r) = saysRefusal r .number
 
-status-else : (call : Call) → saysRefusal (statusRefusal call) .number ≡ 11 → ⊥
-status-else (SetParams stream to) e = omega arith
-status-else (Command kind stream) e = omega arith
-status-else (Remap jack association sequence) e = omega arith
-status-else (Streams direction) e = omega arith
-status-else (Supported field stream) e = omega arith
-status-else (Xfer stream) e = omega arith
+status-else : (call : Call) (cause : Cause) → saysRefusal (statusRefusal call cause) .number ≡ 11 → ⊥
+status-else (SetParams stream to) cause e = omega arith
+status-else (Command kind stream) cause e = omega arith
+status-else (Remap jack association sequence) cause e = omega arith
+status-else (Streams direction) cause e = omega arith
+status-else (Supported field stream) cause e = omega arith
+status-else (Xfer stream) cause e = omega arith
 
 streams-only : (c : Core) (call : Call) (v : Verdict) → numberOf (afterStreams c call v .say) ≡ 11 → v ≡ verdict.Refused Short
 unfolding afterStreams guard
@@ -217,7 +217,7 @@ streams-only c call (verdict.Refused r) e = ap verdict.Refused (eleven r e)
 sent-only : (c : Core) (call : Call) (v : Verdict) → numberOf (afterSent c call v .say) ≡ 11 → v ≡ verdict.Refused Short
 unfolding afterSent guard
 sent-only c call verdict.Good e = absurd (omega arith)
-sent-only c call (verdict.Status word) e = absurd (status-else call e)
+sent-only c call (verdict.Status word) e = absurd (status-else call _ e)
 sent-only c call (verdict.Refused r) e = ap verdict.Refused (eleven r e)
 
 -- an answer to the query of streams, or to a request of the call's own

@@ -1,6 +1,8 @@
 -- The types of the code, and their cases, as definitions and laws name them. Where two bear one name, the other stands beside its use.
 -- Assumes nothing.
 pub use Rattle.codes.specs.declared.answers.Refusal.{Refusal}
+pub use Rattle.codes.specs.declared.answers.Cause.{Cause}
+pub use Rattle.codes.specs.declared.answers.Cause.the-variants.{NoStatus, Status}
 pub use Rattle.codes.specs.declared.answers.Refusal.the-variants.{QueueFailed, BadLength, Short, BadState, InvalidParam, IoError, Unsupported, NoInfo, TooMany, Busy}
 pub use Rattle.records.specs.declared.info.PcmInfo.{PcmInfo}
 pub use Rattle.records.specs.declared.info.JackInfo.{JackInfo}

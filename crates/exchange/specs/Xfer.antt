@@ -19,7 +19,7 @@ use Rattle.core.specs.Reply.{messageAfter}
 use Rattle.exchange.specs.State.{paramsOf, lifeOf, withCore}
 use Rattle.exchange.specs.declared.xfer.XferReply.the-variants.{Send}
 use Rattle.exchange.specs.Types.{Refusal, Track, Ring, Turned, Transferred, Xfer, JacksAsked, Sound, Nothing, Plan, XferReply, Says, XferStep}
-use Rattle.turns.specs.Ring.{saysSaid}
+use Rattle.turns.specs.Ring.{saysSaid, saidWord}
 
 abbrev pub xferBy : {A : Type 0} → Bool → Sound → Track → ℕ → (Refusal → A) → A → (ℕ → A) → A
 xferBy lengths s t stream refuse setUp go = gateBy lengths (s .core) (paramsOf s stream) (lifeOf s stream) t stream refuse setUp go
@@ -61,6 +61,11 @@ xferMessage (Says x) s stream l = l
 abbrev pub saysXfer : XferReply → answers.Says
 saysXfer (Send n) = answers.says (256 + n) []
 saysXfer (Says x) = saysSaid x
+
+-- the same as one word at the C boundary
+abbrev pub xferWord : XferReply → ℕ
+xferWord (Send n) = 256 + n
+xferWord (Says x) = saidWord x
 
 -- document 01's number and values of the start, and of a transfer over a script: a refusal's, 256 + 16 for set-up's first query, or what the ring says
 abbrev pub startSays : Sound → Ring → ℕ → ℕ → ℕ → ℕ → answers.Says

@@ -11,6 +11,7 @@ use Rattle.codes.specs.Says.{Says, says, pick, guard}
 use Rattle.codes.specs.Answers.{saysRefusal}
 use Rattle.codes.specs.declared.answers.Refusal.{Refusal}
 use Rattle.codes.specs.declared.answers.Refusal.the-variants.{IoError, BadLength}
+use Rattle.codes.specs.declared.answers.Cause.the-variants.{Status}
 use Rattle.records.specs.declared.info.PcmInfo.{PcmInfo}
 use Rattle.tables.specs.Tables.{pcmAt}
 use Rattle.listing.specs.declared.verdict.Listing.{Listing}
@@ -37,7 +38,7 @@ judged x = record { listing = x; said = saysListing x }
 unfoldable pub listingOf : ℕ → List ℕ → Judged
 listingOf n page =
     guard (lengthOk n) (judged (Refused BadLength))
-    (guard (eqb (numAt 0 4 page) 0x8000) (judged (Refused IoError))
+    (guard (eqb (numAt 0 4 page) 0x8000) (judged (Refused (IoError (Status (numAt 0 4 page)))))
     (judged (Streams ((n - 4) / 32))))
 
 -- ---- the lines

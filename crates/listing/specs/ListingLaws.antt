@@ -10,10 +10,6 @@ use lib.ListN.{length, getD}
 use borrow.Author.Tests.{leb-true, le-leb, lt-leb, eq-eqb, ne-eqb}
 use Rattle.layout.specs.Bytes.{numAt}
 use Rattle.codes.specs.SaysLaws.{picks, skips, guarded-by, took}
-use Rattle.codes.specs.Codes.{codeSays}
-use Rattle.codes.specs.Statuses.{statusCodes, saysStatus, isOk}
-use Rattle.codes.specs.StatusesLaws.{ok-is}
-use Rattle.codes.specs.declared.statuses.FoundStatus.{FoundStatus}
 use Rattle.codes.specs.declared.answers.Refusal.{Refusal}
 use Rattle.listing.specs.Listing.{lengthOk, Judged, judged, listingOf, refusedLine, countLine, streamLine, recordAt, lineOf, lineAt, Gives}
 use Rattle.listing.specs.declared.verdict.Listing.{Listing}
@@ -28,10 +24,6 @@ length-fits n e = by (leb 4 n) (leb n 4096) (eqb ((n - 4) % 32) 0) refl refl e
     by true true d p q e = (leb-true _ _ p, leb-true _ _ q)
     by true false d p q e = absurd (false≢true e)
     by false b d p q e = absurd (false≢true e)
-
--- the status that was found is ok where the header's word is
-pub header : (f : FoundStatus) (found word : ℕ) {b : Bool} → saysStatus f ≡ codeSays statusCodes 2 found → found ≡ word → b ≡ isOk f → b ≡ eqb word 0x8000
-header f found word e w i = i ∙ ok-is f found e ∙ ap (λ (n : ℕ). eqb n 0x8000) w
 
 -- no more streams are told than the 127 that a page holds
 abbrev few-of : Listing → Type 0

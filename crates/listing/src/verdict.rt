@@ -1,6 +1,7 @@
 // What the listing says of an answer, before any line of it.
 ghost use mathlib.Core.Path.{_≡_};
 ghost use Rattle.listing.specs.Listing.{lengthOk, judged, listingOf};
+use codes::Cause;
 use codes::Refusal;
 use codes::StatusCode;
 use records::PcmInfo;
@@ -32,14 +33,15 @@ fn length_ok(n: usize) -> bool
 pub fn judge(n: usize, page: &[u8]) -> Listing
     ensures { λ r. ⌜ judged r ≡ listingOf n (now (page .entry)) ⌝ }
 {
-    let status = StatusCode::from_code(layout::get_u32(page, 0));
+    let word = layout::get_u32(page, 0);
+    let status = StatusCode::from_code(word);
     let ok = status.is_ok();
     let fits = length_ok(n);
     if !fits {
         return Listing::Refused(Refusal::BadLength);
     }
     if !ok {
-        return Listing::Refused(Refusal::IoError);
+        return Listing::Refused(Refusal::IoError(Cause::Status(word)));
     }
     Listing::Streams(((n - HEADER) / PcmInfo::SIZE) as u8)
 }

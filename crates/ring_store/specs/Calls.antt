@@ -10,18 +10,21 @@ use lib.Seq.{sets}
 use Rattle.layout.specs.Bytes.{le}
 use Rattle.layout.specs.Rows.{rowsBytes}
 use Rattle.layout.specs.Lent.{Made, made, Shown, shown, resultSize}
-use Rattle.codes.specs.Says.{Says, pick, guard}
-use Rattle.turns.specs.Ring.{direct, newRing, saysSaid, isRefused}
+use Rattle.codes.specs.Says.{Says, says, pick, guard}
+use Rattle.codes.specs.Answers.{refusalWord}
+use Rattle.turns.specs.Ring.{direct, newRing, saidWord, isRefused}
 use Rattle.turns.specs.Reads.{readOf}
-use Rattle.turns.specs.Calls.{startCall, startedOf, offerCall, saysOffer}
+use Rattle.turns.specs.Calls.{startCall, startedOf, offerCall, saysSent}
 use Rattle.turns.specs.InPlace.{turnWords, drainWords}
+use Rattle.turns.specs.declared.calls.Offer.{Offer}
+use Rattle.turns.specs.declared.calls.Offer.the-variants as offer
 use Rattle.ring_store.specs.Types.{Track, Turned}
 use Rattle.ring_store.specs.Store.{ringSize, trackAt, ringOf, ringBytes}
 
 -- ---- calls that change the ring
 
 abbrev pub leftBy : List ℕ → Turned → Made
-leftBy s t = made (saysSaid (t .said) .number) (pick (isRefused (t .said)) s (sets s 0 (ringBytes (t .ring))))
+leftBy s t = made (saidWord (t .said)) (pick (isRefused (t .said)) s (sets s 0 (ringBytes (t .ring))))
 
 abbrev pub changed : List ℕ → Turned → Made
 changed s t =
@@ -56,8 +59,13 @@ toldIn s r x =
     guard (roomyIn s r) (shown 10 r)
     (shown (x .number) (sets r 0 (words (x .values))))
 
+-- what an offer says here: a refusal by its word
+abbrev pub offerWord : Offer → Says
+offerWord (offer.Is sent) = saysSent sent
+offerWord (offer.Refused x) = says (refusalWord x) []
+
 abbrev pub offerIn : List ℕ → ℕ → List ℕ → Shown
-offerIn s len r = toldIn s r (saysOffer (offerCall (trackAt s) len))
+offerIn s len r = toldIn s r (offerWord (offerCall (trackAt s) len))
 
 -- the oldest in flight: 1 and its slot, or 0 twice
 abbrev pub oldestSays : Track → Says

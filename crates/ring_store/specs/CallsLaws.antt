@@ -12,7 +12,7 @@ use Rattle.layout.specs.Bytes.{Bytes}
 use Rattle.layout.specs.Lent.{Made, made}
 use Rattle.codes.specs.Says.{pick, guard}
 use Rattle.codes.specs.SaysLaws.{picks, skips, passes, stops}
-use Rattle.turns.specs.Ring.{direct, newTrack, saysSaid, isRefused}
+use Rattle.turns.specs.Ring.{direct, newTrack, saidWord, isRefused}
 use Rattle.turns.specs.Calls.{refusedOf, turnCall, turnedOf}
 use Rattle.turns.specs.CallLaws.{no-transfer}
 use Rattle.ring_store.specs.Types.{Track, Step, Reading}
@@ -23,7 +23,7 @@ use Rattle.ring_store.specs.StoreLaws.{sent-over, new-over}
 use Rattle.ring_store.specs.Private.{sentOver, blankOver, stepOver}
 
 -- what a step leaves, by place: nothing where it was refused, else the track and what was sent
-module _ (s : List ℕ) (x : Step) (n : ℕ) (e : n ≡ saysSaid (x .said) .number) where
+module _ (s : List ℕ) (x : Step) (n : ℕ) (e : n ≡ saidWord (x .said)) where
   abbrev over : List ℕ
   over = sentOver (sets s 0 (trackBytes (x .track))) (x .sent)
 
@@ -35,7 +35,7 @@ module _ (s : List ℕ) (x : Step) (n : ℕ) (e : n ≡ saysSaid (x .said) .numb
 
 -- and that is what the call by value leaves
 pub step-over : (s : List ℕ) (x : Step) → Bytes s → stepOver s x ≡ leftBy s (turnedOf (ringOf s) x)
-step-over s x b = ap (λ (l : List ℕ). made (saysSaid (x .said) .number) (pick (isRefused (x .said)) s l)) (sent-over s (x .track) (x .sent) b)
+step-over s x b = ap (λ (l : List ℕ). made (saidWord (x .said)) (pick (isRefused (x .said)) s l)) (sent-over s (x .track) (x .sent) b)
 
 -- ---- each return of a call that changes the ring
 

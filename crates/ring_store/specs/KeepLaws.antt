@@ -4,7 +4,7 @@ use mathlib.Core.Path.{_≡_, refl, _∙_, subst}
 use mathlib.Core.Bool.{Bool, true, false}
 use mathlib.Core.Logic.{_⊎_, inl, inr}
 use mathlib.Core.List.{List}
-use Prim.Native.Nat.{ℕ, _≤_}
+use Prim.Native.Nat.{ℕ, _+_, _*_, _≤_}
 use native.Mathlib.Omega.{arith}
 use lib.Dec.{leb}
 use borrow.Author.Tests.{leb-true, leb-false}
@@ -13,9 +13,9 @@ use Rattle.layout.specs.Bytes.{numAt}
 use Rattle.layout.specs.Lent.{Made}
 use Rattle.codes.specs.Says.{pick}
 use Rattle.codes.specs.SaysLaws.{guarded-by}
-use Rattle.codes.specs.Answers.{saysRefusal}
+use Rattle.codes.specs.Answers.{refusalWord}
 use Rattle.codes.specs.declared.answers.Refusal.{Refusal}
-use Rattle.turns.specs.Ring.{direct, newRing, going, saysSaid, isRefused}
+use Rattle.turns.specs.Ring.{direct, newRing, going, saidWord, isRefused}
 use Rattle.turns.specs.Rules.{chooseOf, playedOf, judgeOf, settle, hear, act, turnOf, submit, sentOf, countedBy, countedOf}
 use Rattle.turns.specs.RuleLaws.{Judged, judged, played-fails}
 use Rattle.turns.specs.CaseLaws.{lastOf}
@@ -106,14 +106,14 @@ Barred n = (n ≡ 10) ⊎ (n ≡ 1)
 abbrev Telling : Said → Type 0
 Telling Going = Unit {0}
 Telling Done = Unit {0}
-Telling (Ended r) = Barred (saysRefusal r .number) → ⊥
+Telling (Ended r) = Barred (refusalWord r) → ⊥
 Telling (Refused r) = Unit {0}
 
 other : (n : ℕ) → (n ≡ 10 → ⊥) → (n ≡ 1 → ⊥) → Barred n → ⊥
 other n p q (inl e) = p e
 other n p q (inr e) = q e
 
-unless-barred : (said : Said) (old new : List ℕ) → Telling said → Barred (saysSaid said .number) → pick (isRefused said) old new ≡ old
+unless-barred : (said : Said) (old new : List ℕ) → Telling said → Barred (saidWord said) → pick (isRefused said) old new ≡ old
 unless-barred Going old new p b = absurd (other going (λ e. omega arith) (λ e. omega arith) b)
 unless-barred Done old new p b = absurd (other 0 (λ e. omega arith) (λ e. omega arith) b)
 unless-barred (Ended r) old new p b = absurd (p b)
@@ -125,7 +125,7 @@ Begins Done = ⊥
 Begins (Ended r) = ⊥
 Begins (Refused r) = Unit {0}
 
-unless-begun : (said : Said) (old new : List ℕ) → Begins said → (saysSaid said .number ≡ going → ⊥) → pick (isRefused said) old new ≡ old
+unless-begun : (said : Said) (old new : List ℕ) → Begins said → (saidWord said ≡ going → ⊥) → pick (isRefused said) old new ≡ old
 unless-begun Going old new p n = absurd (n refl)
 unless-begun (Refused r) old new p n = refl
 
@@ -138,7 +138,7 @@ refused-unchanged s x p =
 settle-tells : (v : Verdict) (sent : Sent) (t : Track) (slot status : ℕ) → Judged t slot (playedOf status) v → Telling (settle v sent t slot status .said)
 settle-tells WrongSlot sent t slot status j = other 6 (λ e. omega arith) (λ e. omega arith)
 settle-tells Good sent t slot status j = tt
-settle-tells (Bad r) sent t slot status j = subst (λ (x : Refusal). Barred (saysRefusal x .number) → ⊥) (played-fails status r (j .2) .1) (other 2 (λ e. omega arith) (λ e. omega arith))
+settle-tells (Bad r) sent t slot status j = subst (λ (x : Refusal). Barred (refusalWord x) → ⊥) (played-fails status r (j .2) .1) (other (2 + 4294967296 * status) (λ e. omega arith) (λ e. omega arith))
 
 hear-tells : (sent : Sent) (t : Track) (reading : Reading) → Telling (hear sent t reading .said)
 hear-tells sent t Quiet = tt

@@ -8,7 +8,7 @@ use lib.Seq.{sets}
 use Rattle.layout.specs.Rows.{rowsBytes}
 use Rattle.layout.specs.Lent.{Made, made}
 use Rattle.codes.specs.Says.{pick}
-use Rattle.turns.specs.Ring.{blankSlot, saysSaid, isRefused}
+use Rattle.turns.specs.Ring.{blankSlot, saidWord, isRefused}
 use Rattle.ring_store.specs.Types.{Slot, Sent, Nothing, Period, Step}
 use Rattle.ring_store.specs.Store.{trackSize, slotSize, slotBytes, trackBytes}
 
@@ -25,4 +25,4 @@ blankOver s = sets s trackSize (rowsBytes slotBytes (replicate 32 blankSlot))
 
 -- what a step leaves of a store, and its answer
 abbrev pub stepOver : List ℕ → Step → Made
-stepOver s x = made (saysSaid (x .said) .number) (pick (isRefused (x .said)) s (sentOver (sets s 0 (trackBytes (x .track))) (x .sent)))
+stepOver s x = made (saidWord (x .said)) (pick (isRefused (x .said)) s (sentOver (sets s 0 (trackBytes (x .track))) (x .sent)))

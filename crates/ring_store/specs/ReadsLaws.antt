@@ -12,9 +12,6 @@ use Rattle.layout.specs.Lent.{Shown, shown}
 use Rattle.layout.specs.ChainLaws.{Stored, stored}
 use Rattle.codes.specs.Says.{Says, says, guard}
 use Rattle.codes.specs.SaysLaws.{passes, stops}
-use Rattle.codes.specs.Answers.{saysRefusal}
-use Rattle.codes.specs.declared.answers.Refusal.{Refusal}
-use Rattle.codes.specs.declared.answers.Refusal.the-variants as refusal
 use Rattle.turns.specs.Consistent.{consistentOf}
 use Rattle.turns.specs.Reads.{readOf}
 use Rattle.ring_store.specs.Types.{Track}
@@ -59,21 +56,6 @@ read-by t u sound f vs e c p =
 pub read-barred : (t u : Track) (vs ws : List ℕ) → t ≡ u → consistentOf t ≡ false → guard false (says 1 []) (says 0 vs) ≡ readOf u ws
 unfolding guard
 read-barred t u vs ws e c = stops _ _ _ (ap consistentOf (sym e) ∙ c) refl
-
--- a refusal has no values
-pub refusal-bare : (r : Refusal) → says (saysRefusal r .number) [] ≡ saysRefusal r
-refusal-bare refusal.InvalidParam = refl
-refusal-bare refusal.IoError = refl
-refusal-bare refusal.Unsupported = refl
-refusal-bare refusal.NoInfo = refl
-refusal-bare refusal.TooMany = refl
-refusal-bare refusal.WrongToken = refl
-refusal-bare refusal.QueueFailed = refl
-refusal-bare refusal.Busy = refl
-refusal-bare refusal.OutOfTurns = refl
-refusal-bare refusal.BadLength = refl
-refusal-bare refusal.Short = refl
-refusal-bare refusal.BadState = refl
 
 -- one guard for two tests
 pub guards : {A : Type 0} (a b : Bool) (x y : A) → guard (a && b) x y ≡ guard a x (guard b x y)

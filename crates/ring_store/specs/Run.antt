@@ -16,7 +16,7 @@ use Rattle.layout.specs.WrittenLaws.{bytes-append, bytes-write, bytes-rows, Aga
 use Rattle.codes.specs.Says.{pick, guard}
 use Rattle.codes.specs.SaysLaws.{passes, stops, guarded-by}
 use Rattle.codes.specs.AnswersLaws.{numbered}
-use Rattle.turns.specs.Ring.{direct, newRing, going, saysSaid, goesOn, isRefused}
+use Rattle.turns.specs.Ring.{direct, newRing, going, saidWord, goesOn, isRefused}
 use Rattle.turns.specs.CaseLaws.{onward-cases}
 use Rattle.turns.specs.Calls.{turnedOf}
 use Rattle.turns.specs.InPlace.{turnWords}
@@ -89,9 +89,9 @@ drain-again s kind slot status b = rw (drain-leaves s kind slot status) (leaves-
 pub start-again : (s : List ℕ) (stream len period budget : ℕ) → Bytes s → Again s (startIn s stream len period budget .store)
 start-again s stream len period budget b = rw (start-leaves s stream len period budget) (leaves-again s (startStep s stream len period budget) b)
 
--- ---- a turn answers the number of what is said
+-- ---- a turn answers what is said
 
-pub turn-answers : (s : List ℕ) (len kind slot status : ℕ) → ringSize ≤ length s → turnIn s len kind slot status .answer ≡ saysSaid (turnWords (ringOf s) len kind slot status .said) .number
+pub turn-answers : (s : List ℕ) (len kind slot status : ℕ) → ringSize ≤ length s → turnIn s len kind slot status .answer ≡ saidWord (turnWords (ringOf s) len kind slot status .said)
 unfolding turnIn
 turn-answers s len kind slot status h = ap (λ (l : Made). l .answer) (sym (passes _ _ _ (le-leb ringSize (length s) h) refl))
 
@@ -99,22 +99,21 @@ turn-answers s len kind slot status h = ap (λ (l : Made). l .answer) (sym (pass
 
 -- a store and an answer are where a loop by value ended, and what it said
 abbrev pub Holds : Made → Ran Ring → Type 0
-Holds l h = (ringOf (l .store) ≡ h .at) × (l .answer ≡ saysSaid (h .said) .number)
+Holds l h = (ringOf (l .store) ≡ h .at) × (l .answer ≡ saidWord (h .said))
 
-last-small : (said : Said) → goesOn said ≡ false → saysSaid said .number < 256
-last-small Going e = absurd (false≢true (sym e))
-last-small Done e = omega arith
-last-small (Ended r) e = numbered r .small
-last-small (Refused r) e = numbered r .small
+-- what does not go on does not answer so
+never-going : (said : Said) → goesOn said ≡ false → saidWord said ≡ going → ⊥
+never-going Going e z = false≢true (sym e)
+never-going Done e z = omega arith
+never-going (Ended r) e z = omega (arith, numbered r .small)
+never-going (Refused r) e z = omega (arith, numbered r .small)
 
-onward-holds : (said : Said) (line : Line) (a : Ring) (l rest : Made) (h : Ran Ring) → ringOf (l .store) ≡ a → l .answer ≡ saysSaid said .number → Holds rest h
+onward-holds : (said : Said) (line : Line) (a : Ring) (l rest : Made) (h : Ran Ring) → ringOf (l .store) ≡ a → l .answer ≡ saidWord said → Holds rest h
     → Holds (guard (eqb (l .answer) going) l rest) (onward said line a h)
 onward-holds said line a l rest h p q k =
     onward-cases (Holds (guard (eqb (l .answer) going) l rest)) said line a h
-    (λ e. subst (λ (x : Made). Holds x h) (passes _ _ _ (eq-eqb _ _ (q ∙ ap (λ (x : Said). saysSaid x .number) e)) refl) k)
-    (λ e.
-    let small = last-small said e in
-    subst (λ (x : Made). Holds x (record { said = said; at = a; log = line ∷ [] })) (stops _ _ _ (ne-eqb (l .answer) going (λ z. omega arith)) refl) (p, q))
+    (λ e. subst (λ (x : Made). Holds x h) (passes _ _ _ (eq-eqb _ _ (q ∙ ap saidWord e)) refl) k)
+    (λ e. subst (λ (x : Made). Holds x (record { said = said; at = a; log = line ∷ [] })) (stops _ _ _ (ne-eqb (l .answer) going (λ z. never-going said e (sym q ∙ z))) refl) (p, q))
 
 -- one turn, and then the rest of the run from what it left
 module _ (len fuel : ℕ) (s : List ℕ) (w : Words) (script : List Words) (b : Bytes s) (h : ringSize ≤ length s) where

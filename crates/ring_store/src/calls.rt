@@ -4,7 +4,7 @@ ghost use mathlib.Core.Path.{_≡_};
 ghost use Prim.Native.Nat.{_≤_};
 ghost use lib.ListN.{length};
 ghost use Rattle.layout.specs.Lent.{made};
-ghost use Rattle.turns.specs.Ring.{saysSaid, isRefused};
+ghost use Rattle.turns.specs.Ring.{saidWord, isRefused};
 ghost use Rattle.ring_store.specs.Store.{ringSize};
 ghost use Rattle.ring_store.specs.Calls.{newIn, turnIn, drainIn, startIn};
 ghost use Rattle.ring_store.specs.Private.{stepOver};
@@ -24,14 +24,14 @@ const GOING: u64 = 512;
 // What a call says of a ring that is not consistent, and a turn where no transfer runs.
 pub(crate) const INVALID_PARAM: u64 = 1;
 
-fn number(said: Said) -> u64
-    ensures { λ r. ⌜ r ≡ saysSaid said .number ⌝ }
+fn word(said: Said) -> u64
+    ensures { λ r. ⌜ r ≡ saidWord said ⌝ }
 {
     match said {
         Said::Going => GOING,
         Said::Done => 0,
-        Said::Ended(refusal) => refusal.number() as u64,
-        Said::Refused(refusal) => refusal.number() as u64,
+        Said::Ended(refusal) => refusal.word(),
+        Said::Refused(refusal) => refusal.word(),
     }
 }
 
@@ -53,7 +53,7 @@ fn leave(ring: &mut [u8], step: Step) -> u64
 {
     let said = step.said;
     let sent = step.sent;
-    let answer = number(said);
+    let answer = word(said);
     let refused = is_refused(said);
     if refused {
         return answer;

@@ -6,7 +6,7 @@ ghost use mathlib.Core.List.{[], _∷_};
 ghost use lib.Dec.{ltb};
 ghost use Rattle.layout.specs.Lent.{shown};
 ghost use Rattle.codes.specs.Says.{says, guard};
-ghost use Rattle.codes.specs.Answers.{saysRefusal};
+ghost use Rattle.codes.specs.Answers.{refusalWord};
 ghost use Rattle.turns.specs.Reads.{runningOf, inFlightOf, freeOf, turnsOf, streamOf, carriedOf};
 ghost use Rattle.turns.specs.Consistent.{consistentOf};
 ghost use Rattle.ring_store.specs.Store.{trackAt, ringOf};
@@ -34,13 +34,13 @@ fn roomy(ring: &[u8], result: &[u8]) -> bool
 }
 
 fn tell_refusal(ring: &[u8], refusal: Refusal, result: &mut [u8]) -> u64
-    ensures { λ r. ⌜ shown r (now (result .exit)) ≡ toldIn (now (ring .entry)) (now (result .entry)) (saysRefusal refusal) ⌝ }
+    ensures { λ r. ⌜ shown r (now (result .exit)) ≡ toldIn (now (ring .entry)) (now (result .entry)) (says (refusalWord refusal) []) ⌝ }
 {
     let room = roomy(ring, result);
     if !room {
         return BAD_LENGTH;
     }
-    refusal.number() as u64
+    refusal.word()
 }
 
 fn tell_one(ring: &[u8], sound: bool, value: u64, result: &mut [u8]) -> u64

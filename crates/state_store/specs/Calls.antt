@@ -11,11 +11,11 @@ use Rattle.layout.specs.Bytes.{le}
 use Rattle.layout.specs.Layout.{write}
 use Rattle.layout.specs.Rows.{rowsBytes}
 use Rattle.codes.specs.Says.{guard}
-use Rattle.codes.specs.Answers.{saysRefusal}
+use Rattle.codes.specs.Answers.{refusalWord}
 use Rattle.exchange.specs.State.{newSound}
 use Rattle.core.specs.Consistent.{consistentOf}
 use Rattle.exchange.specs.Tables.{soundAfter}
-use Rattle.core.specs.Reply.{saysReply, messageAfter}
+use Rattle.core.specs.Reply.{replyWord, messageAfter}
 use Rattle.exchange.specs.Exchange.{stepOf, callOf, feedOf, failOf}
 use Rattle.exchange.specs.Xfer.{xferBy, setUpPlan}
 use Rattle.core.specs.declared.plan.Value.the-variants as value
@@ -26,7 +26,7 @@ use Rattle.state_store.specs.Store.{soundOf, soundBytes, stateAfter}
 use Rattle.state_store.specs.Types.{Written, Refusal, Track, Call, Counts, Value, Plan, Reply, StreamList, Opening, Says}
 use Rattle.state_store.specs.declared.calls.Opening.the-variants.{Open}
 
--- an answer by its number, and what state, message and result hold then
+-- an answer as one word, and what state, message and result hold then
 pub record Told : Type 0 where
   pub answer : ℕ
   pub state : List ℕ
@@ -55,7 +55,7 @@ abbrev pub told : List ℕ → Plan → List ℕ → List ℕ → List ℕ → T
 told s p page m r =
     let x = stepOf p (soundOf s) page in
     record {
-      answer = saysReply (x .reply) .number;
+      answer = replyWord (x .reply);
       state = stateAfter s (x .sound);
       message = messageAfter (p .say) m;
       result = sets r 0 (resultBytes (x .reply) (x .streams));
@@ -91,7 +91,7 @@ abbrev pub opened : Opening → List ℕ → List ℕ → Opened
 opened o s m = record { opening = o; state = s; message = m }
 
 abbrev pub shut : List ℕ → List ℕ → Refusal → Opened
-shut s m x = record { opening = Says (saysRefusal x .number); state = s; message = m }
+shut s m x = record { opening = Says (refusalWord x); state = s; message = m }
 
 abbrev pub settingUp : List ℕ → ℕ → List ℕ → Opened
 settingUp s stream m =

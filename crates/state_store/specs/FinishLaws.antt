@@ -4,28 +4,22 @@ use mathlib.Core.Path.{_≡_, refl, sym, ap, _∙_}
 use mathlib.Core.Bool.{Bool, true, false, _&&_}
 use mathlib.Core.List.{List, []}
 use Prim.Native.Nat.{ℕ, _≤_}
-use native.Mathlib.Omega.{arith}
-use lib.Dec.{leb, eqb}
+use lib.Dec.{leb}
 use lib.ListN.{length}
 use lib.Seq.{sets}
 use borrow.Author.Tests.{leb-true}
 use Rattle.tables.specs.Tables.{pageOk}
 use Rattle.layout.specs.Bytes.{Bytes}
-use Rattle.layout.specs.LayoutLaws.{length-write}
 use Rattle.codes.specs.Says.{guard}
 use Rattle.codes.specs.SaysLaws.{picks, skips, passes, stops}
-use Rattle.codes.specs.Answers as answers
-use Rattle.codes.specs.AnswersLaws.{numbered}
-use Rattle.records.specs.Records.{query, queryValues, remap, remapValues, pcmCommand, pcmCommandValues, setParameters, setParametersValues}
 use Rattle.turns.specs.ConsistentLaws.{both}
 use Rattle.core.specs.Plan.{refuseOf, beginOf, answerOf, verdictBy}
 use Rattle.exchange.specs.Tables.{lookOf, pendingLook, soundAfter}
 use Rattle.core.specs.ReplyLaws.{tells-reply, tells-message}
-use Rattle.core.specs.Reply.{saysReply, requestBytes, messageAfter, replyOf, tellOf, toldIn}
+use Rattle.core.specs.Reply.{messageAfter, replyOf, tellOf, toldIn}
 use Rattle.exchange.specs.Exchange.{callOf, feedOf, failOf}
-use Rattle.core.specs.declared.plan.Request.the-variants as request
 use Rattle.core.specs.declared.plan.Say.the-variants.{Refused}
-use Rattle.state_store.specs.Types.{Written, BadLength, Track, Verdict, QueueFailed, Refused, Call, Core, Request, Say, Send, Done, Effect, Look, Plan}
+use Rattle.state_store.specs.Types.{Written, BadLength, Track, Verdict, QueueFailed, Refused, Call, Core, Say, Effect, Look, Plan}
 use Rattle.state_store.specs.Places.{stateSize}
 use Rattle.layout.specs.Lent.{resultSize, messageSize, pageSize}
 use Rattle.state_store.specs.Store.{headAt, coreOf, whole, soundOf, soundBytes}
@@ -42,18 +36,6 @@ module _ (w : Bool) (s : List ℕ) (e : Effect) (c : Core) (page : List ℕ) whe
 
   pub change-all : {l : List ℕ} → w ≡ true → l ≡ sets s 0 (soundBytes (soundAfter e c (soundOf s) page)) → l ≡ changed w s e c page
   change-all h p = p ∙ sym (picks w _ s h)
-
--- the number of a reply: at most 256 and the longest request
-request-small : (q : Request) → length (requestBytes q) ≤ 24
-request-small (request.Query q) = omega (arith, length-write query (queryValues q))
-request-small (request.Remap q) = omega (arith, length-write remap (remapValues q))
-request-small (request.Command q) = omega (arith, length-write pcmCommand (pcmCommandValues q))
-request-small (request.Set q) = omega (arith, length-write setParameters (setParametersValues q))
-
-pub reply-small : (a : Say) → saysReply (replyOf a) .number ≤ 280
-reply-small (Send q) = omega (arith, request-small q)
-reply-small (Done v) = omega arith
-reply-small (Refused r) = omega (arith, numbered r .small)
 
 -- what is told in a message that is long enough
 module _ (a : Say) (m : List ℕ) (l : messageSize ≤ length m) where

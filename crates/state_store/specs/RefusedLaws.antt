@@ -4,45 +4,63 @@ use mathlib.Core.Path.{_≡_, refl, sym, ap, _∙_, subst}
 use mathlib.Core.Bool.{Bool, true, false, false≢true}
 use mathlib.Core.List.{List, [], _∷_}
 use mathlib.Core.Logic.{inl, inr}
-use Prim.Native.Nat.{ℕ, _<_}
+use Prim.Native.Nat.{ℕ, _≤_, _<_}
 use native.Mathlib.Omega.{arith}
 use lib.Dec.{eqb}
 use lib.ListN.{length}
 use lib.Seq.{sets}
 use borrow.Author.Tests.{eq-eqb}
 use Rattle.layout.specs.Bytes.{Bytes}
+use Rattle.layout.specs.LayoutLaws.{length-write}
 use Rattle.codes.specs.Says.{pick}
 use Rattle.codes.specs.SaysLaws.{guarded-by, skips}
 use Rattle.codes.specs.Answers.{saysRefusal}
+use Rattle.codes.specs.AnswersLaws.{numbered}
+use Rattle.codes.specs.Cause.{numberIn, forget}
+use Rattle.records.specs.Records.{query, queryValues, remap, remapValues, pcmCommand, pcmCommandValues, setParameters, setParametersValues}
 use Rattle.core.specs.Consistent.{consistentOf}
 use Rattle.core.specs.Plan.{refuseOf}
-use Rattle.core.specs.Reply.{saysReply, replyOf}
+use Rattle.core.specs.Reply.{requestBytes, saysReply, replyWord, replyOf}
 use Rattle.exchange.specs.Exchange.{stepOf, callOf}
 use Rattle.exchange.specs.Feed.{Feed, paged, failed, planOf, pageOf, fedOf, One, ownRefusals}
 use Rattle.exchange.specs.PlanLaws.{Begun, bars, asks, goes, Answered, short, idle, asks-streams, asks-maps, cuts, finishes, ends, fails, fed}
 use Rattle.exchange.specs.Refused.{refused-writes-nothing, refused-unchanged, Left, same, closed, cut, done, refused-feed}
 use Rattle.core.specs.declared.reply.Reply.the-variants as reply
+use Rattle.core.specs.declared.plan.Request.the-variants as request
+use Rattle.core.specs.declared.plan.Say.the-variants as say
 use Rattle.state_store.specs.Store.{whole, soundOf, soundBytes, stateAfter}
 use Rattle.state_store.specs.Calls.{Told, told, tooShort, resultBytes, callIn, feedIn, failIn, Opened, openIn}
 use Rattle.state_store.specs.StoreLaws.{core-at, store-same}
 use Rattle.state_store.specs.OpenLaws.{gateIn, openBy, opened-by}
-use Rattle.state_store.specs.Types.{Written, Refusal, InvalidParam, BadLength, Verdict, Track, Call, SetParams, Command, Remap, Streams, Supported, Xfer, Core, Sound, Look, Plan, Reply, Gate, Shut, SetUp, Open, Says}
+use Rattle.state_store.specs.Types.{Written, Refusal, InvalidParam, BadLength, Verdict, Track, Call, SetParams, Command, Remap, Streams, Supported, Xfer, Core, Sound, Look, Plan, Reply, Request, Say, Gate, Shut, SetUp, Open, Says}
 
 pub record Unchanged (s m r : List ℕ) (x : Told) : Type 0 where
   pub state : x .state ≡ s
   pub message : x .message ≡ m
   pub result : x .result ≡ r
 
--- ---- numbers 1 to 255 are refusals
+-- the number of a reply: at most 256 and the longest request
+request-small : (q : Request) → length (requestBytes q) ≤ 24
+request-small (request.Query q) = omega (arith, length-write query (queryValues q))
+request-small (request.Remap q) = omega (arith, length-write remap (remapValues q))
+request-small (request.Command q) = omega (arith, length-write pcmCommand (pcmCommandValues q))
+request-small (request.Set q) = omega (arith, length-write setParameters (setParametersValues q))
+
+pub reply-small : (a : Say) → saysReply (replyOf a) .number ≤ 280
+reply-small (say.Send q) = omega (arith, request-small q)
+reply-small (say.Done v) = omega arith
+reply-small (say.Refused r) = omega (arith, numbered r .small)
+
+-- ---- numbers 1 to 255, in the low half of an answer, are refusals
 
 record IsRefused (y : Reply) : Type 0 where
   why : Refusal
   is : y ≡ reply.Refused why
 
-refused-by : (y : Reply) → 0 < saysReply y .number → saysReply y .number < 256 → IsRefused y
-refused-by (reply.Send n) a b = absurd (omega arith)
-refused-by (reply.Done v) a b = absurd (omega arith)
-refused-by (reply.Refused x) a b = record { why = x; is = refl }
+refused-by : (a : Say) → 0 < numberIn (replyWord (replyOf a)) → numberIn (replyWord (replyOf a)) < 256 → IsRefused (replyOf a)
+refused-by (say.Send q) p n = let z = reply-small (say.Send q) in absurd (omega arith)
+refused-by (say.Done v) p n = absurd (omega arith)
+refused-by (say.Refused x) p n = record { why = x; is = refl }
 
 -- of all that a feed is refused with, 10 alone leaves the state as it was, whatever was asked
 abbrev Others : List ℕ → Type 0
@@ -109,12 +127,12 @@ module _ (s m r : List ℕ) (b : Bytes s) where
 
   -- ---- A CALL: whatever it is refused with
 
-  pub call-refused : (t : Track) (call : Call) → 0 < callIn s t call m r .answer → callIn s t call m r .answer < 256 → Unchanged s m r (callIn s t call m r)
+  pub call-refused : (t : Track) (call : Call) → 0 < numberIn (callIn s t call m r .answer) → numberIn (callIn s t call m r .answer) < 256 → Unchanged s m r (callIn s t call m r)
   unfolding callIn
   call-refused t call =
       let p = callOf (soundOf s) t call (length m) in
-      guarded-by (λ (x : Told). 0 < x .answer → x .answer < 256 → Unchanged s m r x) _ _ _
-      (λ _ a z. let y = refused-by (replyOf (p .say)) a z in told-unchanged p [] (y .why) (y .is) (refused-unchanged (soundOf s) t call (length m) (y .why) (y .is)))
+      guarded-by (λ (x : Told). 0 < numberIn (x .answer) → numberIn (x .answer) < 256 → Unchanged s m r x) _ _ _
+      (λ _ a z. let y = refused-by (p .say) a z in told-unchanged p [] (y .why) (y .is) (refused-unchanged (soundOf s) t call (length m) (y .why) (y .is)))
       (λ _ _ _. record { state = refl; message = refl; result = refl })
 
   -- ---- A FEED: 10, and 1 for a state that fails the consistency test (of which a store that is not whole is one)
@@ -125,10 +143,10 @@ module _ (s m r : List ℕ) (b : Bytes s) where
       let k = answered-barred (x .core) e (fed x f) in
       subst (λ (p : Plan). Unchanged s m r (told s p (pageOf f) m r)) (sym (k .is)) (told-unchanged (refuseOf (x .core) (k .why)) (pageOf f) (k .why) refl refl)
 
-  feed-unchanged : (f : Feed) → saysReply (fedOf (soundOf s) f .reply) .number ≡ 10 → Unchanged s m r (told s (planOf (soundOf s) f) (pageOf f) m r)
+  feed-unchanged : (f : Feed) → replyWord (fedOf (soundOf s) f .reply) ≡ 10 → Unchanged s m r (told s (planOf (soundOf s) f) (pageOf f) m r)
   feed-unchanged f e =
-      let y = refused-by (fedOf (soundOf s) f .reply) (omega arith) (omega arith) in
-      let n : saysRefusal (y .why) .number ≡ 10 = sym (ap (λ (a : Reply). saysReply a .number) (y .is)) ∙ e in
+      let y = refused-by (planOf (soundOf s) f .say) (omega arith) (omega arith) in
+      let n : saysRefusal (y .why) .number ≡ 10 = sym (forget (y .why)) ∙ ap numberIn (sym (ap replyWord (y .is)) ∙ e) in
       told-unchanged (planOf (soundOf s) f) (pageOf f) (y .why) (y .is) (ten-left (soundOf s) (y .why) n (refused-feed (soundOf s) f (y .why) (y .is)))
 
   abbrev Kept : Told → Type 0
@@ -161,11 +179,11 @@ not-whole s e = ap consistentOf (core-at s ∙ skips _ _ _ e)
 
 -- ---- THE START OF A TRANSFER: whatever it is refused with
 
-pub open-refused : (s m : List ℕ) (t : Track) (stream n : ℕ) → openIn s t stream m .opening ≡ Says n → n < 256 → (openIn s t stream m .state ≡ s) × (openIn s t stream m .message ≡ m)
+pub open-refused : (s m : List ℕ) (t : Track) (stream n : ℕ) → openIn s t stream m .opening ≡ Says n → numberIn n < 256 → (openIn s t stream m .state ≡ s) × (openIn s t stream m .message ≡ m)
 open-refused s m t stream n = opened-by s m t stream P by
   where
     P : Opened → Type 0
-    P o = o .opening ≡ Says n → n < 256 → (o .state ≡ s) × (o .message ≡ m)
+    P o = o .opening ≡ Says n → numberIn n < 256 → (o .state ≡ s) × (o .message ≡ m)
 
     by : (g : Gate) → g ≡ gateIn s m t stream → P (openBy s m t stream g)
     by (Shut x) _ e k = (refl, refl)

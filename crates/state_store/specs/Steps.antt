@@ -12,7 +12,7 @@ use mathlib.Core.Path.{_≡_}
 use lib.ListN.{length, take}
 use Rattle.layout.specs.Rows.{rowsBytes}
 use Rattle.exchange.specs.Exchange.{idsFrom, listOf}
-use Rattle.core.specs.Reply.{saysReply, messageAfter, replyOf}
+use Rattle.core.specs.Reply.{replyWord, messageAfter, replyOf}
 use Rattle.state_store.specs.Store.{soundOf, soundBytes}
 use mathlib.Core.Bool.{Bool}
 use Rattle.core.specs.Plan.{queryOf, sendOf}
@@ -41,7 +41,7 @@ changed w s e c page = pick w (sets s 0 (soundBytes (soundAfter e c (soundOf s) 
 
 abbrev pub finished : Bool → List ℕ → Plan → List ℕ → List ℕ → List ℕ → Told
 finished w s p page m r =
-    left (saysReply (replyOf (p .say)) .number) (changed w s (p .effect) (p .core) page) (messageAfter (p .say) m)
+    left (replyWord (replyOf (p .say))) (changed w s (p .effect) (p .core) page) (messageAfter (p .say) m)
     (sets r 0 (resultBytes (replyOf (p .say)) (listOf (p .say) (p .core .read .streams) (soundOf s .pcms))))
 
 -- a transfer that waits for set-up, by the core at hand

@@ -5,7 +5,7 @@ ghost use mathlib.Core.List.{[]};
 ghost use Prim.Native.Nat.{_≤_};
 ghost use lib.ListN.{length};
 ghost use Rattle.layout.specs.Lent.{messageSize};
-ghost use Rattle.core.specs.Reply.{saysReply};
+ghost use Rattle.core.specs.Reply.{saysReply, replyWord};
 ghost use Rattle.core.specs.declared.plan.Effect.the-variants.{Nothing};
 ghost use Rattle.tables.specs.declared.verdict.Written.the-variants.{InFull, Bytes};
 ghost use Rattle.state_store.specs.Calls.{left, callIn, feedIn, failIn, opened, openIn};
@@ -45,7 +45,7 @@ pub const SIZE: usize = 14447;
 // The least length of a result: a list of 127 streams with its count.
 pub const RESULT: usize = 512;
 
-// The start of a transfer, as far as the state goes: an answer by its number, or a transfer by
+// The start of a transfer, as far as the state goes: an answer as one word, or a transfer by
 // periods of so many bytes, for the ring to start.
 pub enum Opening {
     Says(u64),
@@ -60,15 +60,15 @@ pub fn size() -> u64
 
 // ---- what a plan comes to
 
-// A reply by its number: a request of so many bytes to send is 256 and those.
-fn number_of(reply: Reply) -> u64
+// A reply as one word: a request of so many bytes to send is 256 and those.
+fn word_of(reply: Reply) -> u64
     requires { ⌜ saysReply reply .number ≤ 280 ⌝ }
-    ensures { λ r. ⌜ r ≡ saysReply reply .number ⌝ }
+    ensures { λ r. ⌜ r ≡ replyWord reply ⌝ }
 {
     match reply {
         Reply::Send(n) => 256 + n as u64,
         Reply::Done(_) => 0,
-        Reply::Refused(refusal) => refusal.number() as u64,
+        Reply::Refused(refusal) => refusal.word(),
     }
 }
 
@@ -112,7 +112,7 @@ fn finish(
     let effect = plan.effect;
     put_result(&state[..], say, core.read.streams, &mut *result);
     change(&mut *state, whole, effect, core, page);
-    number_of(tell(say, &mut *message))
+    word_of(tell(say, &mut *message))
 }
 
 // ---- the calls
@@ -221,7 +221,7 @@ pub fn open(state: &mut [u8], t: Track, stream: u32, message: &mut [u8]) -> Open
     let life = life_at(&state[..], stream);
     let gate = xfer_gate(lengths, c, params, life, t, stream);
     match gate {
-        Gate::Shut(refusal) => Opening::Says(refusal.number() as u64),
+        Gate::Shut(refusal) => Opening::Says(refusal.word()),
         Gate::SetUp => set_up(state, whole, c, stream, message),
         Gate::Open(period) => Opening::Open(period),
     }

@@ -1,7 +1,7 @@
 -- An answer page: how it is judged, and the table that it holds. One definition over the record's size serves all three tables.
 -- Assumes nothing.
 use mathlib.Core.Bool.{Bool, true, false, _&&_}
-use mathlib.Core.List.{List, [], _++_}
+use mathlib.Core.List.{List, [], _∷_, _++_}
 use Prim.Native.Nat.{ℕ, _+_, _*_}
 use lib.Dec.{leb, eqb}
 use lib.ListN.{length, drop, replicate}
@@ -57,10 +57,10 @@ refusedBy n Good = false
 refusedBy n (Status word) = false
 refusedBy n (Refused r) = eqb (saysRefusal r .number) n
 
--- document 01's number of a verdict; a status not ok says 2, and 3 to a remap
+-- document 01's number and values of a verdict; a status not ok says 2, and 3 to a remap, and carries the header's word
 abbrev pub saysVerdict : Verdict → Says
 saysVerdict Good = says 0 []
-saysVerdict (Status word) = says 2 []
+saysVerdict (Status word) = says 2 (word ∷ [])
 saysVerdict (Refused r) = saysRefusal r
 
 -- ---- the records, at 4 + i × their bytes, over what the table held; past its count a table is as it was, and is not looked at

@@ -5,7 +5,7 @@ use mathlib.Core.List.{[]}
 use Prim.Native.Nat.{ℕ, _+_, _-_, _*_, _%_}
 use lib.ListN.{replicate}
 use Rattle.codes.specs.Says.{Says, says}
-use Rattle.codes.specs.Answers.{saysRefusal}
+use Rattle.codes.specs.Answers.{saysRefusal, refusalWord}
 use Rattle.turns.specs.Types.{Slot, Track, Ring, Said, Going, Done, Ended, Refused}
 
 abbrev pub blankSlot : Slot
@@ -39,6 +39,13 @@ saysSaid Going = says going []
 saysSaid Done = says 0 []
 saysSaid (Ended r) = saysRefusal r
 saysSaid (Refused r) = saysRefusal r
+
+-- the same as one word at the C boundary: a refusal's status stands in its high half
+abbrev pub saidWord : Said → ℕ
+saidWord Going = going
+saidWord Done = 0
+saidWord (Ended r) = refusalWord r
+saidWord (Refused r) = refusalWord r
 
 abbrev pub goesOn : Said → Bool
 goesOn Going = true

@@ -7,6 +7,7 @@ use mathlib.Core.Bool.{Bool, true, false, false≢true}
 use lib.Dec.{ltb, leb, eqb}
 use borrow.Author.Tests.{lt-ltb, ltb-true, ltb-false, leb-true, leb-false, eq-eqb, eqb-true, eqb-false}
 use Rattle.codes.specs.Says.{pick}
+use Rattle.codes.specs.declared.answers.Cause.the-variants.{Status}
 use Rattle.codes.specs.declared.answers.Refusal.{Refusal}
 use Rattle.codes.specs.declared.answers.Refusal.the-variants.{IoError}
 use Rattle.turns.specs.Ring.{free}
@@ -55,7 +56,7 @@ unfolding judgeOf
 judged t slot outcome = judged-by t slot outcome (isOldest t slot) refl
 
 -- what the outcome of a period that was played says of its status
-fine-by : (status : ℕ) (ok : Bool) → eqb status 0x8000 ≡ ok → pick ok Fine (Fails IoError) ≡ Fine → status ≡ 0x8000
+fine-by : (status : ℕ) (ok : Bool) → eqb status 0x8000 ≡ ok → pick ok Fine (Fails (IoError (Status status))) ≡ Fine → status ≡ 0x8000
 fine-by status true e p = eqb-true _ _ e
 fine-by status false e p = let z : _≡_ {A = ℕ} 0 1 = cc in absurd (omega arith)
 
@@ -63,14 +64,14 @@ pub played-fine : (status : ℕ) → playedOf status ≡ Fine → status ≡ 0x8
 unfolding playedOf
 played-fine status p = fine-by status _ refl p
 
-fails-by : (status : ℕ) (r : Refusal) (ok : Bool) → eqb status 0x8000 ≡ ok → pick ok Fine (Fails IoError) ≡ Fails r → (status ≡ 0x8000 → ⊥) × (IoError ≡ r)
+fails-by : (status : ℕ) (r : Refusal) (ok : Bool) → eqb status 0x8000 ≡ ok → pick ok Fine (Fails (IoError (Status status))) ≡ Fails r → (status ≡ 0x8000 → ⊥) × (IoError (Status status) ≡ r)
 fails-by status r true e p = let z : _≡_ {A = ℕ} 0 1 = cc in absurd (omega arith)
 fails-by status r false e p = (eqb-false _ _ e, cc)
 
-pub played-fails : (status : ℕ) (r : Refusal) → playedOf status ≡ Fails r → (status ≡ 0x8000 → ⊥) × (IoError ≡ r)
+pub played-fails : (status : ℕ) (r : Refusal) → playedOf status ≡ Fails r → (status ≡ 0x8000 → ⊥) × (IoError (Status status) ≡ r)
 unfolding playedOf
 played-fails status r p = fails-by status r _ refl p
 
-pub played-by : (status : ℕ) (ok : Bool) → ok ≡ eqb status 0x8000 → pick ok Fine (Fails IoError) ≡ playedOf status
+pub played-by : (status : ℕ) (ok : Bool) → ok ≡ eqb status 0x8000 → pick ok Fine (Fails (IoError (Status status))) ≡ playedOf status
 unfolding playedOf
-played-by status ok e = ap (λ (b : Bool). pick b Fine (Fails IoError)) e
+played-by status ok e = ap (λ (b : Bool). pick b Fine (Fails (IoError (Status status)))) e

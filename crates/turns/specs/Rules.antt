@@ -3,6 +3,7 @@
 use mathlib.Core.Bool.{Bool, true, false, _&&_}
 use Prim.Native.Nat.{ℕ, _+_, _-_}
 use lib.Dec.{ltb, leb, eqb}
+use Rattle.codes.specs.declared.answers.Cause.the-variants.{Status}
 use Rattle.codes.specs.declared.answers.Refusal.the-variants.{IoError, WrongToken, OutOfTurns}
 use Rattle.codes.specs.Says.{pick}
 use Rattle.turns.specs.Cut.{spanOf}
@@ -48,9 +49,9 @@ submit t =
 -- ---- RULE 2. "The turn's reading is quiet, or a completed slot with a status. Not the oldest in flight, or nothing in flight: end with 6.
 -- Otherwise free the slot; a status other than 0x8000 ends with 2."
 
--- what the completion of a period that was played comes to
+-- what the completion of a period that was played comes to: 2 carries the status (2026-05)
 unfoldable pub playedOf : ℕ → Outcome
-playedOf status = pick (eqb status 0x8000) Fine (Fails IoError)
+playedOf status = pick (eqb status 0x8000) Fine (Fails (IoError (Status status)))
 
 unfoldable pub isOldest : Track → ℕ → Bool
 isOldest t slot = ltb 0 (t .inflight) && eqb slot (t .tail)

@@ -10,6 +10,7 @@ use crate::ring::Said;
 use crate::ring::Sent;
 use crate::ring::Step;
 use crate::ring::Track;
+use codes::Cause;
 use codes::Refusal;
 use codes::StatusCode;
 
@@ -111,7 +112,7 @@ fn played(status: u32) -> Outcome
     if ok {
         Outcome::Fine
     } else {
-        Outcome::Fails(Refusal::IoError)
+        Outcome::Fails(Refusal::IoError(Cause::Status(status)))
     }
 }
 

@@ -5,6 +5,7 @@ use crate::host;
 use crate::host::Host;
 use crate::show;
 use crate::transfer;
+use codes::Cause;
 use codes::Refusal;
 use codes::StatusCode;
 use core::MESSAGE;
@@ -88,7 +89,7 @@ fn notice(n: Notice) {
     show::text(b"  says ");
     match n {
         Notice::Is(_, data) => show::decimal(data as u64),
-        Notice::IoError => show::refusal(Refusal::IoError),
+        Notice::IoError => show::refusal(Refusal::IoError(Cause::NoStatus)),
         Notice::Nothing => show::text(b"nothing"),
     }
     show::text(b"\n");

@@ -1,4 +1,5 @@
 // Words and numbers of the output.
+use codes::Cause;
 use codes::Refusal;
 use core::Value;
 use exchange::StreamList;
@@ -39,11 +40,32 @@ pub(crate) fn bytes(s: &[u8]) {
     }
 }
 
+// What caused 2 or 3, where the device said it.
+fn caused(c: Cause) {
+    match c {
+        Cause::NoStatus => (),
+        Cause::Status(word) => {
+            text(b", the device said ");
+            hex(word as u64);
+        }
+    }
+}
+
+fn io_error(c: Cause) {
+    text(b"IoError");
+    caused(c);
+}
+
+fn unsupported(c: Cause) {
+    text(b"Unsupported");
+    caused(c);
+}
+
 fn name(r: Refusal) {
     match r {
         Refusal::InvalidParam => text(b"InvalidParam"),
-        Refusal::IoError => text(b"IoError"),
-        Refusal::Unsupported => text(b"Unsupported"),
+        Refusal::IoError(c) => io_error(c),
+        Refusal::Unsupported(c) => unsupported(c),
         Refusal::NoInfo => text(b"NoInfo"),
         Refusal::TooMany => text(b"TooMany"),
         Refusal::WrongToken => text(b"WrongToken"),

@@ -1,5 +1,6 @@
 -- `console::event::snd_latest_notification` meets its contract: by what the event says. Assumes nothing.
 use mathlib.Core.Path.{refl, sym, ap, _∙_}
+use Prim.Native.Nat.{ℕ}
 use borrow.Author.Needs.{needs}
 use borrow.Author.Tests.{le-leb, lt-leb}
 use Rattle.codes.specs.SaysLaws.{stops}
@@ -27,9 +28,11 @@ returns-2 c =
 
 returns-3 : tie.Need-returns-3
 returns-3 c =
-    let x = c .before .before in
+    let m = c .before in
+    let x = m .before .before in
     let a = x .before .before .before .before .args in
-    noticed-is (a .event .now) (a .result .now) notice.IoError (le-leb _ _ (x .before .if1 .left)) (ap saysNotice (sym (c .enum-told .given .1)) ∙ x .latest-notification .ensures)
+    ap (λ (n : ℕ). shown n (a .result .now)) (c .word .ensures)
+    ∙ noticed-is (a .event .now) (a .result .now) notice.IoError (le-leb _ _ (x .before .if1 .left)) (ap saysNotice (sym (m .enum-told .given .1)) ∙ x .latest-notification .ensures)
 
 returns-4 : tie.Need-returns-4
 returns-4 c =
@@ -42,7 +45,7 @@ snd-latest-notification-spec =
     tie.close
     (tie.spec
     returns
-    (λ c κs. search needs) (λ c. search needs) (λ c κs. search needs) (λ c κs. search needs) (λ c κs. search needs) (λ c. search needs) (λ c. search needs)
+    (λ c κs. search needs) (λ c. search needs) (λ c κs. search needs) (λ c κs. search needs) (λ c κs. search needs) (λ c. search needs) (λ c κs. search needs) (λ c. search needs)
     (λ c. search needs)
     returns-2
     returns-3

@@ -3,7 +3,7 @@ use mathlib.Core.Bool.{not}
 use mathlib.Core.Path.{refl, ap}
 use borrow.Author.Needs.{needs}
 use borrow.Author.Tests.{eq-eqb, ne-eqb, lt-ltb, le-ltb, not-true, not-false}
-use Rattle.core.specs.Types.{InvalidParam, IoError, BadState, Shut, SetUp}
+use Rattle.core.specs.Types.{NoStatus, InvalidParam, IoError, BadState, Shut, SetUp}
 use Rattle.codes.specs.SaysLaws.{passed, failed, passes, stops}
 use Rattle.core.proofs.gate.checked_by.Statement.{statement}
 use Rattle.core.proofs.gate.checked_by.Tie as tie
@@ -29,7 +29,7 @@ returns-4 c =
     passes _ SetUp _ (not-false _ (d .if1 .left))
     (passes _ (Shut InvalidParam) _ (lt-ltb _ _ (c .before .before .before .if2 .left))
     (passes _ (Shut BadState) _ (passed (rw (h .before .takes .ensures) at (h .held-to .ensures)) (c .before .before .if3 .left))
-    (stops _ (Shut IoError) _ (ap not (eq-eqb _ _ (c .if4 .taken))) refl)))
+    (stops _ (Shut (IoError NoStatus)) _ (ap not (eq-eqb _ _ (c .if4 .taken))) refl)))
 
 returns-5 : tie.Need-returns-5
 returns-5 c =
@@ -38,7 +38,7 @@ returns-5 c =
     passes _ SetUp _ (not-false _ (d .if1 .left))
     (passes _ (Shut InvalidParam) _ (lt-ltb _ _ (c .before .before .before .if2 .left))
     (passes _ (Shut BadState) _ (passed (rw (h .before .takes .ensures) at (h .held-to .ensures)) (c .before .before .if3 .left))
-    (passes _ (Shut IoError) _ (ap not (ne-eqb _ _ (c .if4 .left))) refl)))
+    (passes _ (Shut (IoError NoStatus)) _ (ap not (ne-eqb _ _ (c .if4 .left))) refl)))
 
 pub checked-by-spec : {M : Type 1} → statement M
 checked-by-spec = tie.close (tie.spec (λ c κs. search needs) (λ c κs. search needs) returns returns-2 returns-3 returns-4 returns-5)

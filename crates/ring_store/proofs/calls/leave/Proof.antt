@@ -9,7 +9,7 @@ use Rattle.ring_store.proofs.calls.leave.Statement.{statement}
 use Rattle.ring_store.proofs.calls.leave.Tie as tie
 
 returns : tie.Need-returns
-returns c = let a = c .before .before .before .before .args in refused-over (a .ring .now) (a .step) _ (c .before .before .number .ensures) (sym (c .before .is-refused .ensures) ∙ c .if1 .taken)
+returns c = let a = c .before .before .before .before .args in refused-over (a .ring .now) (a .step) _ (c .before .before .word .ensures) (sym (c .before .is-refused .ensures) ∙ c .if1 .taken)
 
 returns-2 : tie.Need-returns-2
 returns-2 c =
@@ -17,7 +17,7 @@ returns-2 c =
     let t = p .before .before .before .before in
     let i = t .before .before in
     let a = i .before .before .before .before .args in
-    written-over (a .ring .now) (a .step) _ (i .before .before .number .ensures) (sym (i .before .is-refused .ensures) ∙ i .if1 .left) _
+    written-over (a .ring .now) (a .step) _ (i .before .before .word .ensures) (sym (i .before .is-refused .ensures) ∙ i .if1 .left) _
     (p .put-sent .ensures ∙ ap (λ (l : List ℕ). sentOver l (a .step .sent)) (t .put-track .ensures))
 
 pub leave-spec : {M : Type 1} → statement M

@@ -1,11 +1,11 @@
 -- An answer with no values. Assumes nothing.
 use borrow.Author.Needs.{needs}
-use mathlib.Core.Path.{ap, _∙_}
+use mathlib.Core.Path.{ap}
 use mathlib.Core.List.{[]}
 use Prim.Native.Nat.{ℕ}
 use Rattle.codes.specs.Says.{says}
 use Rattle.turns.specs.CallLaws.{passed, failed}
-use Rattle.ring_store.specs.ReadsLaws.{unroomy, bare, refusal-bare}
+use Rattle.ring_store.specs.ReadsLaws.{unroomy, bare}
 use Rattle.ring_store.proofs.reads.tell_refusal.Statement.{statement}
 use Rattle.ring_store.proofs.reads.tell_refusal.Tie as tie
 
@@ -16,7 +16,7 @@ returns-2 : tie.Need-returns-2
 returns-2 c =
     let i = c .before in
     let a = i .before .before .before .before .before .args in
-    bare (a .ring .now) (a .result .now) _ _ (passed (i .before .roomy .ensures) (i .if1 .left)) (ap (λ (k : ℕ). says k []) (c .number .ensures) ∙ refusal-bare (a .refusal))
+    bare (a .ring .now) (a .result .now) _ _ (passed (i .before .roomy .ensures) (i .if1 .left)) (ap (λ (k : ℕ). says k []) (c .word .ensures))
 
 pub tell-refusal-spec : {M : Type 1} → statement M
-tell-refusal-spec = tie.close (tie.spec (λ c κs. tt) (λ c. search needs) returns (λ c κs. tt) (λ c. search needs) (λ c. search needs) returns-2)
+tell-refusal-spec = tie.close (tie.spec (λ c κs. tt) (λ c. search needs) returns (λ c κs. tt) (λ c. search needs) returns-2)

@@ -1,15 +1,15 @@
 -- `state_store::calls::finish` meets its contract, by those of its parts. Assumes nothing.
 use mathlib.Core.Path.{ap, _∙_}
-use Rattle.core.specs.Reply.{saysReply}
-use Rattle.state_store.specs.Types.{Reply}
+use Rattle.core.specs.Reply.{replyWord}
 use Rattle.state_store.specs.Calls.{left}
-use Rattle.state_store.specs.FinishLaws.{reply-small, tells, says-in}
+use Rattle.state_store.specs.RefusedLaws.{reply-small}
+use Rattle.state_store.specs.FinishLaws.{tells, says-in}
 use borrow.Author.Needs.{needs}
 use Rattle.state_store.proofs.calls.finish.Statement.{statement}
 use Rattle.state_store.proofs.calls.finish.Tie as tie
 
-number-of-requires : tie.Need-number-of-requires
-number-of-requires c κs =
+word-of-requires : tie.Need-word-of-requires
+word-of-requires c κs =
     let t = c .before .before in
     let a = t .before .before .before .before .before .before .before .before .before .before .before .before .before .before .before .before in
     rw (t .tell .ensures .0 ∙ tells (a .args .plan .say) (a .args .message .now) (a .pre .1)) (reply-small (a .args .plan .say))
@@ -22,7 +22,7 @@ returns c =
     let say = a .args .plan .say in
     let m = a .args .message .now in
     λ i. left
-    ((c .number-of .ensures ∙ ap (λ (y : Reply). saysReply y .number) (t .tell .ensures .0 ∙ tells say m (a .pre .1))) i)
+    ((c .word-of .ensures ∙ ap replyWord (t .tell .ensures .0 ∙ tells say m (a .pre .1))) i)
     (d .change .ensures i)
     ((t .tell .ensures .1 ∙ says-in say m (a .pre .1)) i)
     (d .before .before .before .before .put-result .ensures i)
@@ -34,7 +34,7 @@ finish-spec =
     (λ c κs. tt)
     (λ c κs. search needs)
     (λ c κs. tt)
-    number-of-requires
+    word-of-requires
     (λ c. search needs)
     (λ c. search needs)
     (λ c. search needs)

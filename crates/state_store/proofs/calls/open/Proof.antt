@@ -46,7 +46,7 @@ returns-2 c =
     let t = a .t in
     let stream = a .stream in
     let g = gated s m t stream (x .before .before .before .before .before .before .before .before .before .before .both .ensures) (x .before .before .before .before .before .core-by .ensures ∙ ap coreOf (x .before .before .before .before .before .before .before .get-head .ensures)) (x .before .before .before .params-at .ensures) (x .before .life-at .ensures) (x .xfer-gate .ensures) in
-    ap (λ (n : ℕ). opened (Says n) s m) (c .number .ensures) ∙ opens s m t stream (gate.Shut _) (sym (c .before .before .gate .given .1) ∙ g)
+    ap (λ (n : ℕ). opened (Says n) s m) (c .word .ensures) ∙ opens s m t stream (gate.Shut _) (sym (c .before .before .gate .given .1) ∙ g)
 
 returns-3 : tie.Need-returns-3
 returns-3 c =
@@ -81,7 +81,7 @@ open-spec =
     get-head-requires
     (λ c κs. tt)
     (λ c κs. c .is-whole .ensures)
-    (λ c κs. tt) (λ c κs. tt) (λ c κs. tt) (λ c. search needs) (λ c κs. tt) (λ c. search needs) (λ c. search needs)
+    (λ c κs. tt) (λ c κs. tt) (λ c κs. tt) (λ c. search needs) (λ c κs. tt) (λ c. search needs)
     set-up-requires
     (λ c. search needs)
     (λ c. search needs)

@@ -6,18 +6,11 @@ use lib.Dec.{eqb, leb}
 use borrow.Author.Needs.{needs}
 use borrow.Author.Tests.{eq-eqb, ne-eqb, le-leb, lt-leb}
 use Rattle.codes.specs.SaysLaws.{passed, failed, passes, stops}
-use Rattle.codes.specs.Codes.{codeSays}
-use Rattle.codes.specs.Statuses.{statusCodes, saysStatus, isOk}
-use Rattle.codes.specs.StatusesLaws.{ok-is}
-use Rattle.codes.specs.declared.statuses.FoundStatus.{FoundStatus}
+use Rattle.codes.specs.StatusesLaws.{header}
 use Rattle.tables.specs.Tables.{covers, judged}
 use Rattle.tables.specs.declared.verdict.Verdict.the-variants.{Status}
 use Rattle.tables.proofs.verdict.judge.Statement.{statement}
 use Rattle.tables.proofs.verdict.judge.Tie as tie
-
--- the status that was found is ok where the header's word is
-header : (f : FoundStatus) (found word : ℕ) (b : Bool) → saysStatus f ≡ codeSays statusCodes 2 found → found ≡ word → b ≡ isOk f → b ≡ eqb word 0x8000
-header f found word b e w i = i ∙ ok-is f found e ∙ ap (λ (n : ℕ). eqb n 0x8000) w
 
 returns : tie.Need-returns
 unfolding judged
@@ -35,7 +28,7 @@ returns-3 c =
     let v = c .before .before .before .before in
     let u = v .before .before in
     let g = u .before .before in
-    let h = failed (header (u .before .from-code .result) _ _ _ (u .before .from-code .ensures) (g .get-u32 .ensures) (u .is-ok .ensures)) (c .if3 .taken) in
+    let h = failed (header (u .before .from-code .result) _ _ (u .before .from-code .ensures) (g .get-u32 .ensures) (u .is-ok .ensures)) (c .if3 .taken) in
     passes _ _ _ (passed (c .before .before .before .page-ok .ensures) (c .before .before .if1 .left)) (passes _ _ _ (passed (v .before .covers .ensures) (c .before .if2 .left)) (stops _ _ _ h (ap Status (g .get-u32 .ensures))))
 
 returns-4 : tie.Need-returns-4
@@ -44,7 +37,7 @@ returns-4 c =
     let v = c .before .before .before .before .before in
     let u = v .before .before in
     let g = u .before .before in
-    let h = passed (header (u .before .from-code .result) _ _ _ (u .before .from-code .ensures) (g .get-u32 .ensures) (u .is-ok .ensures)) (c .before .if3 .left) in
+    let h = passed (header (u .before .from-code .result) _ _ (u .before .from-code .ensures) (g .get-u32 .ensures) (u .is-ok .ensures)) (c .before .if3 .left) in
     let e = ap (λ (n : ℕ). leb n 4096) (g .before .extent .ensures) in
     passes _ _ _ (passed (c .before .before .before .before .page-ok .ensures) (c .before .before .before .if1 .left))
     (passes _ _ _ (passed (v .before .covers .ensures) (c .before .before .if2 .left)) (passes _ _ _ h (stops _ _ _ (sym e ∙ lt-leb _ _ (c .if4 .taken)) (search needs))))
@@ -57,7 +50,7 @@ returns-5 c =
     let u = v .before .before in
     let g = u .before .before in
     let a = g .before .before .before .args in
-    let h = passed (header (u .before .from-code .result) _ _ _ (u .before .from-code .ensures) (g .get-u32 .ensures) (u .is-ok .ensures)) (c .before .before .if3 .left) in
+    let h = passed (header (u .before .from-code .result) _ _ (u .before .from-code .ensures) (g .get-u32 .ensures) (u .is-ok .ensures)) (c .before .before .if3 .left) in
     let e = ap (λ (n : ℕ). leb n 4096) (g .before .extent .ensures) in
     let w = sym (ap (covers (a .w)) (g .before .extent .ensures)) ∙ sym (v .covers2 .ensures) ∙ c .if5 .taken in
     passes _ _ _ (passed (p .page-ok .ensures) (c .before .before .before .before .if1 .left))
@@ -71,7 +64,7 @@ returns-6 c =
     let u = v .before .before in
     let g = u .before .before in
     let a = g .before .before .before .args in
-    let h = passed (header (u .before .from-code .result) _ _ _ (u .before .from-code .ensures) (g .get-u32 .ensures) (u .is-ok .ensures)) (c .before .before .if3 .left) in
+    let h = passed (header (u .before .from-code .result) _ _ (u .before .from-code .ensures) (g .get-u32 .ensures) (u .is-ok .ensures)) (c .before .before .if3 .left) in
     let e = ap (λ (n : ℕ). leb n 4096) (g .before .extent .ensures) in
     let w = sym (ap (covers (a .w)) (g .before .extent .ensures)) ∙ sym (v .covers2 .ensures) ∙ c .if5 .left in
     passes _ _ _ (passed (p .page-ok .ensures) (c .before .before .before .before .if1 .left))
