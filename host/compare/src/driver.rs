@@ -1,6 +1,7 @@
 //! One trait for the three drivers, and everything that can be seen of a step.
 use crate::case::Step;
 use oracle::{End, Inside};
+use std::borrow::Cow;
 
 pub trait Driver {
     /// Makes a step; none where this driver has no counterpart of it.
@@ -12,6 +13,8 @@ pub trait Driver {
 #[derive(Clone, Debug, PartialEq, Eq)]
 pub struct Seen {
     pub end: End,
+    /// the high half of the answer: the status that caused a 2 or a 3, or that none did; the Rust has none to show
+    pub high: u32,
     pub values: Vec<u64>,
     /// the requests, each as long as it was sent
     pub requests: Vec<Vec<u8>>,
@@ -36,6 +39,7 @@ impl Seen {
         let (requests, heard, log, sent, in_flight, stray) = Default::default();
         Seen {
             end,
+            high: 0,
             values,
             requests,
             heard,
@@ -48,6 +52,11 @@ impl Seen {
             model: None,
             stray,
         }
+    }
+
+    /// Without the status: "equality with the Rust then reads after mapping all to IoError, or Unsupported for remap".
+    pub fn forgetting(&self) -> Cow<'_, Self> {
+        if self.high == 0 { Cow::Borrowed(self) } else { Cow::Owned(Seen { high: 0, ..self.clone() }) }
     }
 }
 

@@ -51,9 +51,15 @@ fn value(call: Option<Call>, result: &[u8]) -> (usize, Vec<u64>) {
     }
 }
 
-/// An answer's number as the way a call ended.
-fn end(number: u64) -> End {
-    if number <= u64::from(BAD_STATE) { End::Number(number as u8) } else { End::Panic(format!("answers {number}")) }
+/// An answer as the way a call ended: its number, and the high half beside it.
+fn ended(answer: u64, values: Vec<u64>) -> Seen {
+    let (number, high) = (answer as u32, (answer >> 32) as u32);
+    let end = if number <= u32::from(BAD_STATE) {
+        End::Number(number as u8)
+    } else {
+        End::Panic(format!("answers {number}"))
+    };
+    Seen { high, ..Seen::new(end, values) }
 }
 
 impl<E: Entries> Device for E {
@@ -138,7 +144,7 @@ impl<E: Entries> Host<E> {
         };
         let (written, values) = if number == 0 { value(Some(call), &lent.result) } else { (0, vec![]) };
         self.note(untouched(&lent.result[written..]), "result written beyond its value");
-        Seen::new(end(number), values)
+        ended(number, values)
     }
 
     fn read(&mut self, asked: Asked) -> [u64; 2] {
@@ -197,7 +203,7 @@ impl<E: Entries> Host<E> {
             };
             number = next;
         }
-        let mut seen = Seen::new(end(number), vec![]);
+        let mut seen = ended(number, vec![]);
         if began {
             let stopped = self.read(Asked::Running)[0] == 0;
             self.note(stopped, "the ring says that an ended transfer runs");
@@ -225,7 +231,7 @@ impl<E: Entries> Host<E> {
         match number {
             0 => Seen::new(End::Number(0), vec![u32_at(&result, 0) as u64, u32_at(&result, 4) as u64]),
             NOTHING => Seen::new(End::Number(0), vec![]),
-            number => Seen::new(end(number), vec![]),
+            number => ended(number, vec![]),
         }
     }
 

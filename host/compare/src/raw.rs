@@ -139,7 +139,8 @@ fn enter<E: Entries>(e: &mut E, op: &Op) -> Left {
 }
 
 /// An answer by which the entry must have left its stores as they were, given whether an exchange was open.
-fn keeps(what: &What, number: u64, left: &Left, open: bool) -> bool {
+fn keeps(what: &What, left: &Left, open: bool) -> bool {
+    let number = left.number as u32;
     match what {
         What::New(_) | What::NewGuarded(_) | What::RingNew | What::ModelNew(_) => number != 0,
         What::Call(_) => number < 256 && number != 0,
@@ -168,7 +169,7 @@ fn writes(what: &What) -> [bool; 3] {
 
 /// What is wrong with the port's stores after an entry, if anything is.
 fn stores(what: &What, left: &Left, open: bool, before: &Port, after: &Port) -> Option<String> {
-    let kept = keeps(what, left.number, left, open);
+    let kept = keeps(what, left, open);
     let pairs = [(&before.state, &after.state), (&before.ring, &after.ring), (&before.model, &after.model)];
     for (which, (before, after)) in pairs.into_iter().enumerate() {
         let name = ["state", "ring", "model"][which];
@@ -177,7 +178,7 @@ fn stores(what: &What, left: &Left, open: bool, before: &Port, after: &Port) -> 
             return Some(format!("bytes around the {name} store were written"));
         }
         if (kept || !writes(what)[which]) && before != after {
-            return Some(format!("the {name} store changed with answer {}", left.number));
+            return Some(format!("the {name} store changed with answer {:#x}", left.number));
         }
     }
     None
@@ -257,8 +258,8 @@ impl Pair {
             return Err(format!("{op:?}\n  port: {wrong}"));
         }
         let unchanged = self.rules.sound == rules_before.sound && self.rules.ring == rules_before.ring;
-        if keeps(&op.what, rules.number, &rules, open) && !unchanged {
-            return Err(format!("{op:?}\n  rules: the state changed with answer {}", rules.number));
+        if keeps(&op.what, &rules, open) && !unchanged {
+            return Err(format!("{op:?}\n  rules: the state changed with answer {:#x}", rules.number));
         }
         if port != rules {
             return Err(format!("{op:?}\n  port  {}\n  rules {}", left_text(&port), left_text(&rules)));
@@ -280,7 +281,7 @@ fn left_text(left: &Left) -> String {
     let hex = crate::text::hex;
     let short = |bytes: &[u8]| hex(&bytes[..bytes.len().min(40)]);
     format!(
-        "{} message {} result {} other {}",
+        "{:#x} message {} result {} other {}",
         left.number,
         short(&left.message),
         short(&left.result),
@@ -514,15 +515,21 @@ pub fn shrink(mut ops: Vec<Op>) -> (Vec<Op>, String) {
     (ops, text)
 }
 
+/// A number that entries answer, and a high half of 2 and 3 alone.
+fn known(answer: u64) -> bool {
+    let (number, high) = (answer as u32, answer >> 32);
+    let known = matches!(number, 0..=12 | 512 | 513) || (257..=256 + MESSAGE as u32).contains(&number);
+    known && (high == 0 || matches!(number, 2 | 3))
+}
+
 /// What holds of any bytes: a known number, the same twice, nothing written past the slices' own bytes, a refusal that keeps all.
 fn on_any_bytes(port: &mut Port, op: &Op) -> Result<(), String> {
     let before = port.clone();
     let left = enter(port, op);
     let mut again = before.clone();
     let twice = enter(&mut again, op);
-    let known = matches!(left.number, 0..=12 | 512 | 513) || (257..=256 + MESSAGE as u64).contains(&left.number);
-    if !known {
-        return Err(format!("{op:?}\n  port answers {}", left.number));
+    if !known(left.number) {
+        return Err(format!("{op:?}\n  port answers {:#x}", left.number));
     }
     if left != twice || *port != again {
         return Err(format!("{op:?}\n  port: not the same twice"));

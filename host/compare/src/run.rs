@@ -52,7 +52,8 @@ pub struct Trial {
 
 fn differ(who: &str, step: &Step, seen: &Seen, rules: &Seen) -> String {
     let mut text = format!("step `{}`\n", step_text(step));
-    text += &format!("  {who:6} {}\n  rules  {}", crate::record::seen_text(seen), crate::record::seen_text(rules));
+    let told = |seen: &Seen| format!("{} high half {:x}", crate::record::seen_text(seen), seen.high);
+    text += &format!("  {who:6} {}\n  rules  {}", told(seen), told(rules));
     seen.stray.iter().for_each(|stray| text += &format!("\n  {who}: {stray}"));
     text
 }
@@ -90,6 +91,7 @@ impl Trial {
             return Ok(());
         }
         let Some(seen) = rust.step(step) else { return Ok(()) };
+        let rules = &*rules.forgetting();
         counts.rust_steps += 1;
         counts.rust_calls += u64::from(matches!(step, Step::Control { .. }));
         counts.rust_turns += seen.turns;

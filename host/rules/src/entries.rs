@@ -57,7 +57,7 @@ fn put(result: &mut [u8], numbers: &[u64]) {
 fn said(say: Say, result: &mut [u8]) -> u64 {
     match say {
         Say::Send(n) => return SEND + n as u64,
-        Say::Refused(number) => return number as u64,
+        Say::Refused(why) => return why.answer(),
         Say::Going => return GOING,
         Say::Done(Value::Nothing) => {}
         Say::Done(Value::Bits(bits)) => put(result, &[bits]),
@@ -141,7 +141,7 @@ pub fn turn(ring: Store<&mut Ring>, frames_len: usize, reading: Reading) -> Answ
     lengths(ring.len >= RING_SIZE)?;
     match ring.known()?.turn(frames_len as u64, reading) {
         Turn::Going => Ok(GOING),
-        Turn::Ended(number) => Ok(number as u64),
+        Turn::Ended(said) => Ok(said.answer()),
     }
 }
 
@@ -187,7 +187,7 @@ pub fn notification(event: &[u8], result: &mut [u8]) -> Answer {
     lengths(result.len() >= RESULT_SIZE)?;
     match latest_notification(event) {
         Event::Nothing => Ok(NOTHING),
-        Event::Refused(number) => Err(number as u64),
+        Event::Refused(why) => Err(why.answer()),
         Event::Is { code, data } => {
             result[..8].copy_from_slice(&wire::words(&[code, data]));
             Ok(OK as u64)

@@ -1,7 +1,7 @@
 //! Document 01, read a second time: plain Rust, written from the paper (and from the decisions on what
 //! it leaves open) and from nothing else. The port and the Rust driver are both held to it by `compare`.
 //! Of document 02 these requests are read here too: 2026-01, feeds that carry the length the device wrote; 2026-02, the guard
-//! over a stream's lifecycle; 2026-03, announcements from WAV.
+//! over a stream's lifecycle; 2026-03, announcements from WAV; 2026-05, the device's status in 2 and 3.
 //!
 //! Clarity before speed: tables are vectors, refusals are numbers.
 
@@ -11,6 +11,7 @@ pub mod life;
 pub mod model;
 pub mod ring;
 pub mod sound;
+pub mod status;
 pub mod wave;
 pub mod wire;
 

@@ -1,6 +1,7 @@
 //! Turns of a transfer.
 
-use crate::{BAD_LENGTH, BUSY, INVALID_PARAM, IO_ERROR, OUT_OF_TURNS, RESERVED, WRONG_TOKEN, wire::STATUS_OK};
+use crate::status::{Status, Verdict};
+use crate::{BAD_LENGTH, BUSY, INVALID_PARAM, OUT_OF_TURNS, RESERVED, WRONG_TOKEN};
 
 pub const SLOTS: usize = 32;
 /// Descriptors of one submission, and the least room for one.
@@ -45,7 +46,14 @@ impl Reading {
 #[derive(Copy, Clone, Debug, PartialEq, Eq)]
 pub enum Turn {
     Going,
-    Ended(u8),
+    Ended(Verdict),
+}
+
+impl Turn {
+    /// With this number, and no status that caused it.
+    pub fn ended(number: u8) -> Self {
+        Turn::Ended(number.into())
+    }
 }
 
 /// What the next turn submits.
@@ -102,10 +110,10 @@ impl Ring {
     /// A transfer whose stream and period passed their checks begins; slots keep what they carried.
     pub fn start(&mut self, stream: u32, frames_len: u64, period: u64, budget: u64) -> Turn {
         if self.busy() {
-            return Turn::Ended(BUSY);
+            return Turn::ended(BUSY);
         }
         if budget == 0 {
-            return Turn::Ended(OUT_OF_TURNS);
+            return Turn::ended(OUT_OF_TURNS);
         }
         *self = Ring { running: true, stream, frames_len, period, budget, slots: self.slots, ..Ring::default() };
         Turn::Going
@@ -138,9 +146,9 @@ impl Ring {
         }
     }
 
-    fn end(&mut self, number: u8) -> Turn {
+    fn end(&mut self, said: impl Into<Verdict>) -> Turn {
         self.running = false;
-        Turn::Ended(number)
+        Turn::Ended(said.into())
     }
 
     fn free_oldest(&mut self) {
@@ -150,7 +158,7 @@ impl Ring {
 
     pub fn turn(&mut self, frames_len: u64, reading: Reading) -> Turn {
         if let Some(number) = self.bars(frames_len) {
-            return Turn::Ended(number);
+            return Turn::ended(number);
         }
         self.turns += 1;
         // 1. submit a period, or end where none remains and nothing is in flight
@@ -168,8 +176,8 @@ impl Ring {
                 return self.end(WRONG_TOKEN);
             }
             self.free_oldest();
-            if status != STATUS_OK {
-                return self.end(IO_ERROR);
+            if let Err(refused) = Status::read(status).judged() {
+                return self.end(refused);
             }
         }
         if self.turns == self.budget {

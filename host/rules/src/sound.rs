@@ -2,6 +2,7 @@
 
 use crate::life::{self, Life};
 use crate::ring::{Ring, Turn};
+use crate::status::{Status, Verdict};
 use crate::wire::{self, u32_at, u64_at};
 use crate::*;
 use std::collections::BTreeMap;
@@ -65,9 +66,21 @@ pub enum Say {
     /// so many bytes of the message are to be sent
     Send(usize),
     Done(Value),
-    Refused(u8),
+    Refused(Verdict),
     /// a transfer began
     Going,
+}
+
+impl Say {
+    /// With this number, and no status that caused it.
+    pub fn refused(number: u8) -> Self {
+        Say::Refused(number.into())
+    }
+
+    /// With 2 or 3, and the device's word that caused it.
+    pub fn refused_by(number: u8, word: u32) -> Self {
+        Say::Refused(Verdict::by(number, word))
+    }
 }
 
 /// What the caller feeds. Each feed is judged by itself: the two kinds of page may be mixed.
@@ -134,8 +147,8 @@ enum Plan {
     Say(Say),
 }
 
-fn refuse(number: u8) -> Plan {
-    Plan::Say(Say::Refused(number))
+fn refuse(why: impl Into<Verdict>) -> Plan {
+    Plan::Say(Say::Refused(why.into()))
 }
 
 fn done(value: Value) -> Plan {
@@ -143,22 +156,20 @@ fn done(value: Value) -> Plan {
 }
 
 /// The queue's failure first, then "a length under 4 before the header is judged", then the status.
-fn judge_header(answer: Option<&[u8]>) -> Result<&[u8], u8> {
+fn judge_header(answer: Option<&[u8]>) -> Result<&[u8], Verdict> {
     let answer = answer.ok_or(QUEUE_FAILED)?;
     if answer.len() < wire::HEADER {
-        return Err(SHORT);
+        return Err(SHORT.into());
     }
-    if u32_at(answer, 0) != wire::STATUS_OK {
-        return Err(IO_ERROR);
-    }
+    Status::read(u32_at(answer, 0)).judged()?;
     Ok(answer)
 }
 
 /// The table in an answer: "then, for tables, under 4 + count × size after TooMany".
-fn read_table(table: usize, count: u32, answer: Option<&[u8]>) -> Result<Vec<Vec<u8>>, u8> {
+fn read_table(table: usize, count: u32, answer: Option<&[u8]>) -> Result<Vec<Vec<u8>>, Verdict> {
     let answer = judge_header(answer)?;
     if !wire::fits(table, count) {
-        return Err(TOO_MANY);
+        return Err(TOO_MANY.into());
     }
     let length = wire::answer_length(table, count) as usize;
     let whole = answer.get(..length).ok_or(SHORT)?;
@@ -222,18 +233,18 @@ impl Sound {
 
     pub fn call(&mut self, ring: &Ring, call: Call, message: &mut [u8]) -> Say {
         if message.len() < MESSAGE {
-            return Say::Refused(BAD_LENGTH);
+            return Say::refused(BAD_LENGTH);
         }
         if !self.consistent() || !ring.consistent() {
-            return Say::Refused(INVALID_PARAM);
+            return Say::refused(INVALID_PARAM);
         }
         if self.open.is_some() || ring.busy() {
-            return Say::Refused(BUSY);
+            return Say::refused(BUSY);
         }
         if let Call::SetParams { params, .. } = &call
             && !numbers_in_range(params)
         {
-            return Say::Refused(INVALID_PARAM);
+            return Say::refused(INVALID_PARAM);
         }
         let plan = self.begin(call);
         finish(plan, message)
@@ -331,10 +342,10 @@ impl Sound {
 
     pub fn feed(&mut self, fed: Fed, message: &mut [u8]) -> Say {
         if fed.bad_length() || message.len() < MESSAGE {
-            return Say::Refused(BAD_LENGTH);
+            return Say::refused(BAD_LENGTH);
         }
         if !self.consistent() {
-            return Say::Refused(INVALID_PARAM);
+            return Say::refused(INVALID_PARAM);
         }
         let plan = match self.open {
             None => refuse(INVALID_PARAM),
@@ -349,8 +360,8 @@ impl Sound {
         match read_table(table, self.counts[table], answer) {
             Ok(records) => self.tables[table] = records,
             // too many ends the call whatever was asked; streams end it with any refusal
-            Err(number) if number == TOO_MANY || table == 1 => return self.cut_short(number),
-            // "for jacks and channel maps 11 means an empty table", like 2 and 7, and set-up goes on
+            Err(why) if why.number == TOO_MANY || table == 1 => return self.cut_short(why),
+            // no status of these is handed on: "for jacks and channel maps 11 means an empty table", like 2 and 7, and set-up goes on
             Err(_) => self.tables[table].clear(),
         }
         if table < 2 {
@@ -362,18 +373,18 @@ impl Sound {
     }
 
     /// A set-up cut short leaves all three tables empty.
-    fn cut_short(&mut self, number: u8) -> Plan {
+    fn cut_short(&mut self, why: Verdict) -> Plan {
         self.tables = Default::default();
         self.open = None;
-        refuse(number)
+        refuse(why)
     }
 
     /// The answer to the call's own request. It is a header and no more: four bytes suffice.
     fn take_own(&mut self, call: Call, answer: Option<&[u8]>) -> Plan {
         self.open = None;
         match (judge_header(answer), call) {
-            (Err(IO_ERROR), Call::Remap { .. }) => refuse(UNSUPPORTED),
-            (Err(number), _) => refuse(number),
+            (Err(why), Call::Remap { .. }) if why.number == IO_ERROR => refuse(Verdict { number: UNSUPPORTED, ..why }),
+            (Err(why), _) => refuse(why),
             (Ok(_), Call::SetParams { stream, params }) => {
                 self.params.insert(stream, params);
                 self.moves(stream, wire::SET_PARAMS);
@@ -404,30 +415,30 @@ impl Sound {
         message: &mut [u8],
     ) -> Say {
         if message.len() < MESSAGE {
-            return Say::Refused(BAD_LENGTH);
+            return Say::refused(BAD_LENGTH);
         }
         if !self.consistent() || !ring.consistent() || !self.stream_consistent(stream) {
-            return Say::Refused(INVALID_PARAM);
+            return Say::refused(INVALID_PARAM);
         }
         if self.open.is_some() || ring.busy() {
-            return Say::Refused(BUSY);
+            return Say::refused(BUSY);
         }
         if !self.set_up {
             let plan = self.begin(Call::Transfer(stream));
             return finish(plan, message);
         }
         if stream >= self.counts[1] {
-            return Say::Refused(INVALID_PARAM);
+            return Say::refused(INVALID_PARAM);
         }
         if self.bars_transfers(stream) {
-            return Say::Refused(BAD_STATE);
+            return Say::refused(BAD_STATE);
         }
         let Some(params) = self.params.get(&stream) else {
-            return Say::Refused(IO_ERROR);
+            return Say::refused(IO_ERROR);
         };
         match ring.start(stream, frames_len, params.period as u64, budget) {
             Turn::Going => Say::Going,
-            Turn::Ended(number) => Say::Refused(number),
+            Turn::Ended(why) => Say::Refused(why),
         }
     }
 }

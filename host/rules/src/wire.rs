@@ -17,6 +17,8 @@ pub const START: u32 = 0x0104;
 pub const STOP: u32 = 0x0105;
 pub const STATUS_OK: u32 = 0x8000;
 pub const STATUS_BAD: u32 = 0x8001;
+pub const STATUS_NOT_SUPPORTED: u32 = 0x8002;
+pub const STATUS_IO_ERROR: u32 = 0x8003;
 
 pub fn u32_at(bytes: &[u8], at: usize) -> u32 {
     u32::from_le_bytes(bytes[at..at + 4].try_into().unwrap())

@@ -96,7 +96,7 @@ fn rulings_2_3_5_and_11_each_state_and_each_command() {
         for code in COMMANDS {
             let mut tried = desk.clone();
             if !permits(life, code) {
-                assert_eq!(tried.call(command(code, 1), &[]), Say::Refused(12));
+                assert_eq!(tried.call(command(code, 1), &[]), Say::refused(12));
                 // 10: nothing is written and nothing changes
                 assert_eq!(tried, desk);
                 continue;
@@ -105,19 +105,20 @@ fn rulings_2_3_5_and_11_each_state_and_each_command() {
             assert_eq!(tried.sound.lives, desk.sound.lives, "it is sent, and has not moved yet");
             assert_eq!(tried.feed(Fed::Page(&page(STATUS_OK))), DONE);
             assert_eq!(tried.sound.lives[1], life::after(code));
-            for (fed, number) in [(Fed::Page(&page(STATUS_BAD)[..]), 2), (Fed::Failure, 7)] {
+            let bad = (Fed::Page(&page(STATUS_BAD)[..]), Say::refused_by(2, STATUS_BAD));
+            for (fed, said) in [bad, (Fed::Failure, Say::refused(7))] {
                 let mut refused = desk.clone();
                 refused.call(command(code, 1), &[]);
-                assert_eq!(refused.feed(fed), Say::Refused(number));
+                assert_eq!(refused.feed(fed), said);
                 assert_eq!(refused.sound, desk.sound);
             }
             let mut short = desk.clone();
             short.call(command(code, 1), &[]);
-            assert_eq!(short.feed(Fed::Written(&page(STATUS_OK), 3)), Say::Refused(11));
+            assert_eq!(short.feed(Fed::Written(&page(STATUS_OK), 3)), Say::refused(11));
             assert_eq!(short.sound, desk.sound);
         }
         let mut played = desk.clone();
-        let said = if takes_transfers(life) { Say::Going } else { Say::Refused(12) };
+        let said = if takes_transfers(life) { Say::Going } else { Say::refused(12) };
         assert_eq!(played.transfer(1), said);
         // 13: a transfer does not move the state
         assert_eq!(played.sound, desk.sound);
@@ -128,13 +129,13 @@ fn rulings_2_3_5_and_11_each_state_and_each_command() {
 fn rulings_5_and_6_the_order_of_refusals() {
     let mut desk = Desk::ready(true).ok(WAYS[3], 0);
     for code in COMMANDS {
-        assert_eq!(desk.call(command(code, 2), &[]), Say::Refused(1), "the range comes first");
+        assert_eq!(desk.call(command(code, 2), &[]), Say::refused(1), "the range comes first");
     }
     // set parameters: its period rule, its range, then 12
     let Call::SetParams { params, .. } = command(wire::SET_PARAMS, 0) else { unreachable!() };
     let odd = Params { buffer: 9, ..params };
-    assert_eq!(desk.call(Call::SetParams { stream: 0, params: odd }, &[]), Say::Refused(1));
-    assert_eq!(desk.call(Call::SetParams { stream: 0, params }, &[]), Say::Refused(12));
+    assert_eq!(desk.call(Call::SetParams { stream: 0, params: odd }, &[]), Say::refused(1));
+    assert_eq!(desk.call(Call::SetParams { stream: 0, params }, &[]), Say::refused(12));
     // off, any id is sent
     let mut free = Desk::ready(false);
     for code in &COMMANDS[1..] {
@@ -145,13 +146,13 @@ fn rulings_5_and_6_the_order_of_refusals() {
 #[test]
 fn rulings_7_8_and_12_transfers() {
     let mut desk = Desk::ready(true);
-    assert_eq!(desk.transfer(2), Say::Refused(1));
-    assert_eq!(desk.transfer(0), Say::Refused(12));
+    assert_eq!(desk.transfer(2), Say::refused(1));
+    assert_eq!(desk.transfer(0), Say::refused(12));
     // 8: prepare straight away, though no parameters are known
     assert_eq!(desk.call(command(wire::PREPARE, 0), &[STATUS_OK]), DONE);
-    assert_eq!(desk.transfer(0), Say::Refused(2));
+    assert_eq!(desk.transfer(0), Say::refused(2));
     assert_eq!(desk.call(command(wire::SET_PARAMS, 0), &[STATUS_OK]), DONE);
-    assert_eq!(desk.transfer(0), Say::Refused(12), "a prepared stream must be prepared again");
+    assert_eq!(desk.transfer(0), Say::refused(12), "a prepared stream must be prepared again");
     // 12: release keeps the parameters
     let mut desk = desk.ok(&[wire::PREPARE, wire::RELEASE, wire::PREPARE], 0);
     assert_eq!(desk.transfer(0), Say::Going);
@@ -161,18 +162,18 @@ fn rulings_7_8_and_12_transfers() {
 fn rulings_1_9_and_10_set_up() {
     // 12 at the third feed; set-up stays done
     let mut desk = Desk::new(true);
-    assert_eq!(desk.call(command(wire::START, 0), &[STATUS_OK; 3]), Say::Refused(12));
+    assert_eq!(desk.call(command(wire::START, 0), &[STATUS_OK; 3]), Say::refused(12));
     assert!(desk.sound.set_up && desk.sound.guard && desk.sound.open.is_none());
     let mut desk = Desk::new(true);
     assert_eq!(desk.transfer(1), Say::Send(16));
-    for said in [Say::Send(16), Say::Send(16), Say::Refused(12)] {
+    for said in [Say::Send(16), Say::Send(16), Say::refused(12)] {
         assert_eq!(desk.feed(Fed::Page(&page(STATUS_OK))), said);
     }
     let mut desk = Desk::new(true);
-    assert_eq!(desk.call(command(wire::START, 2), &[STATUS_OK; 3]), Say::Refused(1));
+    assert_eq!(desk.call(command(wire::START, 2), &[STATUS_OK; 3]), Say::refused(1));
     // a set-up cut short keeps the guard
     let mut desk = Desk::new(true);
-    assert_eq!(desk.call(command(wire::START, 0), &[STATUS_OK, STATUS_BAD]), Say::Refused(2));
+    assert_eq!(desk.call(command(wire::START, 0), &[STATUS_OK, STATUS_BAD]), Say::refused_by(2, STATUS_BAD));
     assert_eq!(desk.sound, Sound::new_guarded([1, 2, 1]));
 }
 
@@ -194,9 +195,9 @@ fn ruling_15_a_life_above_4_permits_nothing() {
         let mut desk = desk.clone();
         desk.sound.lives[0] = life;
         for code in COMMANDS {
-            assert_eq!(desk.call(command(code, 0), &[]), Say::Refused(12));
+            assert_eq!(desk.call(command(code, 0), &[]), Say::refused(12));
         }
-        assert_eq!(desk.transfer(0), Say::Refused(12));
+        assert_eq!(desk.transfer(0), Say::refused(12));
         // no part of the consistency test: another stream is as before
         assert_eq!(desk.call(command(wire::PREPARE, 1), &[STATUS_OK]), DONE);
     }
@@ -208,7 +209,7 @@ fn ruling_16_a_command_that_is_out_is_in_range_under_the_guard() {
     assert!(matches!(desk.call(command(wire::START, 2), &[]), Say::Send(8)));
     assert!(matches!(desk.sound.open, Some((Awaits::Own, _))));
     desk.sound.guard = true;
-    assert_eq!(desk.feed(Fed::Failure), Say::Refused(1));
+    assert_eq!(desk.feed(Fed::Failure), Say::refused(1));
     desk.sound.open = Some((Awaits::Own, command(wire::START, 1)));
     // that the table does not permit it is not asked
     assert_eq!(desk.feed(Fed::Page(&page(STATUS_OK))), DONE);

@@ -44,7 +44,7 @@ fn query_of_three_jacks() {
 fn the_period_rule_comes_after_set_up() {
     for (buffer, period, sent) in [(8, 8, 4), (8, 3, 3), (8, 0, 3)] {
         let (requests, say) = all_ok(&mut Sound::new([0, 1, 0]), set(0, buffer, period));
-        let said = if sent == 4 { Say::Done(Value::Nothing) } else { Say::Refused(1) };
+        let said = if sent == 4 { Say::Done(Value::Nothing) } else { Say::refused(1) };
         assert_eq!((requests.len(), say), (sent, said));
     }
 }
@@ -54,7 +54,7 @@ fn what_a_page_holds() {
     let says = |counts| all_ok(&mut Sound::new(counts), Call::InputStreams).1;
     assert_eq!(says([0, 127, 0]), Say::Done(Value::Streams(vec![])));
     for counts in [[0, 128, 0], [171, 0, 0], [0, 0, 171], [u32::MAX, 0, 0]] {
-        assert_eq!(says(counts), Say::Refused(5));
+        assert_eq!(says(counts), Say::refused(5));
     }
 }
 
@@ -75,8 +75,8 @@ fn transfer(frames: u64, period: u64, budget: u64, completes: bool) -> (Vec<u64>
         lengths.extend(offer.map(|offer| offer.length));
         let oldest = ring.oldest().or(offer.map(|offer| offer.slot)).unwrap_or(99);
         let reading = Reading::from_words(completes.into(), oldest as u32, wire::STATUS_OK);
-        if let Turn::Ended(number) = ring.turn(frames, reading) {
-            return (lengths, number, ring);
+        if let Turn::Ended(said) = ring.turn(frames, reading) {
+            return (lengths, said.number, ring);
         }
     }
 }
@@ -93,6 +93,6 @@ fn transfers() {
 
 #[test]
 fn events() {
-    assert_eq!(latest_notification(&wire::words(&[0x1002, 7])), Event::Refused(2));
+    assert_eq!(latest_notification(&wire::words(&[0x1002, 7])), Event::Refused(rules::IO_ERROR.into()));
     assert_eq!(latest_notification(&wire::words(&[0x1000, 7])[..7]), Event::Nothing);
 }

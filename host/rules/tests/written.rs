@@ -92,9 +92,9 @@ fn ruling_1_feeds_of_both_kinds_may_be_mixed() {
 fn ruling_2_a_queue_failure_carries_no_length() {
     let mut desk = Desk::awaiting([1, 1, 1], 0, OUTPUTS);
     assert_eq!(desk.feed(Fed::Failure), Say::Send(16));
-    assert_eq!(desk.feed(Fed::Failure), Say::Refused(7));
+    assert_eq!(desk.feed(Fed::Failure), Say::refused(7));
     for call in [set(4), START, REMAP] {
-        assert_eq!(Desk::own(call).feed(Fed::Failure), Say::Refused(7));
+        assert_eq!(Desk::own(call).feed(Fed::Failure), Say::refused(7));
     }
 }
 
@@ -102,12 +102,12 @@ fn ruling_2_a_queue_failure_carries_no_length() {
 fn rulings_3_4_and_14_a_wrong_length_changes_nothing() {
     for desk in [Desk::awaiting([1, 1, 1], 0, OUTPUTS), Desk::awaiting([1, 1, 1], 1, OUTPUTS), Desk::own(set(4))] {
         for written in [4097, 1 << 32, (1 << 32) + 4, u64::MAX] {
-            let refused = (Say::Refused(10), desk.clone());
+            let refused = (Say::refused(10), desk.clone());
             assert_eq!(desk.outcome(Fed::Written(&page(STATUS_OK), written)), refused);
         }
         for length in [0, 4, 4095, 4097] {
             let wrong = vec![0; length];
-            assert_eq!(desk.outcome(Fed::Written(&wrong, 4)), (Say::Refused(10), desk.clone()));
+            assert_eq!(desk.outcome(Fed::Written(&wrong, 4)), (Say::refused(10), desk.clone()));
         }
         // the same feed, given again with a length that can be
         let (say, _) = desk.outcome(Fed::Written(&page(STATUS_OK), 4096));
@@ -118,41 +118,41 @@ fn rulings_3_4_and_14_a_wrong_length_changes_nothing() {
 #[test]
 fn ruling_4_lengths_come_before_the_state_is_looked_at() {
     let mut closed = Desk::new([1, 1, 1]);
-    assert_eq!(closed.strict(STATUS_OK, 4097), Say::Refused(10));
-    assert_eq!(closed.strict(STATUS_OK, 4096), Say::Refused(1));
+    assert_eq!(closed.strict(STATUS_OK, 4097), Say::refused(10));
+    assert_eq!(closed.strict(STATUS_OK, 4096), Say::refused(1));
     // not 11: no exchange is open to which anything could be short
-    assert_eq!(closed.strict(STATUS_OK, 0), Say::Refused(1));
+    assert_eq!(closed.strict(STATUS_OK, 0), Say::refused(1));
     let mut spoilt = Desk::awaiting([1, 1, 1], 1, OUTPUTS);
     spoilt.sound.reserved[3] = 1;
-    assert_eq!(spoilt.strict(STATUS_OK, 4097), Say::Refused(10));
-    assert_eq!(spoilt.strict(STATUS_OK, 0), Say::Refused(1));
+    assert_eq!(spoilt.strict(STATUS_OK, 4097), Say::refused(10));
+    assert_eq!(spoilt.strict(STATUS_OK, 0), Say::refused(1));
 }
 
 #[test]
 fn ruling_5_a_length_under_4_comes_before_the_header() {
     for status in [STATUS_OK, STATUS_BAD, 0x8002, 0x8003, 0] {
         for written in 0..4 {
-            assert_eq!(Desk::awaiting([1, 1, 1], 1, OUTPUTS).strict(status, written), Say::Refused(11));
+            assert_eq!(Desk::awaiting([1, 1, 1], 1, OUTPUTS).strict(status, written), Say::refused(11));
             for call in [set(4), START, REMAP] {
-                assert_eq!(Desk::own(call).strict(status, written), Say::Refused(11));
+                assert_eq!(Desk::own(call).strict(status, written), Say::refused(11));
             }
         }
     }
     // four bytes are a header, and it is judged
-    assert_eq!(Desk::awaiting([1, 1, 1], 1, OUTPUTS).strict(STATUS_BAD, 4), Say::Refused(2));
-    assert_eq!(Desk::own(START).strict(STATUS_BAD, 4), Say::Refused(2));
-    assert_eq!(Desk::own(REMAP).strict(STATUS_BAD, 4), Say::Refused(3));
+    assert_eq!(Desk::awaiting([1, 1, 1], 1, OUTPUTS).strict(STATUS_BAD, 4), Say::refused_by(2, STATUS_BAD));
+    assert_eq!(Desk::own(START).strict(STATUS_BAD, 4), Say::refused_by(2, STATUS_BAD));
+    assert_eq!(Desk::own(REMAP).strict(STATUS_BAD, 4), Say::refused_by(3, STATUS_BAD));
 }
 
 #[test]
 fn ruling_6_too_many_comes_before_a_short_table() {
     let streams = |status, written| Desk::awaiting([0, 128, 0], 1, OUTPUTS).strict(status, written);
-    assert_eq!(streams(STATUS_BAD, 4), Say::Refused(2));
-    assert_eq!(streams(STATUS_OK, 4), Say::Refused(5));
-    assert_eq!(streams(STATUS_OK, 3), Say::Refused(11));
+    assert_eq!(streams(STATUS_BAD, 4), Say::refused_by(2, STATUS_BAD));
+    assert_eq!(streams(STATUS_OK, 4), Say::refused(5));
+    assert_eq!(streams(STATUS_OK, 3), Say::refused(11));
     for (counts, table) in [([171, 1, 1], 0), ([u32::MAX, 1, 1], 0), ([1, 1, 171], 2), ([1, 1, u32::MAX], 2)] {
         let mut desk = Desk::awaiting(counts, table, OUTPUTS);
-        assert_eq!(desk.strict(STATUS_OK, 4), Say::Refused(5));
+        assert_eq!(desk.strict(STATUS_OK, 4), Say::refused(5));
         assert_eq!((desk.tables(), desk.sound.set_up, desk.sound.open), ([0, 0, 0], false, None));
         let mut desk = Desk::awaiting(counts, table, OUTPUTS);
         let goes_on = if table == 0 { Say::Send(16) } else { Say::Done(Value::Streams(vec![])) };
@@ -171,7 +171,7 @@ fn ruling_7_just_the_table_suffices() {
             let mut short = whole.clone();
             assert!(!matches!(whole.strict(STATUS_OK, enough), Say::Refused(_)));
             assert_eq!(whole.tables()[table], count as usize);
-            let said_11 = short.strict(STATUS_OK, enough - 1) == Say::Refused(11);
+            let said_11 = short.strict(STATUS_OK, enough - 1) == Say::refused(11);
             assert_eq!((said_11, short.tables()[table]), (table == 1, 0));
         }
     }
@@ -199,9 +199,9 @@ fn ruling_9_short_jacks_and_maps_are_silent_and_empty() {
         assert_eq!(desk.strict(STATUS_OK, written), Say::Send(16));
         assert_eq!(desk.message[..16], wire::query(1, 1));
         assert_eq!(desk.strict(STATUS_OK, 36), Say::Send(16));
-        assert_eq!(desk.strict(STATUS_OK, written), Say::Refused(4));
+        assert_eq!(desk.strict(STATUS_OK, written), Say::refused(4));
         assert_eq!((desk.tables(), desk.sound.set_up, desk.sound.open), ([0, 1, 0], true, None));
-        assert_eq!(desk.call(REMAP), Say::Refused(4));
+        assert_eq!(desk.call(REMAP), Say::refused(4));
     }
 }
 
@@ -210,7 +210,7 @@ fn ruling_10_short_streams_cut_set_up_short() {
     for written in [0, 3, 4, 67] {
         let mut desk = Desk::awaiting([1, 2, 1], 1, OUTPUTS);
         let (say, failed) = desk.outcome(Fed::Failure);
-        assert_eq!((say, desk.strict(STATUS_OK, written)), (Say::Refused(7), Say::Refused(11)));
+        assert_eq!((say, desk.strict(STATUS_OK, written)), (Say::refused(7), Say::refused(11)));
         assert_eq!(desk, failed);
         assert_eq!((desk.tables(), desk.sound.set_up, desk.sound.open), ([0, 0, 0], false, None));
         assert_eq!(desk.call(OUTPUTS), Say::Send(16));
@@ -225,7 +225,7 @@ fn ruling_10_a_short_answer_leaves_the_old_parameters() {
     let before = desk.sound.clone();
     for call in [set(8), START, REMAP] {
         assert!(matches!(desk.call(call), Say::Send(_)));
-        assert_eq!(desk.strict(STATUS_OK, 3), Say::Refused(11));
+        assert_eq!(desk.strict(STATUS_OK, 3), Say::refused(11));
         assert_eq!(desk.sound, before);
     }
 }
@@ -234,12 +234,12 @@ fn ruling_10_a_short_answer_leaves_the_old_parameters() {
 fn ruling_11_whatever_waits_for_set_up_can_end_with_11() {
     let reads = [OUTPUTS, Call::InputStreams, Call::Rates(0), Call::Formats(0), Call::ChannelRange(0)];
     for call in reads.into_iter().chain([Call::Features(0), REMAP, set(4), START]) {
-        assert_eq!(Desk::awaiting([1, 1, 1], 1, call).strict(STATUS_OK, 4), Say::Refused(11));
+        assert_eq!(Desk::awaiting([1, 1, 1], 1, call).strict(STATUS_OK, 4), Say::refused(11));
     }
     let (mut desk, mut ring) = (Desk::new([1, 1, 1]), Ring::default());
     assert_eq!(desk.sound.xfer_start(&mut ring, 0, 8, 9, &mut desk.message), Say::Send(16));
     assert_eq!(desk.strict(STATUS_OK, 4), Say::Send(16));
-    assert_eq!(desk.strict(STATUS_OK, 4), Say::Refused(11));
+    assert_eq!(desk.strict(STATUS_OK, 4), Say::refused(11));
     assert_eq!((desk.sound, ring), (Sound::new([1, 1, 1]), Ring::default()));
 }
 
@@ -356,7 +356,7 @@ fn walk(feed: impl Fn(&mut Dice, &Desk) -> (Say, Desk)) -> BTreeSet<u8> {
             while let Say::Send(_) = say {
                 (say, desk) = feed(&mut dice, &desk);
                 seen.insert(match &say {
-                    Say::Refused(number) => *number,
+                    Say::Refused(why) => why.number,
                     _ => 0,
                 });
             }
@@ -394,8 +394,12 @@ fn ruling_12_holds_with_the_lengths_the_model_device_tells() {
     let (jacks, streams, maps) = ([1; 2 * 24], [0; 32], [9; 3 * 24]);
     let mut model = Model::new([&jacks, &streams, &maps]).unwrap();
     let mut desk = Desk::new([2, 1, 3]);
-    let calls =
-        [(set(4), DONE), (START, DONE), (REMAP, Say::Refused(3)), (OUTPUTS, Say::Done(Value::Streams(vec![0])))];
+    let calls = [
+        (set(4), DONE),
+        (START, DONE),
+        (REMAP, Say::refused_by(3, STATUS_BAD)),
+        (OUTPUTS, Say::Done(Value::Streams(vec![0]))),
+    ];
     for (call, last) in calls {
         let mut say = desk.call(call);
         while let Say::Send(n) = say {
@@ -419,7 +423,7 @@ fn rulings_9_10_and_12_covered_is_the_old_feed_and_short_is_a_failure_that_says_
         let covered = written >= 4 && (!ok || enough > FULL || written >= enough);
         let expected = match desk.outcome(Fed::Failure) {
             _ if covered => desk.outcome(Fed::Page(&page)),
-            (Say::Refused(7), failed) => (Say::Refused(11), failed),
+            (say, failed) if say == Say::refused(7) => (Say::refused(11), failed),
             silent => silent,
         };
         assert_eq!(desk.outcome(Fed::Written(&page, written)), expected);
