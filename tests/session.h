@@ -24,8 +24,8 @@ static uint8_t frames[FRAMES];
 
 /* Hands each request to the model device and feeds its answer, until the call says something else. */
 static uint64_t answered(uint64_t said) {
-    while (said >= SND_SEND && said < SND_GOING) {
-        CALL(snd_model_control, MODEL, s.message, said - SND_SEND, PAGE, RESULT);
+    while (SND_NUMBER(said) >= SND_SEND && SND_NUMBER(said) < SND_GOING) {
+        CALL(snd_model_control, MODEL, s.message, SND_NUMBER(said) - SND_SEND, PAGE, RESULT);
         said = CALL(snd_feed, STATE, PAGE, MESSAGE, RESULT);
     }
     return said;
@@ -33,9 +33,9 @@ static uint64_t answered(uint64_t said) {
 
 /* The same in strict mode, with the length that the model device tells; but no more than so many bytes were written. */
 static uint64_t answered_in(uint64_t most, uint64_t said) {
-    while (said >= SND_SEND && said < SND_GOING) {
+    while (SND_NUMBER(said) >= SND_SEND && SND_NUMBER(said) < SND_GOING) {
         uint64_t written;
-        CALL(snd_model_control, MODEL, s.message, said - SND_SEND, PAGE, RESULT);
+        CALL(snd_model_control, MODEL, s.message, SND_NUMBER(said) - SND_SEND, PAGE, RESULT);
         memcpy(&written, s.result, 8);
         said = CALL(snd_feed_written, STATE, PAGE, written < most ? written : most, MESSAGE, RESULT);
     }
@@ -93,7 +93,7 @@ static void control(void) {
 static void transfer(uint64_t budget, uint32_t failing) {
     static uint8_t request[4 + FRAMES];
     uint64_t said = CALL(snd_pcm_xfer_start, STATE, RING, 0, frames, sizeof frames, budget, MESSAGE);
-    for (uint32_t turn = 0, back = 0; said == SND_GOING; turn++) {
+    for (uint32_t turn = 0, back = 0; SND_NUMBER(said) == SND_GOING; turn++) {
         CALL(snd_offered, RING, frames, sizeof frames, RESULT);
         uint64_t there, at, length;
         memcpy(&there, s.result, 8);

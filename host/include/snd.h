@@ -1,8 +1,9 @@
 /* The driver's C entries. docs/BOUNDARY.md says what each answers and writes.
  *
- * Every entry answers one number: the answer's number in its low 32 bits, 0 above. 0 to 10 are
+ * Every entry answers one number: the answer's own in its low 32 bits, SND_NUMBER. 0 to 10 are
  * document 01's answers, 11 to 14 are document 02's; a request of n bytes to send is SND_SEND + n; a turn
- * that goes on is SND_GOING; an event that says nothing is SND_NOTHING.
+ * that goes on is SND_GOING; an event that says nothing is SND_NOTHING. Of 2 and 3 the high 32 bits,
+ * SND_STATUS, are the status by which the device refused, or SND_NO_STATUS; of every other answer 0.
  *
  * A slice is a pointer and a length; an empty one may have any pointer but NULL. Slices that are
  * written must not overlap any other. Any bytes at all are safe to pass: a store that is too short
@@ -30,7 +31,7 @@ extern "C" {
 /* The version of this header and of the archive beside it: docs/BOUNDARY.md says when it changes.
  * As one number it can be compared by #if. */
 #define SND_VERSION_MAJOR 0u
-#define SND_VERSION_MINOR 4u
+#define SND_VERSION_MINOR 5u
 #define SND_VERSION_PATCH 0u
 #define SND_VERSION (SND_VERSION_MAJOR * 1000000u + SND_VERSION_MINOR * 1000u + SND_VERSION_PATCH)
 
@@ -52,6 +53,15 @@ extern "C" {
 #define SND_SEND 256u
 #define SND_GOING 512u
 #define SND_NOTHING 513u
+
+/* An answer's number, and of 2 and 3 the device's own word: 0x8001 bad message, 0x8002 not supported,
+ * 0x8003 I/O error, or a number that the standard does not name, 0 among them: a page of zeros that no
+ * device wrote. SND_NO_STATUS, which is the standard's ok, causes no refusal and stands where no status
+ * did: the stream has no parameters, an event has an unknown code, the jack lacks REMAP. Compare
+ * SND_NUMBER(answer) with the numbers above, never the whole answer with 2 or 3. */
+#define SND_NUMBER(answer) ((uint32_t)(answer))
+#define SND_STATUS(answer) ((uint32_t)((uint64_t)(answer) >> 32))
+#define SND_NO_STATUS 0x8000u
 
 /* Sizes of the stores and buffers, the same as the entries below hand out. */
 #define SND_STATE_SIZE 14447u

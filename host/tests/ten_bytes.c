@@ -1,6 +1,6 @@
 /*
- * A host in C: sets the driver up against the model device and plays an announcement of ten bytes in periods of four. Prints what
- * the device was sent and what it accepted; the test beside host/snd compares that with the text it expects.
+ * A host in C: sets the driver up against the model device and plays an announcement of ten bytes in periods of four; then the device
+ * refuses. Prints what it was sent, what it accepted and what it said; the test beside host/snd compares that with the text it expects.
  */
 #include <stdio.h>
 #include <stdlib.h>
@@ -37,18 +37,33 @@ static void want(const char *what, uint64_t answer, uint64_t wanted)
 	exit(1);
 }
 
+/* An answer as a log has it: its number and, of 2 and 3, what the device said. */
+static const char *named(uint64_t answer)
+{
+	static char text[64];
+	uint32_t number = SND_NUMBER(answer), status = SND_STATUS(answer);
+
+	if (number != SND_IO_ERROR && number != SND_UNSUPPORTED)
+		snprintf(text, sizeof text, "%lu", (unsigned long)number);
+	else if (status == SND_NO_STATUS)
+		snprintf(text, sizeof text, "%lu, by no status", (unsigned long)number);
+	else
+		snprintf(text, sizeof text, "%lu, the device said 0x%04lx", (unsigned long)number, (unsigned long)status);
+	return text;
+}
+
 /* Sends what a call yielded, and feeds the answers until its result. */
 static void finish(const char *call, uint64_t answer)
 {
 	printf("%s:", call);
-	while (answer >= SND_SEND && answer < SND_GOING) {
-		size_t length = (size_t)(answer - SND_SEND);
+	while (SND_NUMBER(answer) >= SND_SEND && SND_NUMBER(answer) < SND_GOING) {
+		size_t length = SND_NUMBER(answer) - SND_SEND;
 
 		printf(" %02x%02x/%zu", message[1], message[0], length);
 		want("model", snd_model_control(model, sizeof model, message, length, page, sizeof page, result, sizeof result), SND_OK);
 		answer = snd_feed(state, sizeof state, page, sizeof page, message, sizeof message, result, sizeof result);
 	}
-	printf(" -> %llu\n", (unsigned long long)answer);
+	printf(" -> %s\n", named(answer));
 }
 
 /* Hands the device the offered period; it completes it at once. Returns its status. */
@@ -78,6 +93,20 @@ static uint64_t turn(void)
 	return snd_turn(ring, sizeof ring, frames, sizeof frames, kind, slot, status);
 }
 
+/* The device refuses a stop with a status; a page of zeros has one too; what no status caused says so. */
+static void refused(uint32_t status)
+{
+	uint64_t answer = snd_pcm_stop(state, sizeof state, ring, sizeof ring, STREAM, message, sizeof message, result, sizeof result);
+
+	want("stop", answer, SND_SEND + 8);
+	memset(page, 0, sizeof page);
+	page[0] = (uint8_t)status;
+	page[1] = (uint8_t)(status >> 8);
+	answer = snd_feed(state, sizeof state, page, sizeof page, message, sizeof message, result, sizeof result);
+	printf("stop: -> %s\n", named(answer));
+	want("status", SND_STATUS(answer), status);
+}
+
 static void set_up(void)
 {
 	/* one output stream of one or two channels */
@@ -93,6 +122,7 @@ static void set_up(void)
 
 int main(void)
 {
+	static const uint8_t event[8] = { 2, 16 };
 	uint64_t answer;
 
 	want("size", snd_state_size(), SND_STATE_SIZE);
@@ -104,11 +134,16 @@ int main(void)
 	set_up();
 	answer = snd_pcm_xfer_start(state, sizeof state, ring, sizeof ring, STREAM, frames, sizeof frames, BUDGET, message, sizeof message);
 	want("transfer", answer, SND_GOING);
-	while ((answer = turn()) == SND_GOING)
+	while (SND_NUMBER(answer = turn()) == SND_GOING)
 		;
 	want("turn", answer, SND_OK);
 	want("turns", snd_ring_turns_run(ring, sizeof ring, result, sizeof result), SND_OK);
 	printf("turns: %llu of %d\n", (unsigned long long)number_at(0), BUDGET);
 	finish("stop", snd_pcm_stop(state, sizeof state, ring, sizeof ring, STREAM, message, sizeof message, result, sizeof result));
+	refused(0x8001);
+	refused(0x8002);
+	refused(0x8003);
+	refused(0);
+	printf("event: -> %s\n", named(snd_latest_notification(event, sizeof event, result, sizeof result)));
 	return 0;
 }

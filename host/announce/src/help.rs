@@ -19,6 +19,10 @@ other on one device that is set up once: a page for each, and a closing line.
                      (4 periods)
   --slow G           the device completes a period only every G turns (1)
   --fail-at N        the device fails period N (the first is 1)
+  --fail-call CALL   the device refuses CALL: streams, remap (with
+                     --short-jacks), set-parameters, prepare, start, stop or
+                     release
+  --fail-status WORD the status of what it fails or refuses (0x8003, I/O error)
   --wrong-slot-at N  the device names a wrong slot at its completion N
   --budget N         turns allowed to an announcement (periods * G + 1)
   --strict           read of each answer only what the device wrote

@@ -41,6 +41,13 @@ impl Object<'_> {
         self.plain(name, number);
     }
 
+    pub fn number_if(&mut self, name: &str, number: Option<u64>) {
+        match number {
+            Some(number) => self.number(name, number),
+            None => self.null(name),
+        }
+    }
+
     /// A time or the like; JSON has no number for one that is not finite.
     pub fn seconds(&mut self, name: &str, seconds: Option<f64>) {
         match seconds.filter(|seconds| seconds.is_finite()) {
@@ -133,6 +140,8 @@ mod tests {
             o.number("n", u64::MAX);
             o.seconds("s", Some(0.5));
             o.seconds("none", Some(f64::INFINITY));
+            o.number_if("if", Some(0));
+            o.number_if("not", None);
             o.truth("t", true);
             o.texts("w", &["a".into(), "b".into()]);
             o.texts("no", &[]);
@@ -140,7 +149,7 @@ mod tests {
             o.list("empty", [], |o, n| o.number("n", n));
             o.object("o", |_| {});
         });
-        let wanted = r#"{"n": 18446744073709551615, "s": 0.500000000, "none": null, "t": true, "w": ["a", "b"], "no": [], "l": [
+        let wanted = r#"{"n": 18446744073709551615, "s": 0.500000000, "none": null, "if": 0, "not": null, "t": true, "w": ["a", "b"], "no": [], "l": [
 {"n": 1},
 {"n": 2}], "empty": [], "o": {}}
 "#;

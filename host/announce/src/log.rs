@@ -4,6 +4,7 @@ use crate::json::{self, Object};
 use crate::report::Report;
 use crate::told::{Control, Fault, Jacks, Period, What, When};
 use page::Built;
+use snd::Answer;
 
 /// The form of the log; a change that a reader would notice counts it up.
 const VERSION: u64 = 1;
@@ -71,16 +72,27 @@ fn before(to: &mut Object, report: &Report) {
 fn control(to: &mut Object, control: &Control) {
     to.number("code", control.code.into());
     to.number("written", control.written as u64);
+    to.number("status", control.status.into());
+}
+
+/// Number and name; of 2 and 3 the device's word, or null where none was the cause, and in words what was.
+fn answer(to: &mut Object, answer: Answer) {
+    to.number("number", answer.number().into());
+    to.text("name", answer.name());
+    let status = answer.cause().flatten();
+    to.number_if("status", status.map(|status| status.word().into()));
+    let cause = answer.cause().map(|cause| match cause {
+        Some(status) => status.to_string(),
+        None => "no status".into(),
+    });
+    to.text_if("cause", cause.as_deref());
 }
 
 fn jacks(to: &mut Object, jacks: &Jacks) {
     to.number("written", jacks.written as u64);
     to.number("whole", jacks.whole as u64);
     to.truth("remap_sent", jacks.sent);
-    to.object("remap_answer", |to| {
-        to.number("number", jacks.answer.number().into());
-        to.text("name", jacks.answer.name());
-    });
+    to.object("remap_answer", |to| answer(to, jacks.answer));
 }
 
 fn device(to: &mut Object, report: &Report) {
@@ -114,8 +126,7 @@ fn device(to: &mut Object, report: &Report) {
 fn after(to: &mut Object, report: &Report) {
     let told = &report.told;
     to.object("answer", |to| {
-        to.number("number", told.answer().number().into());
-        to.text("name", told.answer().name());
+        answer(to, told.answer());
         to.text_if("call", told.refused.map(|(call, _)| call));
     });
     to.truth("given", report.given());

@@ -1,8 +1,9 @@
 //! The command line.
+use crate::device::REMAP;
 use crate::form::Form;
 use crate::help::HELP;
 use crate::sizes;
-use snd::{Format, Rate};
+use snd::{Format, Rate, STATUS_OK, Status};
 use std::ffi::{OsStr, OsString};
 use std::os::unix::ffi::OsStrExt;
 use std::path::PathBuf;
@@ -14,6 +15,17 @@ pub enum Asked {
     Help(&'static str),
     Run(Options),
 }
+
+/// Calls that the device may be told to refuse, by the code of their request.
+const CALLS: [(&str, u32); 7] = [
+    ("streams", 0x0100),
+    ("remap", REMAP),
+    ("set-parameters", 0x0101),
+    ("prepare", 0x0102),
+    ("start", 0x0104),
+    ("stop", 0x0105),
+    ("release", 0x0103),
+];
 
 /// Where frames come from.
 #[derive(Debug, PartialEq, Eq)]
@@ -45,6 +57,10 @@ pub struct Options {
     pub buffer: u32,
     pub slow: u64,
     pub fail_at: Option<u64>,
+    /// The code of the request that the device refuses.
+    pub fail_call: Option<u32>,
+    /// The status of both.
+    pub fail_status: u32,
     pub wrong_slot_at: Option<u64>,
     pub budget: Option<u64>,
     /// Feeds carry the length that the device wrote.
@@ -70,6 +86,8 @@ impl Options {
             buffer: 0,
             slow: 1,
             fail_at: None,
+            fail_call: None,
+            fail_status: Status::IoError.word(),
             wrong_slot_at: None,
             budget: None,
             strict: false,
@@ -130,6 +148,9 @@ pub fn parse(words: &[OsString]) -> Result<Asked, String> {
         }
     }
     options.buffer = sizes::buffer(buffer, options.period)?;
+    if options.fail_call == Some(REMAP) && !options.short_jacks {
+        return Err("--fail-call remap goes with --short-jacks: without it no remap is asked for".into());
+    }
     if options.sources.is_empty() {
         sizes::tone(&options)?;
         options.sources.push(Source::Tone);
@@ -162,6 +183,8 @@ fn take<'w>(
         "--buffer" => *buffer = Some(number(name, value()?, 1, u32::MAX.into())? as u32),
         "--slow" => options.slow = number(name, value()?, 1, 1_000_000)?,
         "--fail-at" => options.fail_at = Some(number(name, value()?, 1, u64::MAX)?),
+        "--fail-call" => options.fail_call = Some(call(value()?)?),
+        "--fail-status" => options.fail_status = status(value()?)?,
         "--wrong-slot-at" => options.wrong_slot_at = Some(number(name, value()?, 1, u64::MAX)?),
         "--budget" => options.budget = Some(number(name, value()?, 0, u64::MAX)?),
         "--accepted" => options.accepted = Some(output(name, value()?)?),
@@ -200,6 +223,30 @@ fn number(option: &str, word: &OsStr, least: u64, most: u64) -> Result<u64, Stri
         Some(number) if (least..=most).contains(&number) => Ok(number),
         _ => Err(format!(
             "{option} takes a number from {least} to {most}, not '{}'",
+            word.display()
+        )),
+    }
+}
+
+fn call(word: &OsStr) -> Result<u32, String> {
+    let found = CALLS.iter().find(|(name, _code)| word == *name);
+    found.map(|(_name, code)| *code).ok_or_else(|| {
+        let known = CALLS.map(|(name, _code)| name).join(", ");
+        format!("--fail-call takes one of {known}, not '{}'", word.display())
+    })
+}
+
+/// A word of 32 bits, as documents write it or in decimal. By ok nothing is refused.
+fn status(word: &OsStr) -> Result<u32, String> {
+    let text = word.to_str().unwrap_or_default();
+    let found = match text.strip_prefix("0x") {
+        Some(digits) => u32::from_str_radix(digits, 16),
+        None => text.parse(),
+    };
+    match found {
+        Ok(status) if status != STATUS_OK => Ok(status),
+        _ => Err(format!(
+            "--fail-status takes a number from 0 to 0xffffffff but 0x8000, which is ok, not '{}'",
             word.display()
         )),
     }

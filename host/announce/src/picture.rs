@@ -251,8 +251,8 @@ impl<'p> Panel<'p> {
         let x = self.x(self.time.transfer as f64);
         svg.line("answer", (x, self.top + 70.0), (x, self.flight_edges().1));
         let text = match self.time.transfer {
-            0 => self.report.told.answered(),
-            turn => format!("turn {turn}: {}", self.report.told.answered()),
+            0 => self.report.told.answered_briefly(),
+            turn => format!("turn {turn}: {}", self.report.told.answered_briefly()),
         };
         let (anchor, x) = if x > WIDTH / 2.0 {
             (Anchor::End, x - 6.0)

@@ -17,11 +17,14 @@ pub struct Period {
     pub payload: Option<Vec<u8>>,
 }
 
-/// A control request, by its code, and how many bytes the device wrote of its answer.
+/// A control request, by its code, and how the device answered it.
 #[derive(Clone, Copy, PartialEq, Eq, Debug)]
 pub struct Control {
     pub code: u32,
+    /// Bytes that it wrote.
     pub written: usize,
+    /// The word at their front.
+    pub status: u32,
 }
 
 #[derive(Default)]
@@ -56,9 +59,16 @@ impl Told {
         self.refused.map_or(Answer::Ok, |(_call, refusal)| refusal.into())
     }
 
-    /// The answer, and to which call it was given.
+    /// The answer, what the device said where it refused, and to which call it was given.
     pub fn answered(&self) -> String {
         page::Answered(self.refused).to_string()
+    }
+
+    /// The same without what the device said, for a narrow place.
+    pub fn answered_briefly(&self) -> String {
+        let (answer, call) = (self.answer(), self.refused.map(|(call, _refusal)| call));
+        let to = call.map_or(String::new(), |call| format!(", to {call}"));
+        format!("{} {}{to}", answer.number(), answer.name())
     }
 
     /// Counts a turn of the transfer.

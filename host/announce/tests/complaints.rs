@@ -50,6 +50,22 @@ fn bad_options() {
         "--fail-at 0",
         "--fail-at takes a number from 1 to 18446744073709551615, not '0'",
     );
+    complaint("--fail-call", "--fail-call needs a value; see --help");
+    let calls = "streams, remap, set-parameters, prepare, start, stop, release";
+    complaint(
+        "--fail-call jacks",
+        &format!("--fail-call takes one of {calls}, not 'jacks'"),
+    );
+    complaint(
+        "--fail-call remap",
+        "--fail-call remap goes with --short-jacks: without it no remap is asked for",
+    );
+    for word in ["0x8000", "32768", "0x100000000", "4294967296", "-1", "8002h", "0x", ""] {
+        complaint(
+            &format!("--fail-at 1 --fail-status={word}"),
+            &format!("--fail-status takes a number from 0 to 0xffffffff but 0x8000, which is ok, not '{word}'"),
+        );
+    }
     complaint("--log -", "--log takes a file's name; standard output has the page");
     complaint("--log=", "--log takes a file's name, and not an empty one");
     complaint("- -- -", "- is named twice; standard input can be read once");

@@ -33,7 +33,9 @@ fn a_good_run() {
     assert_eq!(numbers(accepted, ["bytes", "periods"]), [10_000, 3]);
     let answer = announcement.at("answer");
     assert_eq!((answer.at("number").number(), answer.at("name").text()), (0, "Ok"));
-    assert_eq!(answer.at("call"), &Json::Null);
+    for name in ["call", "status", "cause"] {
+        assert_eq!(answer.at(name), &Json::Null, "{name}");
+    }
     assert_eq!(announcement.at("given"), &Json::Truth(true));
     assert_eq!(announcement.at("broke_off"), &Json::Null);
     let longest = announcement.at("longest_turn").seconds();
@@ -104,6 +106,42 @@ fn two_faults_and_a_drain() {
     let completed = seventh.at("completed");
     assert_eq!(completed.at("phase").text(), "drain");
     assert_eq!(numbers(completed, ["turn", "status"]), [20, 0x8003]);
+}
+
+/// Status 0 is a number and none is null; a refused call and a failed period have what the device said, every answer to a request its own word.
+#[test]
+fn what_the_device_said() {
+    let folder = Folder::new("log-status");
+    folder.write("a.raw", &frames(10));
+    let said = |words: &str| {
+        let log = log(&folder, &format!("a.raw {words}"));
+        log.at("announcements").list()[0].clone()
+    };
+    for (status, cause) in [
+        (0x8002, "0x8002, not supported"),
+        (0, "0x00000000, no status that the standard names"),
+    ] {
+        for (words, call) in [("--fail-call prepare", "prepare"), ("--fail-at 1", "transfer")] {
+            let announcement = said(&format!("{words} --fail-status {status}"));
+            let answer = announcement.at("answer");
+            assert_eq!(numbers(answer, ["number", "status"]), [2, status]);
+            assert_eq!((answer.at("cause").text(), answer.at("call").text()), (cause, call));
+        }
+    }
+    let refused = said("--short-jacks --fail-call remap --fail-status 0x8001");
+    let remap = refused.at("jacks").at("remap_answer");
+    assert_eq!(numbers(remap, ["number", "status"]), [3, 0x8001]);
+    assert_eq!(remap.at("cause").text(), "0x8001, bad message");
+    assert_eq!(refused.at("answer").at("status"), &Json::Null);
+    let controls = refused.at("controls").list().iter();
+    let statuses: Vec<_> = controls.map(|control| numbers(control, ["code", "status"])).collect();
+    assert_eq!(
+        statuses[..4],
+        [[1, 0x8000], [0x0100, 0x8000], [0x0200, 0x8000], [2, 0x8001]]
+    );
+    let other = said("--budget 0");
+    let answer = other.at("answer");
+    assert_eq!((answer.at("number").number(), answer.at("status")), (9, &Json::Null));
 }
 
 /// The codes of control requests with how many bytes were written to each.

@@ -72,6 +72,76 @@ fn a_device_that_fails_a_period() {
     page("fail-slow", "--fail-at 5 --slow 3", 1);
 }
 
+/// The line that answers.
+fn answer(output: &Output) -> String {
+    let page = masked(output);
+    let mut lines = page.lines().filter(|line| line.starts_with("answer "));
+    let only = (lines.next(), lines.next());
+    let (Some(line), None) = only else {
+        panic!("one answer: {only:?}")
+    };
+    line.into()
+}
+
+#[test]
+fn a_device_that_refuses_a_call() {
+    page("refuses", "--fail-call set-parameters --fail-status 0x8002", 1);
+    page(
+        "refuses-streams",
+        "--fail-call streams --fail-status 0x8001 --strict",
+        1,
+    );
+    page(
+        "refuses-remap",
+        "--fail-call remap --fail-status 0x8002 --short-jacks --seconds 1",
+        0,
+    );
+    page("fail-status", "--fail-at 5 --fail-status 0", 1);
+}
+
+/// Which of bad message, not supported, I/O error or an unknown number came, for every call and for a period: two of them never read the same.
+#[test]
+fn the_status_is_named() {
+    let folder = Folder::new("named");
+    folder.write("a.raw", &frames(100));
+    let statuses = [
+        ("0x8001", "0x8001, bad message"),
+        ("0x8002", "0x8002, not supported"),
+        ("0x8003", "0x8003, I/O error"),
+        ("32772", "0x00008004, no status that the standard names"),
+        ("0", "0x00000000, no status that the standard names"),
+        ("0xffffffff", "0xffffffff, no status that the standard names"),
+    ];
+    let calls = [
+        ("--fail-call streams", "output streams"),
+        ("--fail-call set-parameters", "set parameters"),
+        ("--fail-call prepare", "prepare"),
+        ("--fail-call start", "start"),
+        ("--fail-call stop", "stop"),
+        ("--fail-call release", "release"),
+        ("--fail-at 1", "transfer"),
+    ];
+    for (status, named) in statuses {
+        for (words, call) in calls {
+            for mode in ["", "--strict"] {
+                let output = folder.run(&format!("a.raw {words} --fail-status {status} {mode}"));
+                let wanted = format!("answer       2 IoError: the device said {named}, to {call}");
+                assert_eq!((answer(&output), output.status.code()), (wanted, Some(1)));
+            }
+        }
+        let output = folder.run(&format!("a.raw --short-jacks --fail-call remap --fail-status {status}"));
+        let page = masked(&output);
+        let wanted = format!("answered: 3 Unsupported: the device said {named}\n");
+        assert!(page.contains(&wanted), "{page}");
+    }
+    // without a word it is an I/O error
+    let output = folder.run("a.raw --fail-call start");
+    assert_eq!(
+        answer(&output),
+        "answer       2 IoError: the device said 0x8003, I/O error, to start"
+    );
+}
+
 /// Good bytes are not accused, and the period that is missing is named.
 #[test]
 fn a_period_that_fails_in_the_drain() {
@@ -135,7 +205,7 @@ fn the_guard() {
         answers,
         [
             "answer       0 Ok",
-            "answer       2 IoError, to transfer",
+            "answer       2 IoError: the device said 0x8003, I/O error, to transfer",
             "answer       0 Ok"
         ]
     );

@@ -2,7 +2,7 @@
 //! this only has to look whether that function is asked for.
 #![no_std]
 use snd::{
-    Features, Format, Formats, Model, Page, Params, Rate, Rates, Reading, Refusal, Ring, Sound, Started, Step,
+    Features, Format, Formats, Model, Page, Params, Rate, Rates, Reading, Refusal, Ring, Sound, Started, Status, Step,
     StreamList, Unfed, Value, latest_notification, wav,
 };
 
@@ -45,8 +45,14 @@ fn length<T: Value>(step: Result<Step<T>, Refusal>) -> u64 {
     match step {
         Ok(Step::Send(exchange)) => sum(exchange.bytes()) ^ sum(exchange.message().bytes()),
         Ok(Step::Done(_)) => 0,
-        Err(refusal) => refusal.number().into(),
+        Err(refusal) => refused(refusal),
     }
+}
+
+/// The number, the name's length and the device's word.
+fn refused(refusal: Refusal) -> u64 {
+    let word = refusal.cause().flatten().map_or(0, Status::word);
+    u64::from(refusal.number()) ^ refusal.name().len() as u64 ^ u64::from(word)
 }
 
 fn calls(console: &mut Console) -> u64 {

@@ -1,4 +1,5 @@
 //! What was accepted, and what was not.
+use crate::faults::CameBack;
 use core::fmt;
 use sha256::Sum;
 
@@ -60,7 +61,7 @@ pub enum Why {
 impl fmt::Display for Why {
     fn fmt(&self, f: &mut fmt::Formatter<'_>) -> fmt::Result {
         match self {
-            Self::Status(status) => write!(f, "came back with status {status:#06x}"),
+            Self::Status(status) => CameBack(*status).fmt(f),
             Self::NotCompleted => write!(f, "not completed"),
             Self::NotSubmitted => write!(f, "not submitted"),
             Self::OtherBytes => write!(f, "OTHER BYTES were accepted in this place"),

@@ -1,6 +1,6 @@
 //! What a device did wrong, and when.
 use core::fmt;
-use snd::Refusal;
+use snd::{Refusal, Status};
 
 /// A turn, counted from 1: of the transfer, or of the drain after it.
 #[derive(Clone, Copy, PartialEq, Eq, Debug)]
@@ -71,7 +71,19 @@ impl fmt::Display for What {
             Self::WrongSlot { completion, named, due } => {
                 write!(f, "completion {completion} named slot {named}; slot {due} was due")
             }
-            Self::Status { period, status } => write!(f, "period {period} came back with status {status:#06x}"),
+            Self::Status { period, status } => write!(f, "period {period} {}", CameBack(*status)),
+        }
+    }
+}
+
+/// With which status a period came back.
+pub(crate) struct CameBack(pub u32);
+
+impl fmt::Display for CameBack {
+    fn fmt(&self, f: &mut fmt::Formatter<'_>) -> fmt::Result {
+        match Status::of(self.0) {
+            None => f.write_str("came back with ok"),
+            Some(status) => write!(f, "came back with status {status}"),
         }
     }
 }

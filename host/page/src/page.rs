@@ -289,7 +289,7 @@ pub fn at_most(run: u64, allowed: u64, longest: Duration) -> Option<f64> {
     (run > 0).then_some(seconds)
 }
 
-/// The answer, and to which call it was given.
+/// The answer, with what the device said where it refused, and to which call it was given.
 #[derive(Clone, Copy, PartialEq, Eq, Debug)]
 pub struct Answered(pub Option<Refused>);
 
@@ -451,5 +451,48 @@ fn broke_off(lines: &mut Lines, page: &Page) -> fmt::Result {
                 second(&page.params, gap.offset)
             ),
         ),
+    }
+}
+
+#[cfg(test)]
+mod tests {
+    extern crate std;
+    use super::Answered;
+    use snd::{Refusal, Status};
+    use std::string::ToString;
+
+    /// Ok, a refusal without a cause, and of 2 and 3 each cause: no two read the same.
+    #[test]
+    fn the_answer_names_what_the_device_said() {
+        let named = [
+            (
+                Refusal::IoError(Some(Status::BadMessage)),
+                "2 IoError: the device said 0x8001, bad message",
+            ),
+            (
+                Refusal::IoError(Some(Status::NotSupported)),
+                "2 IoError: the device said 0x8002, not supported",
+            ),
+            (
+                Refusal::IoError(Some(Status::IoError)),
+                "2 IoError: the device said 0x8003, I/O error",
+            ),
+            (
+                Refusal::IoError(Some(Status::Other(0))),
+                "2 IoError: the device said 0x00000000, no status that the standard names",
+            ),
+            (Refusal::IoError(None), "2 IoError: no status caused it"),
+            (
+                Refusal::Unsupported(Some(Status::BadMessage)),
+                "3 Unsupported: the device said 0x8001, bad message",
+            ),
+            (Refusal::Unsupported(None), "3 Unsupported: no status caused it"),
+            (Refusal::QueueFailed, "7 QueueFailed"),
+        ];
+        for (refusal, text) in named {
+            let shown = Answered(Some(("start", refusal))).to_string();
+            assert_eq!(shown.strip_suffix(", to start"), Some(text));
+        }
+        assert_eq!(Answered(None).to_string(), "0 Ok");
     }
 }

@@ -20,7 +20,7 @@ fn feed<T: Value>(
 }
 
 // Up to here the text of the page. What follows tries it.
-use snd::{JackInfo, Model, PcmInfo, Ring};
+use snd::{JackInfo, Model, PcmInfo, Ring, Status};
 
 /// A remap of jack 0, where the query of jacks has this length and all else the device's own. The page holds a jack from the start.
 fn remap(of_jacks: Option<usize>) -> Result<(), Refusal> {
@@ -46,8 +46,8 @@ fn remap(of_jacks: Option<usize>) -> Result<(), Refusal> {
 
 /// The answer whole, its header alone, no answer, and one longer than a page.
 pub fn main() -> Result<(), Refusal> {
-    // the jack is known, and its remap sent; the model device knows no such request
-    assert_eq!(remap(Some(4 + 24)), Err(Refusal::Unsupported));
+    // the jack is known, and its remap sent; the model device knows no such request, and calls it a bad message
+    assert_eq!(remap(Some(4 + 24)), Err(Refusal::Unsupported(Some(Status::BadMessage))));
     for of_jacks in [Some(4), None, Some(4097)] {
         assert_eq!(remap(of_jacks), Err(Refusal::NoInfo));
     }

@@ -1,80 +1,90 @@
 //! What a call says: document 01's table, and document 02's.
+use crate::status::{Cause, Status};
 use core::fmt;
 
-/// The table stands here once; both enums, their numbers and their names are made from it.
+/// The table stands here once; both enums, their numbers and their names are made from it. A row with a cause carries it.
 macro_rules! table {
-    ($($(#[$doc:meta])* $name:ident = $number:literal,)*) => {
+    ($($(#[$doc:meta])* $name:ident $(($cause:ident: $of:ty))? = $number:literal,)*) => {
         /// What a call says, by document 01's names and numbers, and document 02's.
         ///
         /// ```
-        /// use snd::{Answer, Refusal};
+        /// use snd::{Answer, Refusal, Status};
         /// assert_eq!(Answer::from(Refusal::Busy), Answer::Busy);
         /// assert_eq!(Answer::Busy.to_string(), "8 Busy");
+        /// let said = Answer::IoError(Some(Status::NotSupported));
+        /// assert_eq!(said.to_string(), "2 IoError: the device said 0x8002, not supported");
+        /// assert_eq!(Answer::IoError(None).to_string(), "2 IoError: no status caused it");
         /// ```
         #[derive(Clone, Copy, PartialEq, Eq, Debug, Hash)]
         #[non_exhaustive]
-        #[repr(u32)]
         pub enum Answer {
             /// Done.
-            Ok = 0,
-            $($(#[$doc])* $name = $number,)*
+            Ok,
+            $($(#[$doc])* $name $(($of))?,)*
             /// No number of the table: the archive linked is not the one that this crate is for. The proved library never says it.
-            Unknown = u32::MAX,
+            Unknown,
         }
 
         /// Every answer but Ok.
         ///
         /// ```
-        /// use snd::Refusal;
-        /// assert_eq!(Refusal::from_number(9), Refusal::OutOfTurns);
+        /// use snd::{Refusal, Status};
+        /// assert_eq!(Refusal::of(9), Refusal::OutOfTurns);
         /// assert_eq!(Refusal::OutOfTurns.number(), 9);
         /// assert_eq!(Refusal::OutOfTurns.name(), "OutOfTurns");
+        ///
+        /// // by the number alone, or by what the device said
+        /// let refusal = Refusal::of(0x8001_0000_0002);
+        /// assert!(matches!(refusal, Refusal::IoError(_)));
+        /// assert_eq!(refusal, Refusal::IoError(Some(Status::BadMessage)));
+        /// assert_eq!(refusal.number(), 2);
         /// ```
         #[derive(Clone, Copy, PartialEq, Eq, Debug, Hash)]
         #[non_exhaustive]
-        #[repr(u32)]
         pub enum Refusal {
-            $($(#[$doc])* $name = $number,)*
+            $($(#[$doc])* $name $(($of))?,)*
             /// No number of the table: the archive linked is not the one that this crate is for. The proved library never says it.
-            Unknown = u32::MAX,
+            Unknown,
         }
 
         impl Refusal {
-            /// The refusal of a number.
+            /// The refusal that an entry answered: the number in the low half, the cause of 2 and 3 in the high half.
             #[must_use]
-            pub const fn from_number(number: u32) -> Self {
-                match number {
-                    $($number => Self::$name,)*
+            pub const fn of(answer: u64) -> Self {
+                match answer as u32 {
+                    $($number => {
+                        $(let $cause: $of = Status::of((answer >> 32) as u32);)?
+                        Self::$name $(($cause))?
+                    })*
                     _ => Self::Unknown,
                 }
             }
 
-            /// Its name in the documents.
-            #[must_use]
-            pub const fn name(self) -> &'static str {
+            const fn answer(self) -> Answer {
                 match self {
-                    $(Self::$name => stringify!($name),)*
-                    Self::Unknown => "Unknown",
-                }
-            }
-        }
-
-        impl From<Refusal> for Answer {
-            fn from(refusal: Refusal) -> Self {
-                match refusal {
-                    $(Refusal::$name => Self::$name,)*
-                    Refusal::Unknown => Self::Unknown,
+                    $(Self::$name $(($cause))? => Answer::$name $(($cause))?,)*
+                    Self::Unknown => Answer::Unknown,
                 }
             }
         }
 
         impl Answer {
+            /// Its number in the documents.
+            #[must_use]
+            pub const fn number(self) -> u32 {
+                match self {
+                    Self::Ok => 0,
+                    $(Self::$name { .. } => $number,)*
+                    Self::Unknown => u32::MAX,
+                }
+            }
+
             /// Its name in the documents.
             #[must_use]
             pub const fn name(self) -> &'static str {
                 match self {
                     Self::Ok => "Ok",
-                    $(Self::$name => stringify!($name),)*
+                    $(Self::$name { .. } => stringify!($name),)*
                     Self::Unknown => "Unknown",
                 }
             }
@@ -86,10 +96,10 @@ table! {
     /// A bad id, number or period rule; a feed with no exchange open; a turn with no transfer running; a drain turn while one runs; a
     /// store that is inconsistent.
     InvalidParam = 1,
-    /// The device's status was not ok; the stream has no parameters; an unknown event code.
-    IoError = 2,
-    /// The jack cannot be remapped, or the device refused to.
-    Unsupported = 3,
+    /// The device's status was not ok, which is the cause; or, with none, the stream has no parameters, or an event's code is unknown.
+    IoError(cause: Cause) = 2,
+    /// The device refused to remap the jack, and its status is the cause; or, with none, the jack cannot be remapped.
+    Unsupported(cause: Cause) = 3,
     /// The jack table is empty after its query failed.
     NoInfo = 4,
     /// More records than a page holds.
@@ -116,10 +126,13 @@ table! {
 }
 
 impl Answer {
-    /// Its number in the documents.
+    /// Of 2 and 3 the status that caused it, or none; no other answer has a cause.
     #[must_use]
-    pub const fn number(self) -> u32 {
-        self as u32
+    pub const fn cause(self) -> Option<Cause> {
+        match self {
+            Self::IoError(cause) | Self::Unsupported(cause) => Some(cause),
+            _ => None,
+        }
     }
 }
 
@@ -127,25 +140,49 @@ impl Refusal {
     /// Its number in the documents.
     #[must_use]
     pub const fn number(self) -> u32 {
-        self as u32
+        self.answer().number()
+    }
+
+    /// Its name in the documents.
+    #[must_use]
+    pub const fn name(self) -> &'static str {
+        self.answer().name()
+    }
+
+    /// Of 2 and 3 the status that caused it, or none; no other refusal has a cause.
+    #[must_use]
+    pub const fn cause(self) -> Option<Cause> {
+        self.answer().cause()
     }
 }
 
+impl From<Refusal> for Answer {
+    fn from(refusal: Refusal) -> Self {
+        refusal.answer()
+    }
+}
+
+/// The number, the name and, of 2 and 3, what the device said.
 impl fmt::Display for Answer {
     fn fmt(&self, f: &mut fmt::Formatter<'_>) -> fmt::Result {
-        write!(f, "{} {}", self.number(), self.name())
+        write!(f, "{} {}", self.number(), self.name())?;
+        match self.cause() {
+            None => Ok(()),
+            Some(None) => f.write_str(": no status caused it"),
+            Some(Some(status)) => write!(f, ": the device said {status}"),
+        }
     }
 }
 
 impl fmt::Display for Refusal {
     fn fmt(&self, f: &mut fmt::Formatter<'_>) -> fmt::Result {
-        Answer::from(*self).fmt(f)
+        self.answer().fmt(f)
     }
 }
 
 impl core::error::Error for Refusal {}
 
-/// What the number of an entry says. Its low half is the number; the high half is 0 today and may carry a status later.
+/// What an entry's answer says. Its low half is the number; the high half has the cause of 2 and 3.
 #[derive(Clone, Copy, PartialEq, Eq, Debug)]
 pub(crate) enum Said {
     /// 0.
@@ -166,7 +203,7 @@ impl Said {
             number @ 256..=511 => Self::Send(number.wrapping_sub(256) as usize),
             512 => Self::Going,
             513 => Self::Nothing,
-            number => Self::Refused(Refusal::from_number(number)),
+            _ => Self::Refused(Refusal::of(answer)),
         }
     }
 
@@ -183,15 +220,33 @@ impl Said {
 #[cfg(test)]
 mod tests {
     use super::{Refusal, Said};
+    use crate::Status;
 
     #[test]
     fn the_number_stands_in_the_low_half() {
-        assert_eq!(Said::of(0x8003_0000_0002), Said::Refused(Refusal::IoError));
         assert_eq!(Said::of(256 + 24), Said::Send(24));
         assert_eq!(
             (Said::of(0), Said::of(512), Said::of(513)),
             (Said::Ok, Said::Going, Said::Nothing)
         );
+    }
+
+    #[test]
+    fn the_cause_stands_in_the_high_half_of_2_and_3() {
+        let causes = [
+            (0x8000, None),
+            (0x8001, Some(Status::BadMessage)),
+            (0x8002, Some(Status::NotSupported)),
+            (0x8003, Some(Status::IoError)),
+            // a page of zeros that no device wrote
+            (0, Some(Status::Other(0))),
+            (u32::MAX, Some(Status::Other(u32::MAX))),
+        ];
+        for (word, cause) in causes {
+            let high = u64::from(word) << 32;
+            assert_eq!(Said::of(high | 2), Said::Refused(Refusal::IoError(cause)), "{word:#x}");
+            assert_eq!(Said::done(high | 3), Err(Refusal::Unsupported(cause)), "{word:#x}");
+        }
     }
 
     #[test]

@@ -38,14 +38,15 @@ pub struct Event {
     pub data: u32,
 }
 
-/// What the bytes of an event queue's buffer say. Bytes that are not 8 say nothing; an unknown code is [`Refusal::IoError`].
+/// What the bytes of an event queue's buffer say. Bytes that are not 8 say nothing; an unknown code is [`Refusal::IoError`], by
+/// no status: an event's code is none.
 ///
 /// ```
 /// use snd::{latest_notification, Event, EventKind, Refusal};
 /// let event = latest_notification(&[0x00, 0x10, 0, 0, 3, 0, 0, 0])?;
 /// assert_eq!(event, Some(Event { kind: EventKind::JackConnected, data: 3 }));
 /// assert_eq!(latest_notification(&[0; 7])?, None);
-/// assert_eq!(latest_notification(&[0x02, 0x10, 0, 0, 3, 0, 0, 0]), Err(Refusal::IoError));
+/// assert_eq!(latest_notification(&[0x02, 0x10, 0, 0, 3, 0, 0, 0]), Err(Refusal::IoError(None)));
 /// # Ok::<(), Refusal>(())
 /// ```
 pub fn latest_notification(event: &[u8]) -> Result<Option<Event>, Refusal> {

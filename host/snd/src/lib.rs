@@ -28,6 +28,8 @@
 //!
 //! Where a device may write less than it is asked for, feed by [`Sound::feed_written`]: what stood in the page before is then not read.
 //!
+//! Where the device refuses, [`Refusal::IoError`] and [`Refusal::Unsupported`] carry what it said: a [`Status`], or none where no status was the cause.
+//!
 //! Where a stream must not be started unprepared, make the state by [`Sound::new_guarded`]: it sends no command, and takes no transfer, that the
 //! standard's lifecycle of a stream does not permit.
 //!
@@ -63,6 +65,7 @@ mod params;
 mod records;
 mod ring;
 mod sound;
+mod status;
 mod step;
 mod supported;
 mod transfer;
@@ -75,6 +78,7 @@ pub use params::{Format, Params, Rate};
 pub use records::{ChannelMap, JackInfo, PcmInfo};
 pub use ring::{Carried, Offer, Reading, Ring, Turn};
 pub use sound::Sound;
+pub use status::{Cause, Status};
 pub use step::{Exchange, Message, Page, Step, StreamList, Unfed, Value};
 pub use supported::{ChannelRange, Features, Formats, Rates};
 pub use transfer::{Frames, Started, Transfer};

@@ -173,8 +173,8 @@ impl<R: BorrowMut<[u8; RING_SIZE]>> Ring<R> {
 
     /// One turn. `frames` are those of the start, unchanged and in the same place: the device reads them until their slots are freed.
     ///
-    /// [`Refusal::IoError`], [`Refusal::WrongToken`] and [`Refusal::OutOfTurns`] end the transfer, and what is then in flight is owed: see
-    /// [`Ring::drain_turn`]. A reading that is refused with `WrongToken` frees nothing, and is to be kept for the drain.
+    /// [`Refusal::IoError`], which carries the completion's status, [`Refusal::WrongToken`] and [`Refusal::OutOfTurns`] end the transfer, and
+    /// what is then in flight is owed: see [`Ring::drain_turn`]. A reading that is refused with `WrongToken` frees nothing, and is to be kept for the drain.
     pub fn turn(&mut self, frames: &[u8], reading: Reading) -> Result<Turn, Refusal> {
         let (kind, slot, status) = reading.numbers();
         match Said::of(ffi::snd_turn(self.store_mut(), frames, kind, slot, status)) {

@@ -224,7 +224,9 @@ impl<F: Frames, R: BorrowMut<[u8; RING_SIZE]>> fmt::Debug for Transfer<'_, F, R>
 #[cfg(test)]
 mod tests {
     use super::{Frames, Stable, Started, Transfer};
-    use crate::{Format, Model, Page, Params, PcmInfo, Rate, Reading, Refusal, Ring, STATUS_OK, Sound, Step, Turn};
+    use crate::{
+        Format, Model, Page, Params, PcmInfo, Rate, Reading, Refusal, Ring, STATUS_OK, Sound, Status, Step, Turn,
+    };
     use core::cell::Cell;
 
     /// Frames that tell when they are freed.
@@ -335,7 +337,7 @@ mod tests {
         // a transfer that failed with nothing else in flight
         let mut transfer = runs(&mut sound, &mut ring, &freed, 9)?;
         let failed = Reading::Completed { slot: 0, status: 0 };
-        assert_eq!(transfer.turn(failed), Err(Refusal::IoError));
+        assert_eq!(transfer.turn(failed), Err(Refusal::IoError(Some(Status::Other(0)))));
         drop(transfer);
         assert_eq!(freed.get(), 2);
         Ok(())

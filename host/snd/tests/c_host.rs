@@ -11,6 +11,11 @@ accepted: byte
 accepted: s.
 turns: 4 of 4
 stop: 0105/8 -> 0
+stop: -> 2, the device said 0x8001
+stop: -> 2, the device said 0x8002
+stop: -> 2, the device said 0x8003
+stop: -> 2, the device said 0x0000
+event: -> 2, by no status
 ";
 
 #[test]

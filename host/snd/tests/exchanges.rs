@@ -75,7 +75,7 @@ fn a_lost_exchange_is_abandoned_at_every_stage() {
         assert_eq!(desk.device.params(0), Ok(None));
         assert_eq!(
             desk.sound.pcm_xfer_start(&mut desk.ring, 0, b"", 1),
-            Err(Refusal::IoError)
+            Err(Refusal::IoError(None))
         );
     }
 }

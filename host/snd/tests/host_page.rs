@@ -1,6 +1,8 @@
-//! The audio loop, the strict feed and the announcement from a file of docs/HOST.md run, and the page shows the texts that ran.
+//! The audio loop, the strict feed, the refusal told and the announcement from a file of docs/HOST.md run, and the page shows the texts that ran.
 #[path = "../examples/audio_loop.rs"]
 mod audio_loop;
+#[path = "../examples/refused.rs"]
+mod refused;
 #[path = "../examples/strict_mode.rs"]
 mod strict_mode;
 #[path = "../examples/wave_file.rs"]
@@ -17,6 +19,11 @@ fn the_strict_feed_believes_what_was_written() {
 }
 
 #[test]
+fn what_the_device_said_is_told() {
+    assert_eq!(refused::main(), Ok(()));
+}
+
+#[test]
 fn a_file_says_what_a_stream_is_set_to() {
     assert_eq!(wave_file::main(), Ok(()));
 }
@@ -27,6 +34,7 @@ fn the_page_shows_the_texts_that_ran() {
     let texts = [
         include_str!("../examples/audio_loop.rs"),
         include_str!("../examples/strict_mode.rs"),
+        include_str!("../examples/refused.rs"),
         include_str!("../examples/wave_file.rs"),
     ];
     let blocks: Vec<_> = page.split("```").skip(1).step_by(2).collect();

@@ -41,6 +41,13 @@ const DONE: u64 = 0;
 const SEND: u64 = 256;
 const GOING: u64 = 512;
 const BAD_STATE: u64 = 12;
+/// 2 by no status: the stream has no parameters.
+const NOT_SET: u64 = io_error(OK);
+
+/// 2, and what the device said.
+const fn io_error(status: u32) -> u64 {
+    (status as u64) << 32 | 2
+}
 
 /// Everything that is lent, with a new state of one jack, two streams and one map.
 fn new(guard: bool) -> Lent {
@@ -183,11 +190,11 @@ fn a_transfer_from_each_state() {
 fn an_answer_that_is_not_ok_leaves_the_stream_where_it_was() {
     type Feed = fn(&mut Lent) -> u64;
     let feeds: [(Feed, u64); 8] = [
-        (|lent| feed(lent, 0x8001), 2),
-        (|lent| feed(lent, 0x8002), 2),
-        (|lent| feed(lent, 0x8003), 2),
-        (|lent| feed(lent, 0), 2),
-        (|lent| feed(lent, OK + 1), 2),
+        (|lent| feed(lent, 0x8001), io_error(0x8001)),
+        (|lent| feed(lent, 0x8002), io_error(0x8002)),
+        (|lent| feed(lent, 0x8003), io_error(0x8003)),
+        (|lent| feed(lent, 0), io_error(0)),
+        (|lent| feed(lent, u32::MAX), io_error(u32::MAX)),
         (|lent| feed_written(lent, 0), 11),
         (|lent| feed_written(lent, 3), 11),
         (fail, 7),
@@ -277,7 +284,7 @@ fn the_state_comes_after_busy_and_the_numbers_and_before_parameters_and_budget()
     assert_eq!(transfer(&mut lent, 1, 0), BAD_STATE);
     assert_eq!(ask(&mut lent, PREPARE, 1), SEND + 8);
     assert_eq!(feed(&mut lent, OK), DONE);
-    assert_eq!(transfer(&mut lent, 1, 0), 2);
+    assert_eq!(transfer(&mut lent, 1, 0), NOT_SET);
     assert_eq!(transfer(&mut lent, 0, 0), 9);
     // parameters alone are not enough
     assert_eq!(transfer(&mut led(true, WAYS[SET]), 0, 0), BAD_STATE);
@@ -309,7 +316,7 @@ fn without_the_guard_everything_is_sent() {
             }
         }
         assert_eq!(transfer(&mut left.clone(), 0, 9), GOING);
-        assert_eq!(transfer(&mut left.clone(), 1, 9), 2);
+        assert_eq!(transfer(&mut left.clone(), 1, 9), NOT_SET);
     }
 }
 
@@ -335,7 +342,7 @@ fn a_set_up_that_ends_in_12_stays_done() {
     for (guard, stream, refusal) in [
         (true, 0, BAD_STATE),
         (true, STREAMS, 1),
-        (false, 0, 2),
+        (false, 0, NOT_SET),
         (false, STREAMS, 1),
     ] {
         let mut lent = new(guard);

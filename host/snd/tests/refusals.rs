@@ -1,7 +1,7 @@
 //! Every refusal but 10, each way to it.
 mod common;
 use common::{Desk, PARAMS, sent};
-use snd::{Model, Page, Params, PcmInfo, Reading, Refusal, Ring, STATUS_OK, Sound, Step, Unfed};
+use snd::{Cause, Model, Page, Params, PcmInfo, Reading, Refusal, Ring, STATUS_OK, Sound, Status, Step, Unfed, Value};
 
 const OK: Reading = Reading::Completed {
     slot: 0,
@@ -110,44 +110,153 @@ fn invalid_param_1_for_a_reserved_byte() {
     }
 }
 
+/// Words that a device may say where it refuses: the standard's three, numbers that it does not name, and that of a page of zeros.
+const REFUSING: [(u32, Status); 7] = [
+    (0x8001, Status::BadMessage),
+    (0x8002, Status::NotSupported),
+    (0x8003, Status::IoError),
+    (0x8004, Status::Other(0x8004)),
+    (0, Status::Other(0)),
+    (0x1_8000, Status::Other(0x1_8000)),
+    (u32::MAX, Status::Other(u32::MAX)),
+];
+
 #[test]
-fn io_error_2() {
+fn io_error_2_carries_what_the_device_said() {
     let mut desk = Desk::with_params();
-    assert_eq!(
-        desk.sound.pcm_xfer_start(&mut desk.ring, 1, b"", 1),
-        Err(Refusal::IoError)
-    );
-    let step = desk.sound.pcm_prepare(&desk.ring, 0);
-    assert_eq!(desk.finish_with_status(step, 0x8003), Err(Refusal::IoError));
-    let step = desk.sound.pcm_set_params(&desk.ring, 0, PARAMS);
-    assert_eq!(desk.finish_with_status(step, 0x8002), Err(Refusal::IoError));
-    assert_eq!(
-        snd::latest_notification(&[2, 16, 0, 0, 0, 0, 0, 0]),
-        Err(Refusal::IoError)
-    );
-    // the query of streams fails: set-up is cut short, and begins again
+    for (word, status) in REFUSING {
+        let said: Result<(), Refusal> = Err(Refusal::IoError(Some(status)));
+        let step = desk.sound.pcm_set_params(&desk.ring, 0, PARAMS);
+        assert_eq!(desk.finish_with_status(step, word), said);
+        let step = desk.sound.pcm_prepare(&desk.ring, 0);
+        assert_eq!(desk.finish_with_status(step, word), said);
+        let step = desk.sound.pcm_start(&desk.ring, 0);
+        assert_eq!(desk.finish_with_status(step, word), said);
+        let step = desk.sound.pcm_stop(&desk.ring, 0);
+        assert_eq!(desk.finish_with_status(step, word), said);
+        let step = desk.sound.pcm_release(&desk.ring, 0);
+        assert_eq!(desk.finish_with_status(step, word), said);
+        // the query of streams fails, those of jacks too: set-up is cut short, and begins again
+        let mut new = Desk::new();
+        let step = new.sound.pcm_prepare(&new.ring, 0);
+        assert_eq!(new.finish_with_status(step, word), said);
+        let step = new.sound.pcm_prepare(&new.ring, 0);
+        assert_eq!(new.finish(step), Ok(()));
+    }
+}
+
+/// What a call says where the queries of its set-up are answered with these statuses, and nothing else but zeros.
+fn after<T: Value>(
+    call: impl FnOnce(&mut Desk) -> Result<Step<T>, Refusal>,
+    statuses: [u32; 3],
+) -> Result<Step<T>, Refusal> {
     let mut desk = Desk::new();
-    let step = desk.sound.pcm_prepare(&desk.ring, 0);
-    assert_eq!(desk.finish_with_status(step, 0x8001), Err(Refusal::IoError));
-    let step = desk.sound.pcm_prepare(&desk.ring, 0);
-    assert_eq!(desk.finish(step), Ok(()));
+    let mut step = call(&mut desk)?;
+    for status in statuses {
+        let Step::Send(exchange) = step else { break };
+        let asked = exchange.bytes().first_chunk() == Some(&[1, 0]);
+        if asked && status == STATUS_OK {
+            desk.device.control(exchange.bytes(), &mut desk.page)?;
+        }
+        desk.page.bytes_mut()[..4].copy_from_slice(&status.to_le_bytes());
+        step = desk.sound.feed(exchange, &desk.page)?;
+    }
+    Ok(step)
+}
+
+/// A status of jacks or of channel maps is handed on by nobody: set-up goes on.
+#[test]
+fn a_status_that_did_not_cause_the_refusal_is_not_carried() {
+    let prepare = |desk: &mut Desk| desk.sound.pcm_prepare(&desk.ring, 0);
+    let refused = Err(Refusal::IoError(Some(Status::NotSupported)));
+    assert_eq!(after(prepare, [0x8003, 0x8002, 0]), refused);
+    // maps fail, and then the call's own test
+    let transfer = |desk: &mut Desk| desk.sound.pcm_xfer_start(&mut desk.ring, 0, b"", 1);
+    let remap = |desk: &mut Desk| desk.sound.jack_remap(&desk.ring, 1, 0, 0);
+    for status in [STATUS_OK, 0x8001, 0x8002, 0x8003, 0] {
+        assert_eq!(
+            after(transfer, [STATUS_OK, STATUS_OK, status]),
+            Err(Refusal::IoError(None))
+        );
+        assert_eq!(
+            after(remap, [STATUS_OK, STATUS_OK, status]),
+            Err(Refusal::Unsupported(None))
+        );
+        assert_eq!(after(remap, [0x8003, STATUS_OK, status]), Err(Refusal::NoInfo));
+    }
+}
+
+#[test]
+fn io_error_2_without_a_status() {
+    let none = Refusal::IoError(None);
+    let mut desk = Desk::with_params();
+    assert_eq!(desk.sound.pcm_xfer_start(&mut desk.ring, 1, b"", 1), Err(none));
+    assert_eq!(snd::latest_notification(&[2, 16, 0, 0, 0, 0, 0, 0]), Err(none));
+    // after a set-up that the transfer began: no stream has parameters
+    let mut desk = Desk::new();
+    let step = desk.sound.pcm_xfer_start(&mut desk.ring, 0, b"", 1);
+    assert_eq!(desk.finish(step), Err(none));
 }
 
 #[test]
 fn io_error_2_ends_a_transfer_and_frees_the_slot() {
-    let mut desk = Desk::with_transfer(b"frames", 9);
-    let slot = desk.ring.offered(b"frames").unwrap().unwrap().slot;
-    let failed = Reading::Completed { slot, status: 0x8003 };
-    assert_eq!(desk.ring.turn(b"frames", failed), Err(Refusal::IoError));
-    assert_eq!((desk.ring.running(), desk.ring.in_flight()), (Ok(false), Ok(0)));
+    for (word, status) in REFUSING {
+        let mut desk = Desk::with_transfer(b"frames", 9);
+        let slot = desk.ring.offered(b"frames").unwrap().unwrap().slot;
+        let failed = Reading::Completed { slot, status: word };
+        let refused = Err(Refusal::IoError(Some(status)));
+        assert_eq!(desk.ring.turn(b"frames", failed), refused);
+        assert_eq!((desk.ring.running(), desk.ring.in_flight()), (Ok(false), Ok(0)));
+    }
 }
 
 #[test]
 fn unsupported_3() {
     let mut desk = Desk::with_params();
-    assert_eq!(desk.sound.jack_remap(&desk.ring, 1, 0, 0), Err(Refusal::Unsupported));
-    let step = desk.sound.jack_remap(&desk.ring, 0, 0, 0);
-    assert_eq!(desk.finish_with_status(step, 0x8001), Err(Refusal::Unsupported));
+    // it lacks REMAP, and nothing is sent
+    let lacks = desk.sound.jack_remap(&desk.ring, 1, 0, 0);
+    assert_eq!(lacks, Err(Refusal::Unsupported(None)));
+    for (word, status) in REFUSING {
+        let step = desk.sound.jack_remap(&desk.ring, 0, 0, 0);
+        let refused = Err(Refusal::Unsupported(Some(status)));
+        assert_eq!(desk.finish_with_status(step, word), refused);
+    }
+}
+
+/// Status 0 and none differ, and so do any two words, in what is compared and in what is read.
+#[test]
+fn two_causes_are_two_refusals() {
+    let causes: Vec<Cause> = REFUSING
+        .iter()
+        .map(|(word, _)| Status::of(*word))
+        .chain([None])
+        .collect();
+    let refusals = causes
+        .iter()
+        .flat_map(|cause| [Refusal::IoError(*cause), Refusal::Unsupported(*cause)]);
+    let refusals: Vec<Refusal> = refusals.collect();
+    for (at, one) in refusals.iter().enumerate() {
+        for other in &refusals[..at] {
+            assert_ne!(one, other);
+            assert_ne!(one.to_string(), other.to_string());
+        }
+    }
+}
+
+/// Where a status was the cause, and where none was; of every other answer the high half is 0.
+#[test]
+fn the_high_half_of_an_answer() {
+    use snd::ffi::{snd_drain_turn, snd_latest_notification, snd_turn};
+    let mut store = *Desk::with_transfer(b"frames", 9).ring.store();
+    let mut result = [0; snd::RESULT_SIZE];
+    assert_eq!(snd_drain_turn(&mut store, 1, 0, 0x8003), 1);
+    assert_eq!(snd_turn(&mut store, b"frames", 0, 0, 0x8003), 512);
+    assert_eq!(snd_turn(&mut store.clone(), b"frames", 1, 31, 0x8003), 6);
+    assert_eq!(snd_turn(&mut store.clone(), b"frames", 1, 0, 0x8003), 0x8003_0000_0002);
+    assert_eq!(snd_turn(&mut store, b"frames", 1, 0, 0), 2);
+    assert_eq!(snd_drain_turn(&mut store, 1, 1, 0x8003), 0);
+    let event = [2, 16, 0, 0, 0, 0, 0, 0];
+    assert_eq!(snd_latest_notification(&event, &mut result), 0x8000_0000_0002);
 }
 
 #[test]
@@ -327,14 +436,30 @@ fn answers_have_the_documents_numbers() {
         (14, "BadSound"),
     ];
     for (number, name) in names {
-        let refusal = Refusal::from_number(number);
+        let refusal = Refusal::of(u64::from(number) | 0x8002 << 32);
         assert_eq!((refusal.number(), refusal.name()), (number, name));
         let answer = snd::Answer::from(refusal);
+        let carries = [2, 3].contains(&number);
+        let cause = carries.then_some(Some(Status::NotSupported));
+        assert_eq!((refusal.cause(), answer.cause()), (cause, cause));
+        let said = if carries {
+            ": the device said 0x8002, not supported"
+        } else {
+            ""
+        };
         assert_eq!(
             (answer.number(), answer.name(), answer.to_string()),
-            (number, name, format!("{number} {name}"))
+            (number, name, format!("{number} {name}{said}"))
         );
     }
     assert_eq!((snd::Answer::Ok.number(), snd::Answer::Ok.name()), (0, "Ok"));
-    assert_eq!(Refusal::from_number(15), Refusal::Unknown);
+    assert_eq!(Refusal::of(15), Refusal::Unknown);
+    assert_eq!(
+        Refusal::of(0x8000_0000_0003).to_string(),
+        "3 Unsupported: no status caused it"
+    );
+    assert_eq!(
+        Refusal::of(2).to_string(),
+        "2 IoError: the device said 0x00000000, no status that the standard names"
+    );
 }

@@ -1,7 +1,7 @@
 //! Strict mode: of an answer only what the device wrote is read.
 mod common;
 use common::{Desk, PARAMS, Random, sent};
-use snd::{Exchange, Model, PAGE_SIZE, Page, Params, PcmInfo, Refusal, Ring, Sound, Step, Unfed, Value};
+use snd::{Exchange, Model, PAGE_SIZE, Page, Params, PcmInfo, Refusal, Ring, Sound, Status, Step, Unfed, Value};
 
 const JACKS: u32 = 1;
 const STREAMS: u32 = 0x0100;
@@ -145,7 +145,7 @@ fn the_header_is_judged_after_its_length_and_before_the_count() {
     let mut page = Page::new();
     for (status, written, refusal) in [
         (0x8001_u32, 3, Refusal::Short),
-        (0x8001, 4, Refusal::IoError),
+        (0x8001, 4, Refusal::IoError(Some(Status::BadMessage))),
         (0x8000, 3, Refusal::Short),
         (0x8000, 4, Refusal::TooMany),
     ] {
