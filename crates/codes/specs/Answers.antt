@@ -27,6 +27,8 @@ saysRefusal refusal.OutOfTurns = says 9 []
 saysRefusal refusal.BadLength = says 10 []
 saysRefusal refusal.Short = says 11 []
 saysRefusal refusal.BadState = says 12 []
+saysRefusal refusal.Full = says 15 []
+saysRefusal refusal.NotYet = says 16 []
 
 -- ---- at the C boundary: of 2 and 3 the device's word stands in the high half, and 0x8000 where none caused it (0x8000 is ok and causes none, and 0 may);
 -- of every other refusal the high half is 0
@@ -48,6 +50,8 @@ highHalf refusal.OutOfTurns = 0
 highHalf refusal.BadLength = 0
 highHalf refusal.Short = 0
 highHalf refusal.BadState = 0
+highHalf refusal.Full = 0
+highHalf refusal.NotYet = 0
 
 abbrev pub refusalWord : Refusal → ℕ
 refusalWord r = saysRefusal r .number + 4294967296 * highHalf r

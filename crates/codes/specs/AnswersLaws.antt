@@ -23,3 +23,5 @@ numbered refusal.OutOfTurns = record { least = omega arith; small = omega arith 
 numbered refusal.BadLength = record { least = omega arith; small = omega arith }
 numbered refusal.Short = record { least = omega arith; small = omega arith }
 numbered refusal.BadState = record { least = omega arith; small = omega arith }
+numbered refusal.Full = record { least = omega arith; small = omega arith }
+numbered refusal.NotYet = record { least = omega arith; small = omega arith }

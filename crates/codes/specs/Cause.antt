@@ -47,6 +47,8 @@ Caused refusal.OutOfTurns = Unit {0}
 Caused refusal.BadLength = Unit {0}
 Caused refusal.Short = Unit {0}
 Caused refusal.BadState = Unit {0}
+Caused refusal.Full = Unit {0}
+Caused refusal.NotYet = Unit {0}
 
 -- ---- the way back, from the two halves to what is said
 
@@ -75,6 +77,8 @@ says-back refusal.OutOfTurns h = refl
 says-back refusal.BadLength h = refl
 says-back refusal.Short h = refl
 says-back refusal.BadState h = refl
+says-back refusal.Full h = refl
+says-back refusal.NotYet h = refl
 
 -- two refusals with one word say the same, number and status
 pub word-back : (a b : Refusal) → Caused a → Caused b → refusalWord a ≡ refusalWord b → saysRefusal a ≡ saysRefusal b

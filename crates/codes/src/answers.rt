@@ -21,6 +21,8 @@ pub enum Refusal {
     BadLength,
     Short,
     BadState,
+    Full,
+    NotYet,
 }
 
 impl Cause {
@@ -52,6 +54,8 @@ impl Refusal {
             Refusal::BadLength => 10,
             Refusal::Short => 11,
             Refusal::BadState => 12,
+            Refusal::Full => 15,
+            Refusal::NotYet => 16,
         }
     }
 
@@ -72,6 +76,8 @@ impl Refusal {
             Refusal::BadLength => 0,
             Refusal::Short => 0,
             Refusal::BadState => 0,
+            Refusal::Full => 0,
+            Refusal::NotYet => 0,
         }
     }
 

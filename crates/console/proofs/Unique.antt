@@ -9,6 +9,7 @@ use Rattle.codes.specs.SaysLaws.{same}
 use Rattle.layout.specs.Lent.{Made, made, Shown, shown}
 use Rattle.model_store.specs.Calls as device
 use Rattle.state_store.specs.Calls.{Told, left}
+use Rattle.state_store.specs.Tokens.{Submitted, submitted}
 use Rattle.console.specs.Entries.{Begun, began}
 use Rattle.console.proofs.sizes.snd_state_size.Reads as state-size
 use Rattle.console.proofs.sizes.snd_ring_size.Reads as ring-size
@@ -37,6 +38,11 @@ use Rattle.console.proofs.calls.snd_feed.Reads as feed
 use Rattle.console.proofs.calls.snd_feed_written.Reads as feed-written
 use Rattle.console.proofs.calls.snd_feed_failure.Reads as feed-failure
 use Rattle.console.proofs.transfer.snd_pcm_xfer_start.Reads as pcm-xfer-start
+use Rattle.console.proofs.nonblocking.snd_pcm_xfer_nb.Reads as pcm-xfer-nb
+use Rattle.console.proofs.nonblocking.snd_pcm_xfer_mark.Reads as pcm-xfer-mark
+use Rattle.console.proofs.nonblocking.snd_pcm_xfer_ok.Reads as pcm-xfer-ok
+use Rattle.console.proofs.nonblocking.snd_pending_count.Reads as pending-count
+use Rattle.console.proofs.nonblocking.snd_pending_token.Reads as pending-token
 use Rattle.console.proofs.ring.snd_ring_new.Reads as ring-new
 use Rattle.console.proofs.ring.snd_offered.Reads as offered
 use Rattle.console.proofs.ring.snd_turn.Reads as turn
@@ -63,6 +69,11 @@ left-one p q = let e = same p q in (ap (λ (y : Told). y .answer) e, ap (λ (y :
 
 began-one : {x : Begun} {a b : ℕ} {s t k l m n : List ℕ} → began a s k m ≡ x → began b t l n ≡ x → (a ≡ b) × (s ≡ t) × (k ≡ l) × (m ≡ n)
 began-one p q = let e = same p q in (ap (λ (y : Begun). y .answer) e, ap (λ (y : Begun). y .state) e, ap (λ (y : Begun). y .ring) e, ap (λ (y : Begun). y .message) e)
+
+submitted-one : {x : Submitted} {a b : ℕ} {s t k l m n r u : List ℕ} → submitted a s k m r ≡ x → submitted b t l n u ≡ x → (a ≡ b) × (s ≡ t) × (k ≡ l) × (m ≡ n) × (r ≡ u)
+submitted-one p q =
+    let e = same p q in
+    (ap (λ (y : Submitted). y .answer) e, ap (λ (y : Submitted). y .state) e, ap (λ (y : Submitted). y .places) e, ap (λ (y : Submitted). y .message) e, ap (λ (y : Submitted). y .result) e)
 
 made-one : {x : Made} {a b : ℕ} {s t : List ℕ} → made a s ≡ x → made b t ≡ x → (a ≡ b) × (s ≡ t)
 made-one p q = let e = same p q in (ap (λ (y : Made). y .answer) e, ap (λ (y : Made). y .store) e)
@@ -170,6 +181,25 @@ feed-failure-one κs a r₁ r₂ e₁ e₂ p q = left-one p q
 pub pcm-xfer-start-one : (κs : _) (a : _) (r₁ r₂ : _) (e₁ e₂ : _) → pcm-xfer-start.Post κs a r₁ e₁ → pcm-xfer-start.Post κs a r₂ e₂
     → (r₁ ≡ r₂) × (now (e₁ .0) ≡ now (e₂ .0)) × (now (e₁ .1 .0) ≡ now (e₂ .1 .0)) × (now (e₁ .1 .1 .1 .1 .1 .0) ≡ now (e₂ .1 .1 .1 .1 .1 .0))
 pcm-xfer-start-one κs a r₁ r₂ e₁ e₂ p q = began-one p q
+
+-- lent: state, places, message, result
+pub pcm-xfer-nb-one : (κs : _) (a : _) (r₁ r₂ : _) (e₁ e₂ : _) → pcm-xfer-nb.Post κs a r₁ e₁ → pcm-xfer-nb.Post κs a r₂ e₂
+    → (r₁ ≡ r₂) × (now (e₁ .0) ≡ now (e₂ .0)) × (now (e₁ .1 .1 .1 .1 .0) ≡ now (e₂ .1 .1 .1 .1 .0)) × (now (e₁ .1 .1 .1 .1 .1 .0) ≡ now (e₂ .1 .1 .1 .1 .1 .0)) × (now (e₁ .1 .1 .1 .1 .1 .1 .0) ≡ now (e₂ .1 .1 .1 .1 .1 .1 .0))
+pcm-xfer-nb-one κs a r₁ r₂ e₁ e₂ p q = submitted-one p q
+
+-- lent: state
+pub pcm-xfer-mark-one : (κs : _) (a : _) (r₁ r₂ : _) (e₁ e₂ : _) → pcm-xfer-mark.Post κs a r₁ e₁ → pcm-xfer-mark.Post κs a r₂ e₂ → (r₁ ≡ r₂) × (now (e₁ .0) ≡ now (e₂ .0))
+pcm-xfer-mark-one κs a r₁ r₂ e₁ e₂ p q = made-one p q
+
+pub pcm-xfer-ok-one : (κs : _) (a : _) (r₁ r₂ : _) (e₁ e₂ : _) → pcm-xfer-ok.Post κs a r₁ e₁ → pcm-xfer-ok.Post κs a r₂ e₂ → (r₁ ≡ r₂) × (now (e₁ .0) ≡ now (e₂ .0))
+pcm-xfer-ok-one κs a r₁ r₂ e₁ e₂ p q = made-one p q
+
+-- lent: result
+pub pending-count-one : (κs : _) (a : _) (r₁ r₂ : _) (e₁ e₂ : _) → pending-count.Post κs a r₁ e₁ → pending-count.Post κs a r₂ e₂ → (r₁ ≡ r₂) × (now (e₁ .1 .0) ≡ now (e₂ .1 .0))
+pending-count-one κs a r₁ r₂ e₁ e₂ p q = shown-one p q
+
+pub pending-token-one : (κs : _) (a : _) (r₁ r₂ : _) (e₁ e₂ : _) → pending-token.Post κs a r₁ e₁ → pending-token.Post κs a r₂ e₂ → (r₁ ≡ r₂) × (now (e₁ .1 .1 .0) ≡ now (e₂ .1 .1 .0))
+pending-token-one κs a r₁ r₂ e₁ e₂ p q = shown-one p q
 
 -- lent: ring
 pub ring-new-one : (κs : _) (a : _) (r₁ r₂ : _) (e₁ e₂ : _) → ring-new.Post κs a r₁ e₁ → ring-new.Post κs a r₂ e₂ → (r₁ ≡ r₂) × (now (e₁ .0) ≡ now (e₂ .0))

@@ -29,6 +29,7 @@ use Rattle.layout.specs.Lent.{Made, made, Shown, shown, resultSize}
 use Rattle.ring_store.specs.Store.{trackAt, ringOf, ringBytes}
 use Rattle.state_store.specs.Store.{soundOf, stateAfter}
 use Rattle.state_store.specs.Calls.{Told, tooShort, callIn}
+use Rattle.state_store.specs.Tokens.{Submitted, submitted, nbIn}
 use Rattle.wav.specs.Wave.{waveOf, saysWave, wroteOf, saysWrote, fileOf, writtenBy}
 use Rattle.wav.specs.declared.reader.Wave.{Wave}
 use Rattle.wav.specs.declared.reader.ReadWave.{ReadWave}
@@ -40,6 +41,13 @@ abbrev pub callEntry : List ℕ → List ℕ → Call → List ℕ → List ℕ 
 callEntry s ring call m r =
     guard (leb ringSize (length ring)) (tooShort s m r)
     (callIn s (trackAt ring) call m r)
+
+-- ---- a submission that does not wait: likewise
+
+abbrev pub nbEntry : List ℕ → List ℕ → ℕ → List ℕ → List ℕ → List ℕ → List ℕ → Submitted
+nbEntry s ring stream payload places m r =
+    guard (leb ringSize (length ring)) (submitted 10 s places m r)
+    (nbIn s (trackAt ring) stream payload places m r)
 
 -- ---- the start of a transfer: `startOf` on the state and the ring that the stores hold
 

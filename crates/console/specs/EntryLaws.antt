@@ -27,6 +27,7 @@ use Rattle.records.specs.declared.event.Notice.{Notice}
 use Rattle.records.specs.declared.event.Notice.the-variants as notice
 use Rattle.turns.specs.Calls.{startCall, startedOf}
 use Rattle.turns.specs.declared.ring.Track.{Track}
+use Rattle.pending.specs.Table.{noneIn}
 use Rattle.exchange.specs.Xfer.{xferBy, refusedStep, setUpStep, startStep, startOf}
 use Rattle.exchange.specs.StepLaws.{xfer-ap}
 use Rattle.ring_store.specs.Store.{ringSize}
@@ -115,15 +116,15 @@ module _ (s ring : List ℕ) (stream len budget : ℕ) where
         let p : startIn ring stream len period budget ≡ leftBy ring u = sym (passes _ _ _ room refl) in
         λ i. began (p i .answer) (sym (unchanged s bytes) i) (p i .store) m
 
-    ends : (a b : Bool) → startBy (xferBy (a && b) (soundOf s) (trackAt ring) stream (shut s m) (settingUp s stream m) (λ period. record { opening = opening.Open period; state = s; message = m }))
+    ends : (a b : Bool) → startBy (xferBy (a && b) (noneIn (soundOf s .pending)) (soundOf s) (trackAt ring) stream (shut s m) (settingUp s stream m) (λ period. record { opening = opening.Open period; state = s; message = m }))
         ≡ guard (a && leb ringSize (length ring)) (began 10 s ring m)
-        (begun s ring stream m (xferBy b (soundOf s) (trackAt ring) stream (refusedStep (soundOf s) (ringOf ring)) (setUpStep (soundOf s) (ringOf ring) stream) (λ period. startStep (soundOf s) (ringOf ring) (startedOf (ringOf ring) (startCall (trackAt ring) stream len period budget)))))
+        (begun s ring stream m (xferBy b (noneIn (soundOf s .pending)) (soundOf s) (trackAt ring) stream (refusedStep (soundOf s) (ringOf ring)) (setUpStep (soundOf s) (ringOf ring) stream) (λ period. startStep (soundOf s) (ringOf ring) (startedOf (ringOf ring) (startCall (trackAt ring) stream len period budget)))))
     unfolding guard
     ends true b =
         passes _ _ _ room
-        (xfer-ap startBy b (soundOf s) (trackAt ring) stream (shut s m) (settingUp s stream m) (λ period. record { opening = opening.Open period; state = s; message = m })
-        ∙ (λ i. xferBy b (soundOf s) (trackAt ring) stream (λ x. refused-end x i) (set-up-end i) (λ p. open-end p i))
-        ∙ sym (xfer-ap (begun s ring stream m) b (soundOf s) (trackAt ring) stream (refusedStep (soundOf s) (ringOf ring)) (setUpStep (soundOf s) (ringOf ring) stream) (λ period. startStep (soundOf s) (ringOf ring) (startedOf (ringOf ring) (startCall (trackAt ring) stream len period budget)))))
+        (xfer-ap startBy b (noneIn (soundOf s .pending)) (soundOf s) (trackAt ring) stream (shut s m) (settingUp s stream m) (λ period. record { opening = opening.Open period; state = s; message = m })
+        ∙ (λ i. xferBy b (noneIn (soundOf s .pending)) (soundOf s) (trackAt ring) stream (λ x. refused-end x i) (set-up-end i) (λ p. open-end p i))
+        ∙ sym (xfer-ap (begun s ring stream m) b (noneIn (soundOf s .pending)) (soundOf s) (trackAt ring) stream (refusedStep (soundOf s) (ringOf ring)) (setUpStep (soundOf s) (ringOf ring) stream) (λ period. startStep (soundOf s) (ringOf ring) (startedOf (ringOf ring) (startCall (trackAt ring) stream len period budget)))))
     ends false b = refl
 
     pub start-is : startBy (openIn s (trackAt ring) stream m) ≡ startEntry s ring stream len budget m

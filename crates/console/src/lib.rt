@@ -2,6 +2,7 @@
 mod calls;
 mod device;
 mod event;
+mod nonblocking;
 mod ring;
 mod sizes;
 mod stores;

@@ -23,12 +23,13 @@ restBy c p life stream refuse setUp go =
     (go (p .period)))))
 
 -- THE CHECKS, in their order, over what is done at each end: the lengths, the consistency of state, ring and stream, Busy, and the rest.
--- They look at the core, at the stream's own parameters and at its place in its lifecycle alone
-abbrev pub gateBy : {A : Type 0} → Bool → Core → Params → ℕ → Track → ℕ → (Refusal → A) → A → (ℕ → A) → A
-gateBy lengths c p life t stream refuse setUp go =
+-- They look at the core, at the stream's own parameters and at its place in its lifecycle alone. `clear`: nothing is pending, or it plays no part. "A blocking transfer while
+-- any is pending is Busy, as is a submission while a transfer's slots are owed"
+abbrev pub gateBy : {A : Type 0} → Bool → Bool → Core → Params → ℕ → Track → ℕ → (Refusal → A) → A → (ℕ → A) → A
+gateBy lengths clear c p life t stream refuse setUp go =
     guard lengths (refuse BadLength)
     (guard (consistentOf c && (ring.consistentOf t && streamOk c p stream)) (refuse InvalidParam)
-    (guard (isIdle (c .stage) && idleOf t) (refuse Busy)
+    (guard (isIdle (c .stage) && (idleOf t && clear)) (refuse Busy)
     (restBy c p life stream refuse setUp go)))
 
 -- its number and values: a refusal's own; where set-up goes first, a request is sent, as for a call; else 0 and the period

@@ -10,9 +10,9 @@ use Rattle.codes.specs.Answers.{saysRefusal}
 use Rattle.core.specs.Gate.{gateBy, saysGate}
 use Rattle.core.specs.Types.{Track, Core, Params, Shut, SetUp, Open}
 
-pub gate-says : (lengths : Bool) (c : Core) (p : Params) (life : ℕ) (t : Track) (stream : ℕ)
-    → saysGate (gateBy lengths c p life t stream Shut SetUp Open) ≡ gateBy lengths c p life t stream saysRefusal (saysGate SetUp) (λ (n : ℕ). says 0 (n ∷ []))
-gate-says lengths c p life t stream =
+pub gate-says : (lengths clear : Bool) (c : Core) (p : Params) (life : ℕ) (t : Track) (stream : ℕ)
+    → saysGate (gateBy lengths clear c p life t stream Shut SetUp Open) ≡ gateBy lengths clear c p life t stream saysRefusal (saysGate SetUp) (λ (n : ℕ). says 0 (n ∷ []))
+gate-says lengths clear c p life t stream =
     guard-ap saysGate _ _ _
     ∙ ap (guard _ _) (guard-ap saysGate _ _ _
     ∙ ap (guard _ _) (guard-ap saysGate _ _ _

@@ -44,14 +44,23 @@ fn checked_by(c: Core, stream: u32, p: Params, life: u8) -> Gate
 }
 
 // The checks of a transfer, with the stream's own parameters: lengths, then consistency, then Busy,
-// then the rest.
-pub fn xfer_gate(lengths: bool, c: Core, p: Params, life: u8, t: Track, stream: u32) -> Gate
-    ensures { λ r. ⌜ r ≡ gateBy lengths c p life t stream Shut SetUp Open ⌝ }
+// then the rest. `clear`: nothing is pending, or it plays no part.
+pub fn xfer_gate(
+    lengths: bool,
+    clear: bool,
+    c: Core,
+    p: Params,
+    life: u8,
+    t: Track,
+    stream: u32,
+) -> Gate
+    ensures { λ r. ⌜ r ≡ gateBy lengths clear c p life t stream Shut SetUp Open ⌝ }
 {
     let stage = c.stage;
     let own = stream_ok(c, stream, p);
     let sound = both(consistent(c), both(is_consistent(t), own));
-    let free = both(is_idle_stage(stage), is_idle(t));
+    let rest = both(is_idle(t), clear);
+    let free = both(is_idle_stage(stage), rest);
     if !lengths {
         return Gate::Shut(Refusal::BadLength);
     }

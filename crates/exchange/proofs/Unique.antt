@@ -32,6 +32,11 @@ use Rattle.exchange.proofs.calls.feed_written.Reads as feed-written
 use Rattle.exchange.proofs.calls.feed_failure.Reads as feed-failure
 use Rattle.exchange.proofs.xfer.pcm_xfer_start.Reads as pcm-xfer-start
 use Rattle.exchange.proofs.xfer.pcm_xfer.Reads as pcm-xfer
+use Rattle.exchange.proofs.nonblocking.pcm_xfer_nb.Reads as pcm-xfer-nb
+use Rattle.exchange.proofs.nonblocking.pcm_xfer_mark.Reads as pcm-xfer-mark
+use Rattle.exchange.proofs.nonblocking.pcm_xfer_ok.Reads as pcm-xfer-ok
+use Rattle.exchange.proofs.nonblocking.pending_count.Reads as pending-count
+use Rattle.exchange.proofs.nonblocking.pending_token.Reads as pending-token
 
 pub new-one : (κs : _) (a : _) (r₁ r₂ : _) (e₁ e₂ : _) → new.Post κs a r₁ e₁ → new.Post κs a r₂ e₂ → r₁ ≡ r₂
 new-one κs a r₁ r₂ e₁ e₂ p q = same p q
@@ -106,3 +111,19 @@ pcm-xfer-start-one κs a r₁ r₂ e₁ e₂ p q = (same (p .step) (q .step), sa
 
 pub pcm-xfer-one : (κs : _) (a : _) (r₁ r₂ : _) (e₁ e₂ : _) → pcm-xfer.Post κs a r₁ e₁ → pcm-xfer.Post κs a r₂ e₂ → (r₁ ≡ r₂) × (now (e₁ .1 .1 .1 .1 .1 .1 .0) ≡ now (e₂ .1 .1 .1 .1 .1 .1 .0))
 pcm-xfer-one κs a r₁ r₂ e₁ e₂ p q = (same (p .step) (q .step), same (p .message) (q .message))
+
+pub pcm-xfer-nb-one : (κs : _) (a : _) (r₁ r₂ : _) (e₁ e₂ : _) → pcm-xfer-nb.Post κs a r₁ e₁ → pcm-xfer-nb.Post κs a r₂ e₂
+    → (r₁ ≡ r₂) × ((now (e₁ .1 .1 .1 .1 .0) ≡ now (e₂ .1 .1 .1 .1 .0)) × (now (e₁ .1 .1 .1 .1 .1 .0) ≡ now (e₂ .1 .1 .1 .1 .1 .0)))
+pcm-xfer-nb-one κs a r₁ r₂ e₁ e₂ p q = (same (p .step) (q .step), (same (p .store) (q .store), same (p .message) (q .message)))
+
+pub pcm-xfer-mark-one : (κs : _) (a : _) (r₁ r₂ : _) (e₁ e₂ : _) → pcm-xfer-mark.Post κs a r₁ e₁ → pcm-xfer-mark.Post κs a r₂ e₂ → r₁ ≡ r₂
+pcm-xfer-mark-one κs a r₁ r₂ e₁ e₂ p q = same p q
+
+pub pcm-xfer-ok-one : (κs : _) (a : _) (r₁ r₂ : _) (e₁ e₂ : _) → pcm-xfer-ok.Post κs a r₁ e₁ → pcm-xfer-ok.Post κs a r₂ e₂ → r₁ ≡ r₂
+pcm-xfer-ok-one κs a r₁ r₂ e₁ e₂ p q = same p q
+
+pub pending-count-one : (κs : _) (a : _) (r₁ r₂ : _) (e₁ e₂ : _) → pending-count.Post κs a r₁ e₁ → pending-count.Post κs a r₂ e₂ → r₁ ≡ r₂
+pending-count-one κs a r₁ r₂ e₁ e₂ p q = one saysConfigured unConfigured un-configured p q
+
+pub pending-token-one : (κs : _) (a : _) (r₁ r₂ : _) (e₁ e₂ : _) → pending-token.Post κs a r₁ e₁ → pending-token.Post κs a r₂ e₂ → r₁ ≡ r₂
+pending-token-one κs a r₁ r₂ e₁ e₂ p q = same p q

@@ -53,6 +53,8 @@ Carry P Q refusal.OutOfTurns = Unit {0}
 Carry P Q refusal.BadLength = Unit {0}
 Carry P Q refusal.Short = Unit {0}
 Carry P Q refusal.BadState = Unit {0}
+Carry P Q refusal.Full = Unit {0}
+Carry P Q refusal.NotYet = Unit {0}
 
 abbrev pub Never : Cause → Type 0
 Never c = ⊥
@@ -273,6 +275,8 @@ neither P Q refusal.OutOfTurns h = tt
 neither P Q refusal.BadLength h = tt
 neither P Q refusal.Short h = tt
 neither P Q refusal.BadState h = tt
+neither P Q refusal.Full h = tt
+neither P Q refusal.NotYet h = tt
 
 module _ (f : Feed) where
   abbrev Told : Refusal → Type 0
@@ -332,6 +336,8 @@ caused P Q p q refusal.OutOfTurns h = tt
 caused P Q p q refusal.BadLength h = tt
 caused P Q p q refusal.Short h = tt
 caused P Q p q refusal.BadState h = tt
+caused P Q p q refusal.Full h = tt
+caused P Q p q refusal.NotYet h = tt
 
 explained-not-ok : (tail : ℕ) (reading : Reading) (c : Cause) → Explained tail reading c → NotOk c
 explained-not-ok tail Quiet c h = absurd h

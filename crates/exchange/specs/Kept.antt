@@ -6,6 +6,7 @@ use Prim.Native.Nat.{ℕ, _≤_}
 use lib.ListN.{length}
 use Rattle.turns.specs.Consistent as ring
 use Rattle.codes.specs.Life.{takesOf}
+use Rattle.pending.specs.Table.{noneIn}
 use Rattle.exchange.specs.State.{paramsOf, lifeOf}
 use Rattle.core.specs.Consistent.{consistentOf, paramsOk}
 use Rattle.exchange.specs.Types.{Ring, Idle, Sound}
@@ -19,6 +20,7 @@ pub record Kept (s : Sound) : Type 0 where
   pub maps : length (s .maps) ≡ 170
   pub params : length (s .params) ≡ 127
   pub lives : length (s .lives) ≡ 127
+  pub pending : length (s .pending .tokens) ≡ 32
   -- parameters that are set passed every test
   pub fine : (i : ℕ) → paramsOk (paramsOf s i) ≡ true
   -- before set-up is done none are set, and then only of streams in range
@@ -37,3 +39,5 @@ pub record Playable (s : Sound) (r : Ring) (stream : ℕ) : Type 0 where
   pub closed : s .core .stage ≡ Idle
   pub still : r .track .running ≡ false
   pub empty : r .track .inflight ≡ 0
+  -- "so demand 3 counts every pending token, marked or not, as in flight"
+  pub clear : noneIn (s .pending) ≡ true

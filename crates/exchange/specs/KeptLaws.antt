@@ -54,6 +54,7 @@ new-kept guard jacks streams maps =
       maps = refl;
       params = refl;
       lives = refl;
+      pending = refl;
       fine = λ i. ap paramsOk (p i);
       unset = λ _ i. ap (λ (q : Params). q .known) (p i);
       beyond = λ i _. ap (λ (q : Params). q .known) (p i);
@@ -72,7 +73,7 @@ module _ (s : Sound) (k : Kept s) (d : Core) (e : consistentOf d ≡ true) (n : 
 
   -- the tables may be others of their lengths
   tables-kept : (js : List JackInfo) (ps : List PcmInfo) (ms : List ChannelMap) → length js ≡ 170 → length ps ≡ 127 → length ms ≡ 170
-      → Kept (record { core = d; jacks = js; pcms = ps; maps = ms; params = s .params; lives = s .lives })
+      → Kept (record { core = d; jacks = js; pcms = ps; maps = ms; params = s .params; lives = s .lives; pending = s .pending })
   tables-kept js ps ms a b c =
       record {
         consistent = e;
@@ -81,6 +82,7 @@ module _ (s : Sound) (k : Kept s) (d : Core) (e : consistentOf d ≡ true) (n : 
         maps = c;
         params = k .params;
         lives = k .lives;
+        pending = k .pending;
         fine = k .fine;
         unset = λ h. k .unset (before (s .core .ready) (d .ready) r h);
         beyond = λ i h. k .beyond i (out i h);
@@ -89,7 +91,7 @@ module _ (s : Sound) (k : Kept s) (d : Core) (e : consistentOf d ≡ true) (n : 
 
   -- one stream's parameters are stored
   store-kept : (stream : ℕ) (to : Params) → paramsOk to ≡ true → s .core .ready ≡ true → stream < s .core .counts .streams
-      → Kept (record { core = d; jacks = s .jacks; pcms = s .pcms; maps = s .maps; params = set (s .params) stream to; lives = moved (d .guard) (s .lives) stream 0 })
+      → Kept (record { core = d; jacks = s .jacks; pcms = s .pcms; maps = s .maps; params = set (s .params) stream to; lives = moved (d .guard) (s .lives) stream 0; pending = s .pending })
   store-kept stream to ok done h =
       record {
         consistent = e;
@@ -98,6 +100,7 @@ module _ (s : Sound) (k : Kept s) (d : Core) (e : consistentOf d ≡ true) (n : 
         maps = k .maps;
         params = length-set (s .params) stream to ∙ k .params;
         lives = moved-length (d .guard) (s .lives) stream 0 ∙ k .lives;
+        pending = k .pending;
         fine = λ i. set-by (λ (p : Params). paramsOk p ≡ true) (s .params) stream i to ok (k .fine i);
         unset = λ f. absurd (false≢true (sym f ∙ r done));
         beyond = λ i b. ap (λ (p : Params). p .known) (getD-set-other (s .params) stream i to unset (λ x. omega (arith, out i b))) ∙ k .beyond i (out i b);
@@ -106,7 +109,7 @@ module _ (s : Sound) (k : Kept s) (d : Core) (e : consistentOf d ≡ true) (n : 
 
   -- one stream is moved
   move-kept : (stream life : ℕ) → s .core .ready ≡ true
-      → Kept (record { core = d; jacks = s .jacks; pcms = s .pcms; maps = s .maps; params = s .params; lives = moved (d .guard) (s .lives) stream life })
+      → Kept (record { core = d; jacks = s .jacks; pcms = s .pcms; maps = s .maps; params = s .params; lives = moved (d .guard) (s .lives) stream life; pending = s .pending })
   move-kept stream life done =
       record {
         consistent = e;
@@ -115,6 +118,7 @@ module _ (s : Sound) (k : Kept s) (d : Core) (e : consistentOf d ≡ true) (n : 
         maps = k .maps;
         params = k .params;
         lives = moved-length (d .guard) (s .lives) stream life ∙ k .lives;
+        pending = k .pending;
         fine = k .fine;
         unset = λ f. absurd (false≢true (sym f ∙ r done));
         beyond = λ i h. k .beyond i (out i h);

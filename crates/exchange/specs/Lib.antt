@@ -4,6 +4,7 @@ pub mod State
 pub mod Tables
 pub mod Exchange
 pub mod Xfer
+pub mod Submit
 pub mod Steps
 pub mod Feed
 pub mod Kept
@@ -18,7 +19,11 @@ pub mod Filled
 pub mod Strict
 pub mod Fields
 pub mod Lists
+pub mod Submitted
 pub mod Reached
+pub mod Exclusive
+pub mod SubmitFull
+pub mod Sequence
 pub mod Demand
 pub mod Lifecycle
 pub mod Carries
@@ -33,3 +38,4 @@ pub mod KeptLaws
 pub mod XferLaws
 pub mod ListLaws
 pub mod StepLaws
+pub mod SubmitLaws

@@ -31,7 +31,8 @@ use Rattle.exchange.specs.OwnLaws.{Own, sets, commands, remaps, lists, t
 use Rattle.exchange.specs.PlanLaws.{Begun, bars, asks, goes as begins, begun, Answered, short, idle, asks-streams, asks-maps, cuts, finishes, ends, fails, fed as answers}
 use Rattle.exchange.specs.StayLaws.{called-stays, called-quiet, fed-stays, after-core}
 use Rattle.exchange.specs.XferLaws.{start-by, script-by}
-use Rattle.exchange.specs.Reached.{Reached, fresh, called, fed, started, scripted, turned, drained, begun as restarted, ran, renewed, reached-kept, reached-playable}
+use Rattle.exchange.specs.Submitted.{nb-sound, mark-sound, finish-sound}
+use Rattle.exchange.specs.Reached.{Reached, fresh, called, fed, started, scripted, turned, drained, submitted, marked, finished, begun as restarted, ran, renewed, reached-kept, reached-playable}
 use Rattle.exchange.specs.Ends.{after}
 use Rattle.turns.specs.Consistent.{placedOf, pacedOf}
 use Rattle.turns.specs.Ring.{direct, newTrack, newRing}
@@ -91,6 +92,9 @@ oksOf (started stream len budget n h) i = oksOf h i
 oksOf (scripted stream frames budget script n h) i = oksOf h i
 oksOf (turned len reading h) i = oksOf h i
 oksOf (drained reading h) i = oksOf h i
+oksOf (submitted stream n len m h) i = oksOf h i
+oksOf (marked reading h) i = oksOf h i
+oksOf (finished token h) i = oksOf h i
 oksOf (restarted stream len period budget h) i = oksOf h i
 oksOf (ran stream period budget frames script h) i = oksOf h i
 oksOf (renewed h) i = oksOf h i
@@ -274,6 +278,9 @@ guardOf (started stream len budget n h) = guardOf h
 guardOf (scripted stream frames budget script n h) = guardOf h
 guardOf (turned len reading h) = guardOf h
 guardOf (drained reading h) = guardOf h
+guardOf (submitted stream n len m h) = guardOf h
+guardOf (marked reading h) = guardOf h
+guardOf (finished token h) = guardOf h
 guardOf (restarted stream len period budget h) = guardOf h
 guardOf (ran stream period budget frames script h) = guardOf h
 guardOf (renewed h) = guardOf h
@@ -295,6 +302,9 @@ guard-stays (scripted {s} {r} stream frames budget script n h) =
     script-by (λ (x : XferStep). x .sound .core .guard ≡ guardOf h) s r stream (length frames) budget n (λ _. guard-stays h) (λ _ _ _. guard-stays h) script (guard-stays h)
 guard-stays (turned len reading h) = guard-stays h
 guard-stays (drained reading h) = guard-stays h
+guard-stays (submitted {s} {r} stream n len m h) = nb-sound (λ (x : Sound). x .core .guard ≡ guardOf h) s r stream n len m (guard-stays h) (λ _ _ _. guard-stays h) (λ _. guard-stays h)
+guard-stays (marked {s} reading h) = mark-sound (λ (x : Sound). x .core .guard ≡ guardOf h) s (guard-stays h) (λ _. guard-stays h) reading
+guard-stays (finished {s} token h) = finish-sound (λ (x : Sound). x .core .guard ≡ guardOf h) s (guard-stays h) (λ _. guard-stays h) token
 guard-stays (restarted stream len period budget h) = guard-stays h
 guard-stays (ran stream period budget frames script h) = guard-stays h
 guard-stays (renewed h) = guard-stays h
@@ -332,6 +342,9 @@ reached-waits (scripted {s} {r} stream frames budget script n h) on =
     script-by (λ (x : XferStep). Waiting (x .sound)) s r stream (length frames) budget n (λ _ o. reached-waits h o) (λ _ _ _ _ i k e. empty e) script (λ o. reached-waits h o) on
 reached-waits (turned len reading h) on = reached-waits h on
 reached-waits (drained reading h) on = reached-waits h on
+reached-waits (submitted {s} {r} stream n len m h) on = nb-sound Waiting s r stream n len m (λ o. reached-waits h o) (λ _ _ _ _ i k e. empty e) (λ _ o. reached-waits h o) on
+reached-waits (marked {s} reading h) on = mark-sound Waiting s (λ o. reached-waits h o) (λ _ o. reached-waits h o) reading on
+reached-waits (finished {s} token h) on = finish-sound Waiting s (λ o. reached-waits h o) (λ _ o. reached-waits h o) token on
 reached-waits (restarted stream len period budget h) on = reached-waits h on
 reached-waits (ran stream period budget frames script h) on = reached-waits h on
 reached-waits (renewed h) on = reached-waits h on
@@ -351,6 +364,10 @@ lifecycle (scripted {s} {r} stream frames budget script n h) i on =
     script-by (λ (x : XferStep). x .sound .core .guard ≡ true → Walk 0 (oksOf h i) (lifeOf (x .sound) i)) s r stream (length frames) budget n (λ _ o. lifecycle h i o) (λ _ _ _ o. lifecycle h i o) script (λ o. lifecycle h i o) on
 lifecycle (turned len reading h) i on = lifecycle h i on
 lifecycle (drained reading h) i on = lifecycle h i on
+lifecycle (submitted {s} {r} stream n len m h) i on =
+    nb-sound (λ (x : Sound). x .core .guard ≡ true → Walk 0 (oksOf h i) (lifeOf x i)) s r stream n len m (λ o. lifecycle h i o) (λ _ _ _ o. lifecycle h i o) (λ _ o. lifecycle h i o) on
+lifecycle (marked {s} reading h) i on = mark-sound (λ (x : Sound). x .core .guard ≡ true → Walk 0 (oksOf h i) (lifeOf x i)) s (λ o. lifecycle h i o) (λ _ o. lifecycle h i o) reading on
+lifecycle (finished {s} token h) i on = finish-sound (λ (x : Sound). x .core .guard ≡ true → Walk 0 (oksOf h i) (lifeOf x i)) s (λ o. lifecycle h i o) (λ _ o. lifecycle h i o) token on
 lifecycle (restarted stream len period budget h) i on = lifecycle h i on
 lifecycle (ran stream period budget frames script h) i on = lifecycle h i on
 lifecycle (renewed h) i on = lifecycle h i on
@@ -394,4 +411,4 @@ pub prepared-playable : Playable prepared (newRing direct) 1
 unfolding after callOf feedOf failOf beginOf answerOf afterJacks afterStreams afterMaps afterSent ownSet ownCommand consistentOf placedOf pacedOf guard judged numAt bytesAt un permitsOf
 prepared-playable =
     let k : _≡_ {A = ℕ} (paramsOf prepared 1 .known) 1 = refl in
-    reached-playable 1 reached-prepared (λ e. omega (arith, k, e)) (λ _. refl) refl refl refl
+    reached-playable 1 reached-prepared (λ e. omega (arith, k, e)) (λ _. refl) refl refl refl refl

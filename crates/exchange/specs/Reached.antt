@@ -18,11 +18,14 @@ use Rattle.turns.specs.ConsistentLaws.{Consistent, consistent-facts, consistent
 use Rattle.turns.specs.StaysConsistentLaws.{call-keeps, drain-keeps, start-keeps, new-passes}
 use Rattle.turns.specs.DemandLaws.{script-keeps}
 use Rattle.turns.specs.Ring.{direct, newTrack, newRing}
+use Rattle.pending.specs.Table.{noneIn}
 use Rattle.exchange.specs.State.{newSound, paramsOf, lifeOf}
 use Rattle.core.specs.Consistent.{consistentOf}
 use Rattle.core.specs.Plan.{ownSet, beginOf, afterJacks, afterStreams, afterMaps, afterSent, answerOf}
 use Rattle.exchange.specs.Exchange.{stepOf, callOf, feedOf, failOf}
 use Rattle.exchange.specs.Xfer.{startOf, xferOf}
+use Rattle.exchange.specs.Submit.{nbOf, markStep, finishStep}
+use Rattle.exchange.specs.Submitted.{nb-kept, mark-kept, finish-kept}
 use Rattle.exchange.specs.Kept.{Kept, Playable}
 use Rattle.exchange.specs.KeptLaws.{new-kept, call-kept, feed-kept}
 use Rattle.exchange.specs.Ends.{after}
@@ -39,6 +42,9 @@ pub data Reached : Sound → Ring → Type 0 where
       → Reached (xferOf s r stream (length frames) budget script n .sound) (xferOf s r stream (length frames) budget script n .ring)
   turned : {s : Sound} {r : Ring} (len : ℕ) (reading : Reading) → Reached s r → Reached s (turnedOf r (turnCall (r .track) len reading) .ring)
   drained : {s : Sound} {r : Ring} (reading : Reading) → Reached s r → Reached s (turnedOf r (drainCall (r .track) reading) .ring)
+  submitted : {s : Sound} {r : Ring} (stream n len m : ℕ) → Reached s r → Reached (nbOf s r stream n len m .sound) r
+  marked : {s : Sound} {r : Ring} (reading : Reading) → Reached s r → Reached (markStep s reading .sound) r
+  finished : {s : Sound} {r : Ring} (token : ℕ) → Reached s r → Reached (finishStep s token .sound) r
   -- the ring by itself: `start` and `transfer` of turns, and a new one beside a state that was kept
   begun : {s : Sound} {r : Ring} (stream len period budget : ℕ) → Reached s r → Reached s (startedOf r (startCall (r .track) stream len period budget) .ring)
   ran : {s : Sound} {r : Ring} (stream period budget : ℕ) (frames script : List ℕ) → Reached s r → Reached s (transferOf r stream (length frames) period budget script .ring)
@@ -61,16 +67,19 @@ reached-kept (started {s} {r} stream len budget n h) = let k = reached-kept h in
 reached-kept (scripted {s} {r} stream frames budget script n h) = let k = reached-kept h in (xfer-kept s r stream (length frames) budget n (k .0) script, script-ring s r stream budget n (k .1) frames script)
 reached-kept (turned {r} len reading h) = let k = reached-kept h in (k .0, call-keeps (r .track) len reading (k .1))
 reached-kept (drained {r} reading h) = let k = reached-kept h in (k .0, drain-keeps (r .track) reading (k .1))
+reached-kept (submitted {s} {r} stream n len m h) = let k = reached-kept h in (nb-kept s r stream n len m (k .0), k .1)
+reached-kept (marked {s} reading h) = let k = reached-kept h in (mark-kept s reading (k .0), k .1)
+reached-kept (finished {s} token h) = let k = reached-kept h in (finish-kept s token (k .0), k .1)
 reached-kept (begun {r} stream len period budget h) = let k = reached-kept h in (k .0, start-keeps (r .track) stream len period budget (k .1))
 reached-kept (ran {r} stream period budget frames script h) = let k = reached-kept h in (k .0, script-keeps r stream period budget frames script (k .1))
 reached-kept (renewed h) = (reached-kept h .0, consistent-facts (newTrack direct) new-passes)
 
 -- so demand 3 speaks of every state and ring that calls left
 pub reached-playable : {s : Sound} {r : Ring} (stream : ℕ) → Reached s r → (paramsOf s stream .known ≡ 0 → ⊥) → (s .core .guard ≡ true → takesOf (lifeOf s stream) ≡ true) → s .core .stage ≡ Idle → r .track .running ≡ false
-    → r .track .inflight ≡ 0 → Playable s r stream
-reached-playable {r} stream h set live closed still empty =
+    → r .track .inflight ≡ 0 → noneIn (s .pending) ≡ true → Playable s r stream
+reached-playable {r} stream h set live closed still empty clear =
     let k = reached-kept h in
-    record { state = k .0; ring = consistent-true (r .track) (k .1); set = set; live = live; closed = closed; still = still; empty = empty }
+    record { state = k .0; ring = consistent-true (r .track) (k .1); set = set; live = live; closed = closed; still = still; empty = empty; clear = clear }
 
 -- ---- and they can be met: 2 streams, set parameters of stream 1; the queries of jacks and maps fail, those of streams and the setting are answered with ok
 
@@ -83,11 +92,15 @@ first = SetParams 1 (record { known = 0; buffer = 8192; period = 2048; features 
 abbrev asked : Sound
 asked = stepOf (callOf (newSound false 0 2 0) (newTrack direct) first 24) (newSound false 0 2 0) [] .sound
 
-abbrev parametersSet : Sound
+abbrev pub parametersSet : Sound
 parametersSet = after asked (failed 24 ∷ ok ∷ failed 24 ∷ ok ∷ [])
+
+unfoldable pub reached-set : Reached parametersSet (newRing direct)
+unfolding after
+reached-set = fed ok (fed (failed 24) (fed ok (fed (failed 24) (called first 24 (fresh false 0 2 0)))))
 
 pub premises-met : Playable parametersSet (newRing direct) 1
 unfolding after callOf feedOf failOf beginOf answerOf afterJacks afterStreams afterMaps afterSent ownSet consistentOf placedOf pacedOf guard judged numAt bytesAt un
 premises-met =
     let k : _≡_ {A = ℕ} (paramsOf parametersSet 1 .known) 1 = refl in
-    reached-playable 1 (fed ok (fed (failed 24) (fed ok (fed (failed 24) (called first 24 (fresh false 0 2 0)))))) (λ e. omega (arith, k, e)) (λ g. absurd (false≢true g)) refl refl refl
+    reached-playable 1 reached-set (λ e. omega (arith, k, e)) (λ g. absurd (false≢true g)) refl refl refl refl

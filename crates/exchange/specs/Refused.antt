@@ -78,13 +78,13 @@ pub data Left (s : Sound) (r : Refusal) : Sound → Type 0 where
   same : One (saysRefusal r .number) (1 ∷ 10 ∷ []) → Left s r s
   -- 2 "control: old parameters", 3 "unchanged", 7 "as for a status not ok": the exchange is closed, and nothing else changed
   closed : {call : Call} → One (saysRefusal r .number) (2 ∷ 3 ∷ 7 ∷ 11 ∷ []) → s .core .stage ≡ Sent call
-      → Left s r (record { core = withStage (s .core) Idle; jacks = s .jacks; pcms = s .pcms; maps = s .maps; params = s .params; lives = s .lives })
+      → Left s r (record { core = withStage (s .core) Idle; jacks = s .jacks; pcms = s .pcms; maps = s .maps; params = s .params; lives = s .lives; pending = s .pending })
   -- 2, 7 and 5 "set-up not done": "leaves all three tables empty, and the next call begins it again"
   cut : One (saysRefusal r .number) (2 ∷ 5 ∷ 7 ∷ 11 ∷ []) → asking (s .core .stage) ≡ true
-      → Left s r (record { core = record { counts = s .core .counts; guard = s .core .guard; read = none; ready = false; stage = Idle }; jacks = s .jacks; pcms = s .pcms; maps = s .maps; params = s .params; lives = s .lives })
+      → Left s r (record { core = record { counts = s .core .counts; guard = s .core .guard; read = none; ready = false; stage = Idle }; jacks = s .jacks; pcms = s .pcms; maps = s .maps; params = s .params; lives = s .lives; pending = s .pending })
   -- 1 "unchanged, but set-up stays done", 2 of a transfer, 3, 4: set-up is done, and the exchange is closed; which channel maps it then has, the feed's equation says
   done : {call : Call} (n : ℕ) (maps : List ChannelMap) → One (saysRefusal r .number) (ownRefusals call) → s .core .stage ≡ MapsAsked call
-      → Left s r (record { core = withStage (readTo (s .core) (s .core .read .jacks) (s .core .read .streams) n true) Idle; jacks = s .jacks; pcms = s .pcms; maps = maps; params = s .params; lives = s .lives })
+      → Left s r (record { core = withStage (readTo (s .core) (s .core .read .jacks) (s .core .read .streams) n true) Idle; jacks = s .jacks; pcms = s .pcms; maps = maps; params = s .params; lives = s .lives; pending = s .pending })
 
 -- a refusal's number
 abbrev barred : Say → ℕ

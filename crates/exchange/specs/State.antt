@@ -1,4 +1,4 @@
--- The state: a core on which every decision is made, three tables, and of each stream its parameters and where it is in its lifecycle.
+-- The state: a core on which every decision is made, three tables, of each stream its parameters and where it is in its lifecycle, and what is pending.
 -- Assumes nothing.
 use mathlib.Core.Bool.{Bool}
 use mathlib.Core.List.{[], _∷_}
@@ -7,6 +7,7 @@ use lib.ListN.{getD, replicate}
 use Rattle.codes.specs.Says.{Says, says, guard}
 use Rattle.records.specs.Records.{jackInfoOf, pcmInfoOf}
 use Rattle.tables.specs.Tables.{noJacks, noStreams, noMaps}
+use Rattle.pending.specs.Table.{newPending}
 use Rattle.core.specs.State.{unset, newCore}
 use Rattle.core.specs.Consistent.{consistentOf}
 use Rattle.exchange.specs.Types.{JackInfo, PcmInfo, Core, Params, Sound, Configured}
@@ -15,7 +16,7 @@ use Rattle.exchange.specs.declared.state.Configured.the-variants as conf
 -- the state from the three configured counts, with the guard or without, before any call: "every stream record gains its state, starting at 'set parameters'"
 abbrev pub newSound : Bool → ℕ → ℕ → ℕ → Sound
 newSound guard jacks streams maps =
-    record { core = newCore guard jacks streams maps; jacks = noJacks; pcms = noStreams; maps = noMaps; params = replicate 127 unset; lives = replicate 127 0 }
+    record { core = newCore guard jacks streams maps; jacks = noJacks; pcms = noStreams; maps = noMaps; params = replicate 127 unset; lives = replicate 127 0; pending = newPending }
 
 -- the only looks into a table
 abbrev pub jackOf : Sound → ℕ → JackInfo
@@ -32,7 +33,7 @@ lifeOf s i = getD (s .lives) i 0
 
 -- the same state on another core
 abbrev pub withCore : Core → Sound → Sound
-withCore c s = record { core = c; jacks = s .jacks; pcms = s .pcms; maps = s .maps; params = s .params; lives = s .lives }
+withCore c s = record { core = c; jacks = s .jacks; pcms = s .pcms; maps = s .maps; params = s .params; lives = s .lives; pending = s .pending }
 
 -- ---- a configured count: no set-up, never Busy; a state that fails the test tells none
 

@@ -14,6 +14,7 @@ use Rattle.codes.specs.Says.{says, guard}
 use Rattle.codes.specs.SaysLaws.{guard-ap}
 use Rattle.turns.specs.Calls.{startCall, startedOf}
 use Rattle.turns.specs.Script.{transferOf}
+use Rattle.pending.specs.Table.{noneIn}
 use Rattle.core.specs.Reply.{messageAfter, replyOf}
 use Rattle.exchange.specs.Exchange.{idsBy, listOf, stepOf, listValues, saysBeside, saysStep, saysSay, Stepped}
 use Rattle.exchange.specs.Xfer.{xferBy, refusedStep, setUpStep, startStep, doneStep, startOf, xferOf, xferMessage, saysXfer, startSays, xferSays, Transfers}
@@ -38,15 +39,15 @@ moved q s page l {n} {r} e h = subst (λ (p : Plan). Stepped p s page l n r) e h
 -- ---- the checks of a transfer
 
 -- what is made of the outcome of the checks is made at each end of them
-pub xfer-ap : {A B : Type 0} (f : A → B) (lengths : Bool) (s : Sound) (t : Track) (stream : ℕ) (refuse : Refusal → A) (setUp : A) (go : ℕ → A)
-    → f (xferBy lengths s t stream refuse setUp go) ≡ xferBy lengths s t stream (λ x. f (refuse x)) (f setUp) (λ p. f (go p))
-xfer-ap f lengths s t stream refuse setUp go = simp (guard-ap f)
+pub xfer-ap : {A B : Type 0} (f : A → B) (lengths clear : Bool) (s : Sound) (t : Track) (stream : ℕ) (refuse : Refusal → A) (setUp : A) (go : ℕ → A)
+    → f (xferBy lengths clear s t stream refuse setUp go) ≡ xferBy lengths clear s t stream (λ x. f (refuse x)) (f setUp) (λ p. f (go p))
+xfer-ap f lengths clear s t stream refuse setUp go = simp (guard-ap f)
 
 -- set-up is begun only where the lengths are right
-pub set-up-long : (lengths : Bool) (s : Sound) (t : Track) (stream : ℕ) → SetUp ≡ xferBy lengths s t stream Shut SetUp Open → lengths ≡ true
+pub set-up-long : (lengths clear : Bool) (s : Sound) (t : Track) (stream : ℕ) → SetUp ≡ xferBy lengths clear s t stream Shut SetUp Open → lengths ≡ true
 unfolding guard
-set-up-long true s t stream e = refl
-set-up-long false s t stream e = let z : _≡_ {A = ℕ} 0 1 = cc in absurd (omega arith)
+set-up-long true clear s t stream e = refl
+set-up-long false clear s t stream e = let z : _≡_ {A = ℕ} 0 1 = cc in absurd (omega arith)
 
 module _ (s : Sound) (r : Ring) (stream len budget : ℕ) where
   abbrev pub startBy : Gate → XferStep
@@ -54,30 +55,35 @@ module _ (s : Sound) (r : Ring) (stream len budget : ℕ) where
   startBy SetUp = setUpStep s r stream
   startBy (Open period) = startStep s r (startedOf r (startCall (r .track) stream len period budget))
 
-  pub started-by : (n : ℕ) (g : Gate) → g ≡ xferBy (leb messageSize n) s (r .track) stream Shut SetUp Open → startBy g ≡ startOf s r stream len budget n
+  pub started-by : (n : ℕ) (clear : Bool) (g : Gate) → clear ≡ noneIn (s .pending) → g ≡ xferBy (leb messageSize n) clear s (r .track) stream Shut SetUp Open → startBy g ≡ startOf s r stream len budget n
   unfolding startOf
-  started-by n g e = ap startBy e ∙ xfer-ap startBy (leb messageSize n) s (r .track) stream Shut SetUp Open
+  started-by n clear g z e =
+      ap startBy (e ∙ ap (λ (t : Bool). xferBy (leb messageSize n) t s (r .track) stream Shut SetUp Open) z)
+      ∙ xfer-ap startBy (leb messageSize n) (noneIn (s .pending)) s (r .track) stream Shut SetUp Open
 
   abbrev pub runBy : List ℕ → Gate → XferStep
   runBy script (Shut x) = refusedStep s r x
   runBy script SetUp = setUpStep s r stream
   runBy script (Open period) = doneStep s (transferOf r stream len period budget script)
 
-  pub run-by : (script : List ℕ) (n : ℕ) (b : Bool) (g : Gate) → b ≡ (leb messageSize n && eqb (length script % 12) 0) → g ≡ xferBy b s (r .track) stream Shut SetUp Open → runBy script g ≡ xferOf s r stream len budget script n
+  pub run-by : (script : List ℕ) (n : ℕ) (b clear : Bool) (g : Gate) → clear ≡ noneIn (s .pending) → b ≡ (leb messageSize n && eqb (length script % 12) 0)
+      → g ≡ xferBy b clear s (r .track) stream Shut SetUp Open → runBy script g ≡ xferOf s r stream len budget script n
   unfolding xferOf
-  run-by script n b g p e = ap (runBy script) (e ∙ ap (λ (t : Bool). xferBy t s (r .track) stream Shut SetUp Open) p) ∙ xfer-ap (runBy script) (leb messageSize n && eqb (length script % 12) 0) s (r .track) stream Shut SetUp Open
+  run-by script n b clear g z p e =
+      ap (runBy script) (e ∙ (λ i. xferBy (p i) (z i) s (r .track) stream Shut SetUp Open))
+      ∙ xfer-ap (runBy script) (leb messageSize n && eqb (length script % 12) 0) (noneIn (s .pending)) s (r .track) stream Shut SetUp Open
 
 -- what the checks say is what they come to
 pub start-says : (s : Sound) (r : Ring) (stream len budget n : ℕ) → saysXfer (startOf s r stream len budget n .reply) ≡ startSays s r stream len budget n
 unfolding startOf
 start-says s r stream len budget n =
-    xfer-ap (λ (x : XferStep). saysXfer (x .reply)) (leb messageSize n) s (r .track) stream (refusedStep s r) (setUpStep s r stream)
+    xfer-ap (λ (x : XferStep). saysXfer (x .reply)) (leb messageSize n) (noneIn (s .pending)) s (r .track) stream (refusedStep s r) (setUpStep s r stream)
     (λ period. startStep s r (startedOf r (startCall (r .track) stream len period budget)))
 
 pub xfer-says : (s : Sound) (r : Ring) (stream len budget : ℕ) (script : List ℕ) (n : ℕ) → saysXfer (xferOf s r stream len budget script n .reply) ≡ xferSays s r stream len budget script n
 unfolding xferOf
 xfer-says s r stream len budget script n =
-    xfer-ap (λ (x : XferStep). saysXfer (x .reply)) (leb messageSize n && eqb (length script % 12) 0) s (r .track) stream (refusedStep s r) (setUpStep s r stream)
+    xfer-ap (λ (x : XferStep). saysXfer (x .reply)) (leb messageSize n && eqb (length script % 12) 0) (noneIn (s .pending)) s (r .track) stream (refusedStep s r) (setUpStep s r stream)
     (λ period. doneStep s (transferOf r stream len period budget script))
 
 -- a step, what it says, and the message that goes with its reply

@@ -131,9 +131,9 @@ module _ (w : ℕ) (p q : List ℕ) (l : length p ≡ length q) (e : bytesAt 0 w
   sound-alike : (x : Effect) (c : Core) (s : Sound) → Reads w x → soundAfter x c s p ≡ soundAfter x c s q
   unfolding jacksRead streamsRead mapsRead
   sound-alike Nothing c s h = refl
-  sound-alike (FillJacks n) c s h = λ i. record { core = c; jacks = table-alike jackAt (size jackInfo) n (s .jacks) jack-own h i; pcms = s .pcms; maps = s .maps; params = s .params; lives = s .lives }
-  sound-alike (FillStreams n) c s h = λ i. record { core = c; jacks = s .jacks; pcms = table-alike pcmAt (size pcmInfo) n (s .pcms) pcm-own h i; maps = s .maps; params = s .params; lives = s .lives }
-  sound-alike (FillMaps n) c s h = λ i. record { core = c; jacks = s .jacks; pcms = s .pcms; maps = table-alike mapAt (size channelMap) n (s .maps) map-own h i; params = s .params; lives = s .lives }
+  sound-alike (FillJacks n) c s h = λ i. record { core = c; jacks = table-alike jackAt (size jackInfo) n (s .jacks) jack-own h i; pcms = s .pcms; maps = s .maps; params = s .params; lives = s .lives; pending = s .pending }
+  sound-alike (FillStreams n) c s h = λ i. record { core = c; jacks = s .jacks; pcms = table-alike pcmAt (size pcmInfo) n (s .pcms) pcm-own h i; maps = s .maps; params = s .params; lives = s .lives; pending = s .pending }
+  sound-alike (FillMaps n) c s h = λ i. record { core = c; jacks = s .jacks; pcms = s .pcms; maps = table-alike mapAt (size channelMap) n (s .maps) map-own h i; params = s .params; lives = s .lives; pending = s .pending }
   sound-alike (Store stream to) c s h = refl
   sound-alike (Move stream life) c s h = refl
 
@@ -192,6 +192,8 @@ eleven refusal.Busy e = absurd (omega arith)
 eleven refusal.OutOfTurns e = absurd (omega arith)
 eleven refusal.BadLength e = absurd (omega arith)
 eleven refusal.BadState e = absurd (omega arith)
+eleven refusal.Full e = absurd (omega arith)
+eleven refusal.NotYet e = absurd (omega arith)
 eleven refusal.Short e = refl
 
 -- the number of what is said, 0 where it is no refusal

@@ -44,8 +44,8 @@ moved guard lives stream life = pick guard (set lives stream life) lives
 
 abbrev pub soundAfter : Effect → Core → Sound → List ℕ → Sound
 soundAfter Nothing c s page = withCore c s
-soundAfter (FillJacks n) c s page = record { core = c; jacks = jacksRead page n (s .jacks); pcms = s .pcms; maps = s .maps; params = s .params; lives = s .lives }
-soundAfter (FillStreams n) c s page = record { core = c; jacks = s .jacks; pcms = streamsRead page n (s .pcms); maps = s .maps; params = s .params; lives = s .lives }
-soundAfter (FillMaps n) c s page = record { core = c; jacks = s .jacks; pcms = s .pcms; maps = mapsRead page n (s .maps); params = s .params; lives = s .lives }
-soundAfter (Store stream to) c s page = record { core = c; jacks = s .jacks; pcms = s .pcms; maps = s .maps; params = set (s .params) stream to; lives = moved (c .guard) (s .lives) stream 0 }
-soundAfter (Move stream life) c s page = record { core = c; jacks = s .jacks; pcms = s .pcms; maps = s .maps; params = s .params; lives = moved (c .guard) (s .lives) stream life }
+soundAfter (FillJacks n) c s page = record { core = c; jacks = jacksRead page n (s .jacks); pcms = s .pcms; maps = s .maps; params = s .params; lives = s .lives; pending = s .pending }
+soundAfter (FillStreams n) c s page = record { core = c; jacks = s .jacks; pcms = streamsRead page n (s .pcms); maps = s .maps; params = s .params; lives = s .lives; pending = s .pending }
+soundAfter (FillMaps n) c s page = record { core = c; jacks = s .jacks; pcms = s .pcms; maps = mapsRead page n (s .maps); params = s .params; lives = s .lives; pending = s .pending }
+soundAfter (Store stream to) c s page = record { core = c; jacks = s .jacks; pcms = s .pcms; maps = s .maps; params = set (s .params) stream to; lives = moved (c .guard) (s .lives) stream 0; pending = s .pending }
+soundAfter (Move stream life) c s page = record { core = c; jacks = s .jacks; pcms = s .pcms; maps = s .maps; params = s .params; lives = moved (c .guard) (s .lives) stream life; pending = s .pending }

@@ -17,6 +17,9 @@ pub use Rattle.turns.specs.declared.ring.Said.{Said}
 pub use Rattle.turns.specs.declared.ring.Said.the-variants.{Going, Ended}
 pub use Rattle.turns.specs.declared.script.Transferred.{Transferred}
 pub use Rattle.turns.specs.declared.ring.Turned.{Turned}
+pub use Rattle.pending.specs.declared.table.Pending.{Pending}
+pub use Rattle.pending.specs.declared.calls.Judged.{Judged}
+pub use Rattle.pending.specs.declared.place.Spot.{Spot}
 pub use Rattle.core.specs.declared.state.Params.{Params}
 pub use Rattle.core.specs.declared.state.Counts.{Counts}
 pub use Rattle.core.specs.declared.state.Call.{Call}
@@ -44,3 +47,6 @@ pub use Rattle.exchange.specs.declared.calls.StreamList.{StreamList}
 pub use Rattle.exchange.specs.declared.calls.Step.{Step}
 pub use Rattle.exchange.specs.declared.xfer.XferReply.{XferReply}
 pub use Rattle.exchange.specs.declared.xfer.XferReply.the-variants.{Says}
+pub use Rattle.exchange.specs.declared.nonblocking.NbReply.{NbReply}
+pub use Rattle.exchange.specs.declared.nonblocking.NbStep.{NbStep}
+pub use Rattle.exchange.specs.declared.nonblocking.NbEnd.{NbEnd}

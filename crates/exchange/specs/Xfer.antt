@@ -12,6 +12,7 @@ use Rattle.codes.specs.Answers.{saysRefusal}
 use Rattle.turns.specs.Calls.{startCall, startedOf}
 use Rattle.turns.specs.Script.{transferOf}
 use Rattle.turns.specs.declared.ring.Said.the-variants as said
+use Rattle.pending.specs.Table.{noneIn}
 use Rattle.core.specs.State.{withStage}
 use Rattle.core.specs.Plan.{queryOf, sendOf}
 use Rattle.core.specs.Gate.{gateBy}
@@ -21,8 +22,8 @@ use Rattle.exchange.specs.declared.xfer.XferReply.the-variants.{Send}
 use Rattle.exchange.specs.Types.{Refusal, Track, Ring, Turned, Transferred, Xfer, JacksAsked, Sound, Nothing, Plan, XferReply, Says, XferStep}
 use Rattle.turns.specs.Ring.{saysSaid, saidWord}
 
-abbrev pub xferBy : {A : Type 0} → Bool → Sound → Track → ℕ → (Refusal → A) → A → (ℕ → A) → A
-xferBy lengths s t stream refuse setUp go = gateBy lengths (s .core) (paramsOf s stream) (lifeOf s stream) t stream refuse setUp go
+abbrev pub xferBy : {A : Type 0} → Bool → Bool → Sound → Track → ℕ → (Refusal → A) → A → (ℕ → A) → A
+xferBy lengths clear s t stream refuse setUp go = gateBy lengths clear (s .core) (paramsOf s stream) (lifeOf s stream) t stream refuse setUp go
 
 -- the state waits for the answer to the first query of set-up
 abbrev pub setUpPlan : Sound → ℕ → Plan
@@ -43,13 +44,13 @@ doneStep s d = record { sound = s; ring = d .ring; reply = Says (d .said); turns
 -- THE START of a transfer of frames of some length, with a message buffer of n bytes: it goes on, is refused, or begins set-up
 unfoldable pub startOf : Sound → Ring → ℕ → ℕ → ℕ → ℕ → XferStep
 startOf s r stream len budget n =
-    xferBy (leb messageSize n) s (r .track) stream (refusedStep s r) (setUpStep s r stream)
+    xferBy (leb messageSize n) (noneIn (s .pending)) s (r .track) stream (refusedStep s r) (setUpStep s r stream)
     (λ period. startStep s r (startedOf r (startCall (r .track) stream len period budget)))
 
 -- A TRANSFER over a script: the same checks, then turns until an answer. A script that is no whole number of readings gets 10
 unfoldable pub xferOf : Sound → Ring → ℕ → ℕ → ℕ → List ℕ → ℕ → XferStep
 xferOf s r stream len budget script n =
-    xferBy (leb messageSize n && eqb (length script % 12) 0) s (r .track) stream (refusedStep s r) (setUpStep s r stream)
+    xferBy (leb messageSize n && eqb (length script % 12) 0) (noneIn (s .pending)) s (r .track) stream (refusedStep s r) (setUpStep s r stream)
     (λ period. doneStep s (transferOf r stream len period budget script))
 
 -- what the message buffer holds then: the query of set-up, or what it held
@@ -69,11 +70,11 @@ xferWord (Says x) = saidWord x
 
 -- document 01's number and values of the start, and of a transfer over a script: a refusal's, 256 + 16 for set-up's first query, or what the ring says
 abbrev pub startSays : Sound → Ring → ℕ → ℕ → ℕ → ℕ → answers.Says
-startSays s r stream len budget n = xferBy (leb messageSize n) s (r .track) stream saysRefusal (answers.says (256 + 16) []) (λ period. saysSaid (startCall (r .track) stream len period budget .said))
+startSays s r stream len budget n = xferBy (leb messageSize n) (noneIn (s .pending)) s (r .track) stream saysRefusal (answers.says (256 + 16) []) (λ period. saysSaid (startCall (r .track) stream len period budget .said))
 
 abbrev pub xferSays : Sound → Ring → ℕ → ℕ → ℕ → List ℕ → ℕ → answers.Says
 xferSays s r stream len budget script n =
-    xferBy (leb messageSize n && eqb (length script % 12) 0) s (r .track) stream saysRefusal (answers.says (256 + 16) [])
+    xferBy (leb messageSize n && eqb (length script % 12) 0) (noneIn (s .pending)) s (r .track) stream saysRefusal (answers.says (256 + 16) [])
     (λ period. saysSaid (transferOf r stream len period budget script .said))
 
 -- what a transfer returns, its number and values, and what it leaves in the message buffer: m before, n after

@@ -14,7 +14,8 @@ use Rattle.turns.specs.Calls.{idleOf, startCall, startedOf}
 use Rattle.turns.specs.Script.{transferOf}
 use Rattle.turns.specs.Consistent as ring
 use Rattle.turns.specs.ConsistentLaws.{both}
-use Rattle.exchange.specs.State.{paramsOf, lifeOf}
+use Rattle.pending.specs.Table.{noneIn}
+use Rattle.exchange.specs.State.{paramsOf, lifeOf, withCore}
 use Rattle.core.specs.Consistent.{numbersOk, periodOk, paramsOk, consistentOf, streamOk, heldTo}
 use Rattle.exchange.specs.ConsistentLaws.{both-of, either-of, Paced, period-facts}
 use Rattle.core.specs.Plan.{isIdle}
@@ -26,18 +27,20 @@ use Rattle.exchange.specs.KeptLaws.{step-kept}
 use Rattle.exchange.specs.Types.{Refusal, Track, Ring, Params, Xfer, Idle, Sound, XferStep}
 
 -- what holds of each end of the checks holds of what they come to
-xfer-by : {A : Type 0} (P : A → Type 0) (lengths : Bool) (s : Sound) (t : Track) (stream : ℕ) (refuse : Refusal → A) (setUp : A) (go : ℕ → A) →
-    ((x : Refusal) → P (refuse x)) → (consistentOf (s .core) ≡ true → s .core .stage ≡ Idle → s .core .ready ≡ false → P setUp) → P (go (paramsOf s stream .period))
-    → P (xferBy lengths s t stream refuse setUp go)
-xfer-by P lengths s t stream refuse setUp go a b g =
+pub xfer-by : {A : Type 0} (P : A → Type 0) (lengths clear : Bool) (s : Sound) (t : Track) (stream : ℕ) (refuse : Refusal → A) (setUp : A) (go : ℕ → A) →
+    ((x : Refusal) → P (refuse x)) → (consistentOf (s .core) ≡ true → s .core .stage ≡ Idle → s .core .ready ≡ false → P setUp)
+    → (clear ≡ true → idleOf t ≡ true → P (go (paramsOf s stream .period))) → P (xferBy lengths clear s t stream refuse setUp go)
+xfer-by P lengths clear s t stream refuse setUp go a b g =
     guarded-by P _ _ _
     (λ _. guarded-by P _ _ _
     (λ ok. guarded-by P _ _ _
     (λ free. guarded-by P _ _ _
-    (λ _. guarded-by P _ _ _ (λ _. guarded-by P _ _ _ (λ _. guarded-by P _ _ _ (λ _. g) (λ _. a _)) (λ _. a _)) (λ _. a _))
+    (λ _. guarded-by P _ _ _
+    (λ _. guarded-by P _ _ _
+    (λ _. guarded-by P _ _ _ (λ _. let f = both (idleOf t) clear (both (isIdle (s .core .stage)) (idleOf t && clear) free .1) in g (f .1) (f .0)) (λ _. a _)) (λ _. a _)) (λ _. a _))
     (λ r.
     let e = both (consistentOf (s .core)) (ring.consistentOf t && streamOk (s .core) (paramsOf s stream) stream) ok .0 in
-    let i = idle-is (s .core .stage) (both (isIdle (s .core .stage)) (idleOf t) free .0) in
+    let i = idle-is (s .core .stage) (both (isIdle (s .core .stage)) (idleOf t && clear) free .0) in
     b e i r))
     (λ _. a _))
     (λ _. a _))
@@ -48,24 +51,24 @@ module _ (P : XferStep → Type 0) (s : Sound) (r : Ring) (stream len budget n :
     (b : consistentOf (s .core) ≡ true → s .core .stage ≡ Idle → s .core .ready ≡ false → P (setUpStep s r stream)) where
   pub start-by : P (startStep s r (startedOf r (startCall (r .track) stream len (paramsOf s stream .period) budget))) → P (startOf s r stream len budget n)
   unfolding startOf
-  start-by = xfer-by P (leb messageSize n) s (r .track) stream (refusedStep s r) (setUpStep s r stream) (λ period. startStep s r (startedOf r (startCall (r .track) stream len period budget))) a b
+  start-by g = xfer-by P (leb messageSize n) (noneIn (s .pending)) s (r .track) stream (refusedStep s r) (setUpStep s r stream) (λ period. startStep s r (startedOf r (startCall (r .track) stream len period budget))) a b (λ _ _. g)
 
   pub script-by : (script : List ℕ) → P (doneStep s (transferOf r stream len (paramsOf s stream .period) budget script)) → P (xferOf s r stream len budget script n)
   unfolding xferOf
-  script-by script =
-      xfer-by P (leb messageSize n && eqb (length script % 12) 0) s (r .track) stream (refusedStep s r) (setUpStep s r stream) (λ period. doneStep s (transferOf r stream len period budget script)) a b
+  script-by script g =
+      xfer-by P (leb messageSize n && eqb (length script % 12) 0) (noneIn (s .pending)) s (r .track) stream (refusedStep s r) (setUpStep s r stream) (λ period. doneStep s (transferOf r stream len period budget script)) a b (λ _ _. g)
 
 -- ---- they keep the invariant
 
-module _ (s : Sound) (r : Ring) (stream len budget n : ℕ) (k : Kept s) where
-  set-up-kept : consistentOf (s .core) ≡ true → s .core .stage ≡ Idle → s .core .ready ≡ false → Kept (setUpStep s r stream .sound)
-  set-up-kept e g f = step-kept s (setUpPlan s stream) [] k (record { counts = refl; guard = refl; ready = λ h. h }) (record { consistent = ask-fine (s .core) (Xfer stream) e g f refl; effect = tt })
+pub set-up-kept : (s : Sound) (stream : ℕ) → Kept s → consistentOf (s .core) ≡ true → s .core .stage ≡ Idle → s .core .ready ≡ false → Kept (withCore (setUpPlan s stream .core) s)
+set-up-kept s stream k e g f = step-kept s (setUpPlan s stream) [] k (record { counts = refl; guard = refl; ready = λ h. h }) (record { consistent = ask-fine (s .core) (Xfer stream) e g f refl; effect = tt })
 
+module _ (s : Sound) (r : Ring) (stream len budget n : ℕ) (k : Kept s) where
   pub start-kept : Kept (startOf s r stream len budget n .sound)
-  start-kept = start-by (λ x. Kept (x .sound)) s r stream len budget n (λ _. k) set-up-kept k
+  start-kept = start-by (λ x. Kept (x .sound)) s r stream len budget n (λ _. k) (set-up-kept s stream k) k
 
   pub xfer-kept : (script : List ℕ) → Kept (xferOf s r stream len budget script n .sound)
-  xfer-kept script = script-by (λ x. Kept (x .sound)) s r stream len budget n (λ _. k) set-up-kept script k
+  xfer-kept script = script-by (λ x. Kept (x .sound)) s r stream len budget n (λ _. k) (set-up-kept s stream k) script k
 
 -- ---- a stream with parameters set, in a state that calls left
 
@@ -109,12 +112,13 @@ held true test h = h refl
 held false test h = refl
 
 pub passed-all : {A : Type 0} (lengths : Bool) (s : Sound) (r : Ring) (stream : ℕ) (refuse : Refusal → A) (setUp : A) (go : ℕ → A) → lengths ≡ true → Playable s r stream
-    → go (paramsOf s stream .period) ≡ xferBy lengths s (r .track) stream refuse setUp go
+    → go (paramsOf s stream .period) ≡ xferBy lengths (noneIn (s .pending)) s (r .track) stream refuse setUp go
 passed-all lengths s r stream refuse setUp go long o =
     let k = o .state in
     let fine = stream-fine s stream k in
     let ok = both-of (consistentOf (s .core)) (ring.consistentOf (r .track) && streamOk (s .core) (paramsOf s stream) stream) (k .consistent) (both-of (ring.consistentOf (r .track)) (streamOk (s .core) (paramsOf s stream) stream) (o .ring) fine) in
-    let free : (isIdle (s .core .stage) && idleOf (r .track)) ≡ true = both-of (isIdle (s .core .stage)) (idleOf (r .track)) (ap isIdle (o .closed)) (both-of (not (r .track .running)) (eqb (r .track .inflight) 0) (ap not (o .still)) (eq-eqb _ _ (o .empty))) in
+    let idle : idleOf (r .track) ≡ true = both-of (not (r .track .running)) (eqb (r .track .inflight) 0) (ap not (o .still)) (eq-eqb _ _ (o .empty)) in
+    let free : (isIdle (s .core .stage) && (idleOf (r .track) && noneIn (s .pending))) ≡ true = both-of (isIdle (s .core .stage)) (idleOf (r .track) && noneIn (s .pending)) (ap isIdle (o .closed)) (both-of (idleOf (r .track)) (noneIn (s .pending)) idle (o .clear)) in
     let known : not (eqb (paramsOf s stream .known) 0) ≡ true = ap not (ne-eqb _ _ (o .set)) in
     passes _ _ _ long (passes _ _ _ ok (passes _ _ _ free (passes _ _ _ (set-ready s k stream (o .set)) (passes _ _ _ (set-range s k stream (o .set)) (passes _ _ _ (held (s .core .guard) (takesOf (lifeOf s stream)) (o .live)) (passes _ _ _ known refl))))))
 

@@ -1,7 +1,8 @@
-// The state by value: every call, the feeds of an answer, the start of a transfer.
+// The state by value: every call, the feeds of an answer, the start of a transfer, submissions that do not wait.
 mod calls;
 mod effect;
 mod listing;
+mod nonblocking;
 mod state;
 mod xfer;
 
@@ -22,6 +23,14 @@ pub use calls::pcm_set_params;
 pub use calls::pcm_start;
 pub use calls::pcm_stop;
 pub use calls::rates_supported;
+pub use nonblocking::NbEnd;
+pub use nonblocking::NbReply;
+pub use nonblocking::NbStep;
+pub use nonblocking::pcm_xfer_mark;
+pub use nonblocking::pcm_xfer_nb;
+pub use nonblocking::pcm_xfer_ok;
+pub use nonblocking::pending_count;
+pub use nonblocking::pending_token;
 pub use state::Configured;
 pub use state::Sound;
 pub use xfer::XferReply;

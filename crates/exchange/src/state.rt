@@ -1,5 +1,5 @@
-// The state: a core on which every decision is made, three tables, and of each stream its parameters
-// and where it is in its lifecycle.
+// The state: a core on which every decision is made, three tables, of each stream its parameters
+// and where it is in its lifecycle, and what was submitted without waiting.
 ghost use mathlib.Core.Path.{_≡_};
 ghost use mathlib.Core.Bool.{true, false};
 ghost use lib.ListN.{replicate};
@@ -9,6 +9,7 @@ use codes::life;
 use core::Core;
 use core::Params;
 use core::consistent;
+use pending::Pending;
 use records::ChannelMap;
 use records::JackInfo;
 use records::PcmInfo;
@@ -23,6 +24,7 @@ pub struct Sound {
     pub maps: [ChannelMap; 170],
     pub params: [Params; 127],
     pub lives: [u8; 127],
+    pub pending: Pending,
 }
 
 fn no_params() -> [Params; 127]
@@ -40,13 +42,13 @@ fn no_params() -> [Params; 127]
     [blank; 127]
 }
 
-// A configured count; an inconsistent state tells none.
+// A count; an inconsistent state tells none.
 pub enum Configured {
     Is(u32),
     InvalidParam,
 }
 
-fn count_told(c: Core, n: u32) -> Configured
+pub(crate) fn count_told(c: Core, n: u32) -> Configured
     ensures { λ r. ⌜ saysConfigured r ≡ configuredOf c n ⌝ }
 {
     let sound = consistent(c);
@@ -66,6 +68,7 @@ fn made(guard: bool, jacks: u32, streams: u32, chmaps: u32) -> Sound
         maps: no_maps(),
         params: no_params(),
         lives: [life::SET_PARAMETERS; 127],
+        pending: Pending::new(),
     }
 }
 

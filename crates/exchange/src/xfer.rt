@@ -17,6 +17,7 @@ use core::MESSAGE;
 use core::ask_jacks;
 use core::tell;
 use core::xfer_gate;
+use pending::is_none;
 use records::Query;
 use turns::Reading;
 use turns::Ring;
@@ -40,12 +41,12 @@ pub struct XferStep {
     pub turns: u64,
 }
 
-fn checked(lengths: bool, s: Sound, t: Track, stream: u32) -> Gate
-    ensures { λ r. ⌜ r ≡ xferBy lengths s t stream Shut SetUp Open ⌝ }
+pub(crate) fn checked(lengths: bool, clear: bool, s: Sound, t: Track, stream: u32) -> Gate
+    ensures { λ r. ⌜ r ≡ xferBy lengths clear s t stream Shut SetUp Open ⌝ }
 {
     let params = params_of(s, stream);
     let life = life_of(s, stream);
-    xfer_gate(lengths, s.core, params, life, t, stream)
+    xfer_gate(lengths, clear, s.core, params, life, t, stream)
 }
 
 fn refused(s: Sound, ring: Ring, refusal: Refusal) -> XferStep
@@ -60,7 +61,7 @@ fn refused(s: Sound, ring: Ring, refusal: Refusal) -> XferStep
 }
 
 // The transfer waits for set-up, and its first query goes out.
-fn set_up(s: Sound, ring: Ring, stream: u32, message: &mut [u8]) -> XferStep
+pub(crate) fn set_up(s: Sound, ring: Ring, stream: u32, message: &mut [u8]) -> XferStep
     requires { ⌜ messageSize ≤ length (now message) ⌝ }
     ensures { λ r. ⌜ (r ≡ setUpStep s ring stream) × (now (message .exit) ≡ messageAfter (setUpPlan s stream .say) (now (message .entry))) ⌝ }
 {
@@ -113,7 +114,8 @@ pub fn pcm_xfer_start(
 ) -> XferStep
     ensures { λ r. ⌜ Transfers (startOf s ring stream (length (now (frames .entry))) budget (length (now (message .entry)))) (startSays s ring stream (length (now (frames .entry))) budget (length (now (message .entry)))) s stream (now (message .entry)) (now (message .exit)) r ⌝ }
 {
-    let outcome = checked(MESSAGE <= message.len(), s, ring.track, stream);
+    let clear = is_none(s.pending);
+    let outcome = checked(MESSAGE <= message.len(), clear, s, ring.track, stream);
     match outcome {
         Gate::Shut(refusal) => refused(s, ring, refusal),
         Gate::SetUp => set_up(s, ring, stream, message),
@@ -138,7 +140,8 @@ pub fn pcm_xfer(
 {
     let whole = script.len() % Reading::SIZE == 0;
     let lengths = both(MESSAGE <= message.len(), whole);
-    let outcome = checked(lengths, s, ring.track, stream);
+    let clear = is_none(s.pending);
+    let outcome = checked(lengths, clear, s, ring.track, stream);
     match outcome {
         Gate::Shut(refusal) => refused(s, ring, refusal),
         Gate::SetUp => set_up(s, ring, stream, message),

@@ -5,8 +5,8 @@ use mathlib.Core.List.{List, [], _∷_, _++_}
 use Prim.Native.Nat.{ℕ, zero, suc, _+_, _/_, _%_, _<_, _≤_, _^_}
 use native.Mathlib.Nat.{add-zero, zero-add, add-suc, suc-add, mod-eq-of-lt}
 use native.Mathlib.Omega.{arith}
-use lib.ListN.{length, getD, set}
-use lib.Seq.{sets, set-out, set-set, set-comm, set-getD, getD-set-other}
+use lib.ListN.{length, getD, set, take, drop, take-append-drop}
+use lib.Seq.{sets, set-out, set-set, set-comm, set-getD, getD-set-other, length-take-le, length-sets}
 use Rattle.layout.specs.Bytes.{le, bytesAt}
 use Rattle.layout.specs.BytesLaws.{length-le, le-mod, le-split, length-bytesAt, bytesAt-add}
 
@@ -24,6 +24,16 @@ sets-then l i j a b e = ap (λ (n : ℕ). sets (sets l i a) n b) e ∙ sets-appe
 pub sets-out : (vs l : List ℕ) (i : ℕ) → length l ≤ i → sets l i vs ≡ l
 sets-out [] l i h = refl
 sets-out (v ∷ vs) l i h = ap (λ (k : List ℕ). sets k (suc i) vs) (set-out l i v h) ∙ sets-out vs l (suc i) (omega arith)
+
+-- what reaches past the end is not stored
+pub sets-cut : (l vs : List ℕ) (i n : ℕ) → length l ≤ i + n → n ≤ length vs → sets l i (take n vs) ≡ sets l i vs
+sets-cut l vs i n h k =
+    let j : i + length (take n vs) ≡ i + n = ap (λ (m : ℕ). i + m) (length-take-le n vs k) in
+    let e : length (sets l i (take n vs)) ≡ length l = length-sets l i (take n vs) in
+    let past : length (sets l i (take n vs)) ≤ i + n = omega arith in
+    sym (sets-out (drop n vs) (sets l i (take n vs)) (i + n) past)
+    ∙ sets-then l i (i + n) (take n vs) (drop n vs) (sym j)
+    ∙ ap (sets l i) (take-append-drop n vs)
 
 -- ---- numbers
 

@@ -77,6 +77,18 @@ fn within_put_u64(out: &mut [u8], at: usize, v: u64)
     within_put_u32(out, at + 4, (v / 4294967296) as u32);
 }
 
+// The first n bytes of a slice, from a place on.
+fn within_put_bytes(out: &mut [u8], at: usize, from: &[u8], n: usize)
+    requires { ⌜ (at + n ≤ length (now out)) × (n ≤ length (now from)) ⌝ }
+    ensures { λ _. ⌜ now (out .exit) ≡ sets (now (out .entry)) at (take n (now (from .entry))) ⌝ }
+{
+    let mut i: usize = 0;
+    while i < n {
+        out[at + i] = from[i];
+        i += 1;
+    }
+}
+
 // ---- by value
 
 // The number that bytes stand for, and the bytes of a number.
@@ -238,4 +250,21 @@ pub fn put_u64(out: &mut [u8], at: usize, v: u64)
     let mut rest = [0u8; 8];
     within_put_u64(&mut rest, 0, v);
     put_some(out, at, &rest, 8);
+}
+
+// A whole slice, stored from a place on; bytes that reach past the end are not.
+pub fn put_bytes(out: &mut [u8], at: usize, from: &[u8])
+    ensures { λ _. ⌜ now (out .exit) ≡ sets (now (out .entry)) at (now (from .entry)) ⌝ }
+{
+    let n = out.len();
+    if n <= at {
+        return;
+    }
+    let room = n - at;
+    let m = from.len();
+    if m <= room {
+        within_put_bytes(out, at, from, m);
+        return;
+    }
+    within_put_bytes(out, at, from, room);
 }

@@ -1,5 +1,5 @@
 -- The calls on a state that stands in a lent byte store: the call by value on the state that the store holds, and the state that it leaves, written
--- over it. A store under 14,447 bytes, or a result slice under 512, gets 10 and nothing is looked at.
+-- over it. A store under 14,703 bytes, or a result slice under 512, gets 10 and nothing is looked at.
 -- Assumes nothing.
 use mathlib.Core.Bool.{Bool, _&&_}
 use mathlib.Core.List.{List, [], _∷_, _++_}
@@ -11,6 +11,7 @@ use Rattle.layout.specs.Bytes.{le}
 use Rattle.layout.specs.Layout.{write}
 use Rattle.layout.specs.Rows.{rowsBytes}
 use Rattle.codes.specs.Says.{guard}
+use Rattle.pending.specs.Table.{noneIn}
 use Rattle.codes.specs.Answers.{refusalWord}
 use Rattle.exchange.specs.State.{newSound}
 use Rattle.core.specs.Consistent.{consistentOf}
@@ -100,7 +101,7 @@ settingUp s stream m =
 
 unfoldable pub openIn : List ℕ → Track → ℕ → List ℕ → Opened
 openIn s t stream m =
-    xferBy (leb stateSize (length s) && leb messageSize (length m)) (soundOf s) t stream (shut s m) (settingUp s stream m)
+    xferBy (leb stateSize (length s) && leb messageSize (length m)) (noneIn (soundOf s .pending)) (soundOf s) t stream (shut s m) (settingUp s stream m)
     (λ period. record { opening = Open period; state = s; message = m })
 
 -- ---- a new state, with the guard or without, and the reads of the configured counts: 1 for a state that fails the consistency test

@@ -8,7 +8,7 @@ use native.Mathlib.Numerals.{towards-numerals}
 use native.Mathlib.Omega.{arith}
 use native.Mathlib.Nat.{mul-le-mul-right, mul-one}
 use lib.Dec.{ltb}
-use lib.ListN.{set, length-set}
+use lib.ListN.{length, set, length-set}
 use lib.Seq.{sets, set-out}
 use borrow.Author.Tests.{ltb-true, ltb-false, lt-ltb, le-ltb}
 use Rattle.layout.specs.Bytes.{le, bytesAt, Bytes}
@@ -24,11 +24,11 @@ use Rattle.tables.specs.TablesLaws.{fits-facts}
 use Rattle.tables.specs.TableLengthLaws.{jacks-length, streams-length, maps-length}
 use Rattle.exchange.specs.Tables.{moved, soundAfter}
 use Rattle.state_store.specs.Types.{Core, Params, Effect, Nothing, FillJacks, FillStreams, FillMaps, Store, Move}
-use Rattle.state_store.specs.Places.{headSize, pcmsPlace, mapsPlace, paramsPlace, livesPlace}
+use Rattle.state_store.specs.Places.{headSize, pcmsPlace, mapsPlace, paramsPlace, livesPlace, tokensPlace}
 use Rattle.state_store.specs.Store.{headRow, headValues, headOf, paramsRow, paramsBytes, paramsAt, lifeBytes, lifeAt, soundOf, soundBytes}
 use Rattle.records.specs.Records.{jackBytes, pcmBytes, mapBytes}
 use Rattle.state_store.specs.TableLaws.{Alike, alike-on, alike-after, table-kept, table-filled, table-set}
-use Rattle.state_store.specs.OverLaws.{headBytes, head-alike, Sized, sized-of, tables-apart, jacksIn, pcmsIn, mapsIn, paramsIn, livesIn, jack-same, pcm-same, map-same, params-same, life-same, params-sized, life-sized, jacks-kept, pcms-kept, maps-kept, params-kept, lives-kept, kept-from-params, kept-from-maps, kept-from-pcms, core-over}
+use Rattle.state_store.specs.OverLaws.{headBytes, head-alike, Sized, sized-of, tables-apart, jacksIn, pcmsIn, mapsIn, paramsIn, livesIn, tokensIn, ends, jack-same, pcm-same, map-same, params-same, life-same, params-sized, life-sized, jacks-kept, pcms-kept, maps-kept, params-kept, lives-kept, tokens-kept, kept-from-params, kept-from-maps, kept-from-pcms, core-over}
 use Rattle.state_store.specs.Effect.{copiedIn, livedIn, effectIn}
 
 -- ---- a page that holds its records, or not
@@ -93,10 +93,10 @@ module _ (guard : Bool) (stream life : ℕ) (s : List ℕ) where
 
 -- ---- where a stream is in its lifecycle, over a store that has the lifecycles as they were
 
-lives-over : (u s : List ℕ) → Bytes s → Alike livesPlace u s → (guard : Bool) (stream life : ℕ) → sets u livesPlace (rowsBytes lifeBytes (moved guard (soundOf s .lives) stream life)) ≡ livedIn guard stream life u
+lives-alone : (u s : List ℕ) → Bytes s → Alike livesPlace u s → (guard : Bool) (stream life : ℕ) → sets u livesPlace (rowsBytes lifeBytes (moved guard (soundOf s .lives) stream life)) ≡ livedIn guard stream life u
 unfolding soundOf
-lives-over u s b a false stream life = lives-kept s b u a
-lives-over u s b a true stream life = by (ltb stream 127) (ltb-true stream 127) (ltb-false stream 127)
+lives-alone u s b a false stream life = lives-kept s b u a
+lives-alone u s b a true stream life = by (ltb stream 127) (ltb-true stream 127) (ltb-false stream 127)
   where
     by : (t : Bool) → (t ≡ true → stream < 127) → (t ≡ false → 127 ≤ stream)
         → sets u livesPlace (rowsBytes lifeBytes (set (soundOf s .lives) stream life)) ≡ pick t (sets u (livesPlace + stream) (lifeBytes life)) u
@@ -106,6 +106,25 @@ lives-over u s b a true stream life = by (ltb stream 127) (ltb-true stream 127) 
     by false h k =
         ap (λ (l : List ℕ). sets u livesPlace (rowsBytes lifeBytes l)) (set-out (soundOf s .lives) stream life (omega (arith, k refl, length-rows lifeAt 1 livesPlace 127 s)))
         ∙ lives-kept s b u a
+
+moved-length : (guard : Bool) (lives : List ℕ) (stream life : ℕ) → length (moved guard lives stream life) ≡ length lives
+moved-length true lives stream life = length-set lives stream life
+moved-length false lives stream life = refl
+
+-- past the lifecycles the store is as it was
+lived-alike : (u s : List ℕ) → Alike livesPlace u s → (guard : Bool) (stream life : ℕ) → Alike tokensPlace (livedIn guard stream life u) s
+lived-alike u s a false stream life = alike-on livesPlace tokensPlace u s a (omega arith)
+lived-alike u s a true stream life = by (ltb stream 127) (ltb-true stream 127)
+  where
+    by : (t : Bool) → (t ≡ true → stream < 127) → Alike tokensPlace (pick t (sets u (livesPlace + stream) (lifeBytes life)) u) s
+    by true h = alike-after livesPlace (livesPlace + stream) tokensPlace u s (lifeBytes life) a (omega arith) (omega (arith, life-sized life, h refl))
+    by false h = alike-on livesPlace tokensPlace u s a (omega arith)
+
+lives-over : (u s : List ℕ) → Bytes s → Alike livesPlace u s → (guard : Bool) (stream life : ℕ)
+    → sets (sets u livesPlace (rowsBytes lifeBytes (moved guard (soundOf s .lives) stream life))) tokensPlace (tokensIn s) ≡ livedIn guard stream life u
+lives-over u s b a guard stream life =
+    ap (λ (l : List ℕ). sets l tokensPlace (tokensIn s)) (lives-alone u s b a guard stream life)
+    ∙ tokens-kept s b (livedIn guard stream life u) (lived-alike u s a guard stream life)
 
 -- ---- THE LAW, for each effect
 
@@ -139,8 +158,8 @@ module _ (s page : List ℕ) (c : Core) (b : Bytes s) (p : Bytes page) where
   unfolding jacksRead soundOf
   jacks-over n =
       let z = sized-of s c in
-      tables-apart s (soundAfter (FillJacks n) c (soundOf s) page) (record { jacks = jacks-length page n (soundOf s .jacks) (z .jacks); pcms = z .pcms; maps = z .maps; params = z .params })
-      ∙ ap (λ (l : List ℕ). sets (sets (sets (sets l pcmsPlace (pcmsIn s)) mapsPlace (mapsIn s)) paramsPlace (paramsIn s)) livesPlace (livesIn s))
+      tables-apart s (soundAfter (FillJacks n) c (soundOf s) page) (record { jacks = jacks-length page n (soundOf s .jacks) (z .jacks); pcms = z .pcms; maps = z .maps; params = z .params; lives = z .lives })
+      ∙ ap (λ (l : List ℕ). ends s (sets (sets (sets l pcmsPlace (pcmsIn s)) mapsPlace (mapsIn s)) paramsPlace (paramsIn s)))
       (table-read jackAt jackBytes 24 jack-same headSize 170 n store s page b p (head-alike s c) (few-24 n))
       ∙ kept-from-pcms s b (copiedIn headSize 24 n page store) (copied-alike 24 headSize 170 n store s page (head-alike s c) (few-24 n))
 
@@ -149,8 +168,8 @@ module _ (s page : List ℕ) (c : Core) (b : Bytes s) (p : Bytes page) where
   streams-over n =
       let z = sized-of s c in
       let a : Alike pcmsPlace store s = alike-on headSize pcmsPlace store s (head-alike s c) (omega arith) in
-      tables-apart s (soundAfter (FillStreams n) c (soundOf s) page) (record { jacks = z .jacks; pcms = streams-length page n (soundOf s .pcms) (z .pcms); maps = z .maps; params = z .params })
-      ∙ ap (λ (l : List ℕ). sets (sets (sets l mapsPlace (mapsIn s)) paramsPlace (paramsIn s)) livesPlace (livesIn s))
+      tables-apart s (soundAfter (FillStreams n) c (soundOf s) page) (record { jacks = z .jacks; pcms = streams-length page n (soundOf s .pcms) (z .pcms); maps = z .maps; params = z .params; lives = z .lives })
+      ∙ ap (λ (l : List ℕ). ends s (sets (sets l mapsPlace (mapsIn s)) paramsPlace (paramsIn s)))
       (before-pcms (rowsBytes pcmBytes (streamsRead page n (soundOf s .pcms))) ∙ table-read pcmAt pcmBytes 32 pcm-same pcmsPlace 127 n store s page b p a (few-32 n))
       ∙ kept-from-maps s b (copiedIn pcmsPlace 32 n page store) (copied-alike 32 pcmsPlace 127 n store s page a (few-32 n))
 
@@ -159,8 +178,8 @@ module _ (s page : List ℕ) (c : Core) (b : Bytes s) (p : Bytes page) where
   maps-over n =
       let z = sized-of s c in
       let a : Alike mapsPlace store s = alike-on headSize mapsPlace store s (head-alike s c) (omega arith) in
-      tables-apart s (soundAfter (FillMaps n) c (soundOf s) page) (record { jacks = z .jacks; pcms = z .pcms; maps = maps-length page n (soundOf s .maps) (z .maps); params = z .params })
-      ∙ ap (λ (l : List ℕ). sets (sets l paramsPlace (paramsIn s)) livesPlace (livesIn s))
+      tables-apart s (soundAfter (FillMaps n) c (soundOf s) page) (record { jacks = z .jacks; pcms = z .pcms; maps = maps-length page n (soundOf s .maps) (z .maps); params = z .params; lives = z .lives })
+      ∙ ap (λ (l : List ℕ). ends s (sets l paramsPlace (paramsIn s)))
       (before-maps (rowsBytes mapBytes (mapsRead page n (soundOf s .maps))) ∙ table-read mapAt mapBytes 24 map-same mapsPlace 170 n store s page b p a (few-24 n))
       ∙ kept-from-params s b (copiedIn mapsPlace 24 n page store) (copied-alike 24 mapsPlace 170 n store s page a (few-24 n))
 
@@ -168,12 +187,12 @@ module _ (s page : List ℕ) (c : Core) (b : Bytes s) (p : Bytes page) where
   unfolding soundOf
   params-over stream to =
       tables-apart s (soundAfter (Store stream to) c (soundOf s) page) (sized-params (sized-of s c))
-      ∙ ap (λ (l : List ℕ). sets l livesPlace (rowsBytes lifeBytes (moved (c .guard) (soundOf s .lives) stream 0)))
+      ∙ ap (λ (l : List ℕ). sets (sets l livesPlace (rowsBytes lifeBytes (moved (c .guard) (soundOf s .lives) stream 0))) tokensPlace (tokensIn s))
       (before-params (rowsBytes paramsBytes (set (soundOf s .params) stream to)) ∙ by (ltb stream 127) (ltb-true stream 127) (ltb-false stream 127))
       ∙ lives-over (pick (ltb stream 127) (sets store (paramsPlace + stream * 16) (paramsBytes to)) store) s b (past (ltb stream 127) (ltb-true stream 127)) (c .guard) stream 0
     where
       sized-params : Sized (soundAfter Nothing c (soundOf s) []) → Sized (soundAfter (Store stream to) c (soundOf s) page)
-      sized-params z = record { jacks = z .jacks; pcms = z .pcms; maps = z .maps; params = length-set (soundOf s .params) stream to ∙ z .params }
+      sized-params z = record { jacks = z .jacks; pcms = z .pcms; maps = z .maps; params = length-set (soundOf s .params) stream to ∙ z .params; lives = moved-length (c .guard) (soundOf s .lives) stream 0 ∙ z .lives }
 
       a : Alike paramsPlace store s
       a = alike-on headSize paramsPlace store s (head-alike s c) (omega arith)
@@ -197,8 +216,8 @@ module _ (s page : List ℕ) (c : Core) (b : Bytes s) (p : Bytes page) where
       let z = sized-of s c in
       let a : Alike paramsPlace u s = alike-on headSize paramsPlace u s (head-alike s c) (omega arith) in
       let v = rowsBytes lifeBytes (moved (c .guard) (soundOf s .lives) stream life) in
-      tables-apart s (soundAfter (Move stream life) c (soundOf s) page) (record { jacks = z .jacks; pcms = z .pcms; maps = z .maps; params = z .params })
-      ∙ ap (λ (l : List ℕ). sets l livesPlace v) (before-params s page c b p (paramsIn s) ∙ params-kept s b u a)
+      tables-apart s (soundAfter (Move stream life) c (soundOf s) page) (record { jacks = z .jacks; pcms = z .pcms; maps = z .maps; params = z .params; lives = moved-length (c .guard) (soundOf s .lives) stream life ∙ z .lives })
+      ∙ ap (λ (l : List ℕ). sets (sets l livesPlace v) tokensPlace (tokensIn s)) (before-params s page c b p (paramsIn s) ∙ params-kept s b u a)
       ∙ lives-over u s b (alike-on paramsPlace livesPlace u s a (omega arith)) (c .guard) stream life
 
 -- THE EFFECT ON THE BYTES is the effect by value: on a store with the plan's core, it leaves the state that `soundAfter` says

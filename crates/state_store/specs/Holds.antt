@@ -25,6 +25,7 @@ use Rattle.tables.specs.Tables.{fits, isGood, filled, jackAt, pcmAt, mapAt, jac
 use Rattle.tables.specs.TableLengthLaws.{jacks-length, streams-length, maps-length}
 use Rattle.turns.specs.Consistent as ring
 use Rattle.turns.specs.ConsistentLaws.{both}
+use Rattle.pending.specs.Table.{freeToken, noneIn}
 use Rattle.core.specs.State.{unset, newCore}
 use Rattle.exchange.specs.State.{newSound, paramsOf}
 use Rattle.core.specs.Consistent.{consistentOf, streamOk}
@@ -37,12 +38,12 @@ use Rattle.exchange.specs.OwnLaws.{picked-by}
 use Rattle.exchange.specs.PlanLaws.{begun, Answered, short, idle, asks-streams, asks-maps, cuts, finishes, ends, fails, fed}
 use Rattle.exchange.specs.StayLaws.{called-quiet}
 use Rattle.exchange.specs.StepLaws.{startBy, started-by}
-use Rattle.state_store.specs.Types.{Written, Refusal, JackInfo, PcmInfo, ChannelMap, Verdict, Track, Ring, Params, Kind, Prepare, Release, Start, Stop, Call, SetParams, Command, Remap, Streams, Supported, Xfer, Sent, Core, Sound, Effect, Nothing, FillJacks, FillStreams, FillMaps, Store, Move, Look, Plan, Gate, Shut, SetUp, Open, XferStep}
-use Rattle.state_store.specs.Places.{headSize, pcmsPlace, mapsPlace, paramsPlace, livesPlace, stateSize}
-use Rattle.state_store.specs.Store.{whole, lifeRow, lifeAt, lifeBytes, paramsRow, paramsAt, soundOf, soundBytes, stateAfter, headRow, headValues, headOf, paramsBytes}
+use Rattle.state_store.specs.Types.{Written, Refusal, JackInfo, PcmInfo, ChannelMap, Verdict, Track, Ring, Params, Kind, Prepare, Release, Start, Stop, Call, SetParams, Command, Remap, Streams, Supported, Xfer, Sent, Core, Sound, Token, Effect, Nothing, FillJacks, FillStreams, FillMaps, Store, Move, Look, Plan, Gate, Shut, SetUp, Open, XferStep}
+use Rattle.state_store.specs.Places.{headSize, pcmsPlace, mapsPlace, paramsPlace, livesPlace, tokensPlace, stateSize}
+use Rattle.state_store.specs.Store.{whole, lifeRow, lifeAt, lifeBytes, tokenRow, tokenIn, tokenBytes, paramsRow, paramsAt, soundOf, soundBytes, stateAfter, headRow, headValues, headOf, paramsBytes}
 use Rattle.layout.specs.Lent.{Made, messageSize}
 use Rattle.state_store.specs.Calls.{Told, told, tooShort, lengths, callIn, feedIn, failIn, Opened, openIn, newIn}
-use Rattle.state_store.specs.StoreLaws.{paramsValues, lifeValues, Fits, store-back}
+use Rattle.state_store.specs.StoreLaws.{paramsValues, lifeValues, tokenValues, Fits, store-back}
 use Rattle.state_store.specs.OpenLaws.{gateIn, openBy, opens, opened-by}
 use Rattle.state_store.specs.WholeLaws.{FitCall, FitCore, head-fits, store-fits, begun-fits, waits, answered-fits, set-up-fits, new-fits}
 use Rattle.state_store.specs.RefusedLaws.{Barred, begun-barred, answered-barred, not-whole}
@@ -92,6 +93,13 @@ life-fits : (o : ℕ) (s : List ℕ) → Bytes s → LifeFits (lifeAt o s)
 unfolding lifeAt
 life-fits o s b = (numAt-below o 1 s b, tt)
 
+abbrev TokenFits : Token → Type 0
+TokenFits x = Fit tokenRow (tokenValues x)
+
+token-fits : (o : ℕ) (s : List ℕ) → Bytes s → TokenFits (tokenIn o s)
+unfolding tokenIn
+token-fits o s b = (numAt-below o 4 s b, (numAt-below (o + 4) 4 s b, tt))
+
 -- WHAT A WHOLE STORE HOLDS FITS
 pub sound-fits : (s : List ℕ) → Bytes s → whole s ≡ true → Fits (soundOf s)
 unfolding soundOf
@@ -103,11 +111,13 @@ sound-fits s b w =
       maps = rows-ok MapFits mapAt 24 map-fits mapsPlace 170 s b;
       params = rows-ok ParamsFit paramsAt 16 params-fit paramsPlace 127 s b;
       lives = rows-ok LifeFits lifeAt 1 life-fits livesPlace 127 s b;
+      tokens = rows-ok TokenFits tokenIn 8 token-fits tokensPlace 32 s b;
       jacks-170 = length-rows jackAt 24 headSize 170 s;
       pcms-127 = length-rows pcmAt 32 pcmsPlace 127 s;
       maps-170 = length-rows mapAt 24 mapsPlace 170 s;
       params-127 = length-rows paramsAt 16 paramsPlace 127 s;
       lives-127 = length-rows lifeAt 1 livesPlace 127 s;
+      tokens-32 = length-rows tokenIn 8 tokensPlace 32 s;
     }
 
 -- ---- A PLAN THAT FITS leaves a state that fits
@@ -129,7 +139,7 @@ module _ (c : Core) (k : FitCore c) (x : Sound) (f : Fits x) (page : List ℕ) (
   Table Ok n xs = All Ok xs × (length xs ≡ n)
 
   tables-fit : (js : List JackInfo) (ps : List PcmInfo) (ms : List ChannelMap) (qs : List Params) (vs : List ℕ) → Table JackFits 170 js → Table PcmFits 127 ps → Table MapFits 170 ms → Table ParamsFit 127 qs → Table LifeFits 127 vs
-      → Fits (record { core = c; jacks = js; pcms = ps; maps = ms; params = qs; lives = vs })
+      → Fits (record { core = c; jacks = js; pcms = ps; maps = ms; params = qs; lives = vs; pending = x .pending })
   tables-fit js ps ms qs vs j p m q v =
       record {
         core = head-fits c k;
@@ -138,11 +148,13 @@ module _ (c : Core) (k : FitCore c) (x : Sound) (f : Fits x) (page : List ℕ) (
         maps = m .0;
         params = q .0;
         lives = v .0;
+        tokens = f .tokens;
         jacks-170 = j .1;
         pcms-127 = p .1;
         maps-170 = m .1;
         params-127 = q .1;
         lives-127 = v .1;
+        tokens-32 = f .tokens-32;
       }
 
   jacks : Table JackFits 170 (x .jacks)
@@ -291,10 +303,11 @@ module _ (s m : List ℕ) (b : Bytes s) (h : stateSize ≤ length s) (r : Ring) 
   pub open-holds : (len budget : ℕ) → soundOf (openIn s (r .track) stream m .state) ≡ startOf (soundOf s) r stream len budget (length m) .sound
   open-holds len budget =
       let g = gateIn s m t stream in
-      let e : g ≡ xferBy (leb messageSize (length m)) x t stream Shut SetUp Open = ap (λ (a : Bool). xferBy (a && leb messageSize (length m)) x t stream Shut SetUp Open) (le-leb stateSize (length s) h) in
+      let none = noneIn (x .pending) in
+      let e : g ≡ xferBy (leb messageSize (length m)) none x t stream Shut SetUp Open = ap (λ (a : Bool). xferBy (a && leb messageSize (length m)) none x t stream Shut SetUp Open) (le-leb stateSize (length s) h) in
       ap (λ (o : Opened). soundOf (o .state)) (sym (opens s m t stream g refl))
       ∙ by len budget g refl
-      ∙ ap (λ (y : XferStep). y .sound) (started-by x r stream len budget (length m) g e)
+      ∙ ap (λ (y : XferStep). y .sound) (started-by x r stream len budget (length m) (noneIn (x .pending)) g refl e)
 
 -- ---- a new state: its tables are of what is read where no byte stands
 
@@ -313,11 +326,13 @@ new-holds on s jacks streams maps h j k m =
           maps = replicate-ok MapFits 170 (channelMapOf []) (map-fits 0 [] no-page);
           params = replicate-ok ParamsFit 127 unset (params-fit 0 [] no-page);
           lives = replicate-ok LifeFits 127 0 (lit< tt, tt);
+          tokens = replicate-ok TokenFits 32 freeToken (lit< tt, (lit< tt, tt));
           jacks-170 = refl;
           pcms-127 = refl;
           maps-170 = refl;
           params-127 = refl;
           lives-127 = refl;
+          tokens-32 = refl;
         }
 
 -- ---- what a call leaves is a store again
@@ -330,7 +345,8 @@ bytes-sound x =
     (bytes-append (rowsBytes pcmBytes (x .pcms)) _ (bytes-rows pcmBytes (λ r. bytes-write pcmInfo (pcmInfoValues r)) (x .pcms))
     (bytes-append (rowsBytes mapBytes (x .maps)) _ (bytes-rows mapBytes (λ r. bytes-write channelMap (channelMapValues r)) (x .maps))
     (bytes-append (rowsBytes paramsBytes (x .params)) _ (bytes-rows paramsBytes (λ p. bytes-write paramsRow (paramsValues p)) (x .params))
-    (bytes-rows lifeBytes (λ l. bytes-write lifeRow (lifeValues l)) (x .lives))))))
+    (bytes-append (rowsBytes lifeBytes (x .lives)) _ (bytes-rows lifeBytes (λ l. bytes-write lifeRow (lifeValues l)) (x .lives))
+    (bytes-rows tokenBytes (λ t. bytes-write tokenRow (tokenValues t)) (x .pending .tokens)))))))
 
 module _ (s m r : List ℕ) (b : Bytes s) where
   after-again : (x : Sound) → Again s (stateAfter s x)

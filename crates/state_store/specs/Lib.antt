@@ -4,6 +4,7 @@ pub mod Places
 pub mod Flat
 pub mod Store
 pub mod Calls
+pub mod Tokens
 pub mod Effect
 pub mod Steps
 pub mod FlatTests
@@ -24,3 +25,5 @@ pub mod NewLaws
 pub mod WholeLaws
 pub mod RefusedLaws
 pub mod FinishLaws
+pub mod TokenLaws
+pub mod SubmitLaws

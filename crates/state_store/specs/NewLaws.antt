@@ -1,4 +1,4 @@
--- A new state is its core and 14,383 bytes of 0; and the laws for the reads of the configured counts.
+-- A new state is its core and 14,639 bytes of 0; and the laws for the reads of the configured counts.
 -- Assumes nothing.
 use mathlib.Core.Path.{_≡_, refl, sym, ap, _∙_}
 use mathlib.Core.Bool.{Bool, true, false}
@@ -14,10 +14,11 @@ use Rattle.layout.specs.StoreLaws.{sets-then}
 use Rattle.codes.specs.SaysLaws.{passes, stops}
 use Rattle.records.specs.Records.{jackInfoOf, pcmInfoOf, channelMapOf, jackBytes, pcmBytes, mapBytes}
 use Rattle.tables.specs.Tables.{noJacks, noStreams, noMaps}
+use Rattle.pending.specs.Table.{freeToken}
 use Rattle.core.specs.State.{unset, newCore}
 use Rattle.state_store.specs.Types.{Counts, Core}
 use Rattle.state_store.specs.Places.{headSize, stateSize, tablesSize}
-use Rattle.state_store.specs.Store.{paramsBytes, lifeBytes, headAt, coreOf, soundBytes}
+use Rattle.state_store.specs.Store.{paramsBytes, lifeBytes, tokenBytes, headAt, coreOf, soundBytes}
 use Rattle.layout.specs.Lent.{made, shown}
 use Rattle.state_store.specs.Calls.{lengths, newIn, countIn}
 use Rattle.state_store.specs.OverLaws.{headBytes, head-sized}
@@ -75,14 +76,19 @@ no-life : lifeBytes 0 ≡ zeros 1
 unfolding le zeros
 no-life = refl
 
-no-tables : rowsBytes jackBytes noJacks ++ (rowsBytes pcmBytes noStreams ++ (rowsBytes mapBytes noMaps ++ (rowsBytes paramsBytes (replicate 127 unset) ++ rowsBytes lifeBytes (replicate 127 0)))) ≡ zeros tablesSize
+no-token : tokenBytes freeToken ≡ zeros 8
+unfolding le zeros
+no-token = refl
+
+no-tables : rowsBytes jackBytes noJacks ++ (rowsBytes pcmBytes noStreams ++ (rowsBytes mapBytes noMaps ++ (rowsBytes paramsBytes (replicate 127 unset) ++ (rowsBytes lifeBytes (replicate 127 0) ++ rowsBytes tokenBytes (replicate 32 freeToken))))) ≡ zeros tablesSize
 no-tables =
     (λ i. rows-zero jackBytes 24 (jackInfoOf []) no-jack 170 i ++ (rows-zero pcmBytes 32 (pcmInfoOf []) no-stream 127 i
-    ++ (rows-zero mapBytes 24 (channelMapOf []) no-map 170 i ++ (rows-zero paramsBytes 16 unset no-params 127 i ++ rows-zero lifeBytes 1 0 no-life 127 i))))
-    ∙ ap (λ (l : List ℕ). zeros 4080 ++ (zeros 4064 ++ (zeros 4080 ++ l))) (zeros-add 2032 127)
-    ∙ ap (λ (l : List ℕ). zeros 4080 ++ (zeros 4064 ++ l)) (zeros-add 4080 2159)
-    ∙ ap (λ (l : List ℕ). zeros 4080 ++ l) (zeros-add 4064 6239)
-    ∙ zeros-add 4080 10303
+    ++ (rows-zero mapBytes 24 (channelMapOf []) no-map 170 i ++ (rows-zero paramsBytes 16 unset no-params 127 i ++ (rows-zero lifeBytes 1 0 no-life 127 i ++ rows-zero tokenBytes 8 freeToken no-token 32 i)))))
+    ∙ ap (λ (l : List ℕ). zeros 4080 ++ (zeros 4064 ++ (zeros 4080 ++ (zeros 2032 ++ l)))) (zeros-add 127 256)
+    ∙ ap (λ (l : List ℕ). zeros 4080 ++ (zeros 4064 ++ (zeros 4080 ++ l))) (zeros-add 2032 383)
+    ∙ ap (λ (l : List ℕ). zeros 4080 ++ (zeros 4064 ++ l)) (zeros-add 4080 2415)
+    ∙ ap (λ (l : List ℕ). zeros 4080 ++ l) (zeros-add 4064 6495)
+    ∙ zeros-add 4080 10559
 
 module _ (on : Bool) (s : List ℕ) (jacks streams maps : ℕ) where
   pub new-short : length s < stateSize → made 10 s ≡ newIn on s jacks streams maps

@@ -11,6 +11,7 @@ use borrow.Author.Tests.{leb-true}
 use Rattle.layout.specs.Lent.{messageSize}
 use Rattle.codes.specs.SaysLaws.{stops}
 use Rattle.turns.specs.ConsistentLaws.{both}
+use Rattle.pending.specs.Table.{noneIn}
 use Rattle.exchange.specs.State.{paramsOf, lifeOf}
 use Rattle.core.specs.Gate.{gateBy}
 use Rattle.exchange.specs.Xfer.{xferBy}
@@ -28,10 +29,11 @@ module _ (s m : List ℕ) (t : Track) (stream : ℕ) where
   long = leb stateSize (length s) && leb messageSize (length m)
 
   abbrev pub gateIn : Gate
-  gateIn = xferBy long (soundOf s) t stream Shut SetUp gate.Open
+  gateIn = xferBy long (noneIn (soundOf s .pending)) (soundOf s) t stream Shut SetUp gate.Open
 
-  pub gated : {b : Bool} {c : Core} {p : Params} {life : ℕ} {g : Gate} → b ≡ long → c ≡ coreOf (headAt s) → p ≡ paramsOf (soundOf s) stream → life ≡ lifeOf (soundOf s) stream → g ≡ gateBy b c p life t stream Shut SetUp gate.Open → g ≡ gateIn
-  gated b c p l g = g ∙ (λ i. gateBy (b i) ((c ∙ sym (core-at s)) i) (p i) (l i) t stream Shut SetUp gate.Open)
+  pub gated : {b d : Bool} {c : Core} {p : Params} {life : ℕ} {g : Gate} → b ≡ long → d ≡ noneIn (soundOf s .pending) → c ≡ coreOf (headAt s) → p ≡ paramsOf (soundOf s) stream → life ≡ lifeOf (soundOf s) stream
+      → g ≡ gateBy b d c p life t stream Shut SetUp gate.Open → g ≡ gateIn
+  gated b d c p l g = g ∙ (λ i. gateBy (b i) (d i) ((c ∙ sym (core-at s)) i) (p i) (l i) t stream Shut SetUp gate.Open)
 
   -- where they are not, the gate is shut
   pub shut-short : long ≡ false → Shut BadLength ≡ gateIn
@@ -43,7 +45,7 @@ module _ (s m : List ℕ) (t : Track) (stream : ℕ) where
   -- set-up is begun only where the lengths are right
   pub set-up-long : SetUp ≡ gateIn → (stateSize ≤ length s) × (messageSize ≤ length m)
   set-up-long e =
-      let h = both (leb stateSize (length s)) (leb messageSize (length m)) (step.set-up-long long (soundOf s) t stream e) in
+      let h = both (leb stateSize (length s)) (leb messageSize (length m)) (step.set-up-long long (noneIn (soundOf s .pending)) (soundOf s) t stream e) in
       (leb-true stateSize (length s) (h .0), leb-true messageSize (length m) (h .1))
 
   abbrev pub openBy : Gate → Opened
@@ -53,7 +55,7 @@ module _ (s m : List ℕ) (t : Track) (stream : ℕ) where
 
   pub opens : (g : Gate) → g ≡ gateIn → openBy g ≡ openIn s t stream m
   unfolding openIn
-  opens g e = ap openBy e ∙ step.xfer-ap openBy long (soundOf s) t stream Shut SetUp gate.Open
+  opens g e = ap openBy e ∙ step.xfer-ap openBy long (noneIn (soundOf s .pending)) (soundOf s) t stream Shut SetUp gate.Open
 
   -- what holds at each end of the checks holds of the start
   pub opened-by : (P : Opened → Type 0) → ((g : Gate) → g ≡ gateIn → P (openBy g)) → P (openIn s t stream m)

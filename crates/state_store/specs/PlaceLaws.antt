@@ -12,13 +12,14 @@ use Rattle.layout.specs.Rows.{rowsAt}
 use Rattle.layout.specs.RowsLaws.{length-rows, rows-at}
 use Rattle.records.specs.Records.{jackInfoOf, pcmInfoOf}
 use Rattle.tables.specs.Tables.{jackAt, pcmAt}
+use Rattle.pending.specs.Table.{freeToken, tokenAt}
 use Rattle.core.specs.State.{unset}
 use Rattle.exchange.specs.State.{jackOf, pcmOf, paramsOf, lifeOf}
 use Rattle.exchange.specs.Tables.{fieldOf}
 use Rattle.core.specs.declared.plan.Value.the-variants as value
-use Rattle.state_store.specs.Types.{Params, Field, Value, Rates, Formats, Channels, Features}
-use Rattle.state_store.specs.Places.{headSize, pcmsPlace, paramsPlace, livesPlace}
-use Rattle.state_store.specs.Store.{paramsAt, lifeAt, soundOf}
+use Rattle.state_store.specs.Types.{Params, Token, Field, Value, Rates, Formats, Channels, Features}
+use Rattle.state_store.specs.Places.{headSize, pcmsPlace, paramsPlace, livesPlace, tokensPlace}
+use Rattle.state_store.specs.Store.{paramsAt, lifeAt, tokenIn, soundOf}
 
 rows-out : {A : Type 0} (f : ℕ → List ℕ → A) (size o n i : ℕ) (s : List ℕ) (d : A) → n ≤ i → getD (rowsAt f size o n s) i d ≡ d
 rows-out f size o n i s d h = List·getD-eq-default (rowsAt f size o n s) d (omega (arith, length-rows f size o n s))
@@ -55,6 +56,14 @@ module _ (s : List ℕ) (i : ℕ) where
   pub life-out : 127 ≤ i → lifeOf (soundOf s) i ≡ 0
   unfolding soundOf
   life-out h = rows-out lifeAt 1 livesPlace 127 i s 0 h
+
+  pub token-in : (t : Token) → i < 32 → t ≡ tokenIn (tokensPlace + i * 8) s → t ≡ tokenAt (soundOf s .pending) i
+  unfolding soundOf
+  token-in t h e = e ∙ sym (rows-at tokenIn 8 tokensPlace 32 i s freeToken h)
+
+  pub token-out : 32 ≤ i → tokenAt (soundOf s .pending) i ≡ freeToken
+  unfolding soundOf
+  token-out h = rows-out tokenIn 8 tokensPlace 32 i s freeToken h
 
 -- ---- the fields that are looked at, by their places in the record
 

@@ -1,4 +1,4 @@
--- Where the parts of a state stand in its store, and what they take: the head, jacks, streams, channel maps, parameters, lifecycles.
+-- Where the parts of a state stand in its store, and what they take: the head, jacks, streams, channel maps, parameters, lifecycles, tokens.
 -- Assumes nothing.
 use Prim.Native.Nat.{ℕ}
 
@@ -30,9 +30,13 @@ abbrev pub livesPlace : ℕ
 livesPlace = 14320
 
 -- after where each of 127 streams is in its lifecycle, a byte each
+abbrev pub tokensPlace : ℕ
+tokensPlace = 14447
+
+-- after 32 tokens of 8
 abbrev pub stateSize : ℕ
-stateSize = 14447
+stateSize = 14703
 
 -- all but the head
 abbrev pub tablesSize : ℕ
-tablesSize = 14383
+tablesSize = 14639

@@ -17,7 +17,16 @@ use Rattle.state_store.specs.Store.{soundOf, soundBytes}
 use mathlib.Core.Bool.{Bool}
 use Rattle.core.specs.Plan.{queryOf, sendOf}
 use Rattle.exchange.specs.Tables.{soundAfter}
-use Rattle.state_store.specs.Types.{Core, Counts, Xfer, JacksAsked, Effect, Nothing, Plan, Says}
+use Prim.Native.Nat.{_*_}
+use lib.Dec.{ltb}
+use Rattle.codes.specs.Says as answers
+use Rattle.codes.specs.Answers.{refusalWord}
+use Rattle.pending.specs.Table.{waits}
+use Rattle.pending.specs.Places.{placedIn}
+use Rattle.pending.specs.declared.place.Spot.the-variants as spot
+use Rattle.state_store.specs.Places.{tokensPlace}
+use Rattle.state_store.specs.Store.{tokenBytes}
+use Rattle.state_store.specs.Types.{Core, Counts, Xfer, JacksAsked, Effect, Nothing, Plan, Says, Token, Spot}
 
 abbrev pub countBy : Core → ℕ → List ℕ → Shown
 countBy c n r = guard (consistentOf c) (shown 1 r)
@@ -49,3 +58,25 @@ abbrev pub settingUpBy : Bool → Core → List ℕ → ℕ → List ℕ → Ope
 settingUpBy w c s stream m =
     let p = sendOf c (JacksAsked (Xfer stream)) (queryOf 0x0001 (c .counts .jacks) 24) Nothing in
     opened (Says (256 + 16)) (changed w s (p .effect) (p .core) []) (messageAfter (p .say) m)
+
+-- ---- what is pending: one token is stored, and no other byte
+abbrev pub tokenOver : List ℕ → ℕ → Token → List ℕ
+tokenOver s k t = pick (ltb k 32) (sets s (tokensPlace + k * 8) (tokenBytes t)) s
+
+-- numbers told in a result, 8 bytes each
+abbrev pub shownOf : List ℕ → answers.Says → Shown
+shownOf r x = shown (x .number) (sets r 0 (rowsBytes (le 8) (x .values)))
+
+-- a submission that found its place, or none: it says nothing in the message
+pub record Held : Type 0 where
+  pub answer : ℕ
+  pub state : List ℕ
+  pub places : List ℕ
+  pub result : List ℕ
+
+abbrev pub held : ℕ → List ℕ → List ℕ → List ℕ → Held
+held a s places r = record { answer = a; state = s; places = places; result = r }
+
+abbrev pub heldBy : List ℕ → ℕ → List ℕ → List ℕ → List ℕ → Spot → Held
+heldBy s stream payload places r (spot.Shut x) = held (refusalWord x) s places r
+heldBy s stream payload places r (spot.Place k) = held 0 (tokenOver s k waits) (placedIn places 16 k stream payload) (sets r 0 (le 8 k))

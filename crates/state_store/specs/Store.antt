@@ -1,4 +1,4 @@
--- The state as bytes in its owner's storage: 64 bytes of core, then jacks, streams, maps, parameters and lifecycles, a row for each.
+-- The state as bytes in its owner's storage: 64 bytes of core, then jacks, streams, maps, parameters, lifecycles and tokens, a row for each.
 -- Assumes nothing.
 use mathlib.Core.Bool.{Bool, true, false, not, _&&_}
 use mathlib.Core.List.{List, [], _∷_, _++_}
@@ -12,9 +12,9 @@ use Rattle.layout.specs.Rows.{rowsAt, rowsBytes}
 use Rattle.codes.specs.Says.{pick}
 use Rattle.records.specs.Records.{jackBytes, pcmBytes, mapBytes, jackInfo, pcmInfo, channelMap}
 use Rattle.tables.specs.Tables.{jackAt, pcmAt, mapAt}
-use Rattle.state_store.specs.Places.{headSize, pcmsPlace, mapsPlace, paramsPlace, livesPlace}
+use Rattle.state_store.specs.Places.{headSize, pcmsPlace, mapsPlace, paramsPlace, livesPlace, tokensPlace}
 use Rattle.state_store.specs.Flat.{flatRow, flatValues, flatOf, flatStage, flatReady, wholeFlat}
-use Rattle.state_store.specs.Types.{Params, Core, Sound, Streams, JacksAsked, Head}
+use Rattle.state_store.specs.Types.{Params, Core, Sound, Token, Streams, JacksAsked, Head}
 
 -- ---- the core: configured counts 4 each, table counts 4 each, then the stage
 
@@ -107,6 +107,16 @@ lifeBytes l = write lifeRow (l ∷ [])
 unfoldable pub lifeAt : ℕ → List ℕ → ℕ
 lifeAt o s = numAt o 1 s
 
+-- what is pending under a token: its state 4, its status 4
+abbrev pub tokenRow : List ℕ
+tokenRow = 4 ∷ 4 ∷ []
+
+abbrev pub tokenBytes : Token → List ℕ
+tokenBytes t = write tokenRow (t .state ∷ t .status ∷ [])
+
+unfoldable pub tokenIn : ℕ → List ℕ → Token
+tokenIn o s = record { state = numAt o 4 s; status = numAt (o + 4) 4 s }
+
 -- ---- THE STATE that a store holds, and the bytes of a state
 
 unfoldable pub soundOf : List ℕ → Sound
@@ -118,12 +128,13 @@ soundOf s =
       maps = rowsAt mapAt (size channelMap) mapsPlace 170 s;
       params = rowsAt paramsAt 16 paramsPlace 127 s;
       lives = rowsAt lifeAt 1 livesPlace 127 s;
+      pending = record { tokens = rowsAt tokenIn 8 tokensPlace 32 s };
     }
 
 unfoldable pub soundBytes : Sound → List ℕ
 soundBytes x =
     write headRow (headValues (headOf (x .core)))
-    ++ (rowsBytes jackBytes (x .jacks) ++ (rowsBytes pcmBytes (x .pcms) ++ (rowsBytes mapBytes (x .maps) ++ (rowsBytes paramsBytes (x .params) ++ rowsBytes lifeBytes (x .lives)))))
+    ++ (rowsBytes jackBytes (x .jacks) ++ (rowsBytes pcmBytes (x .pcms) ++ (rowsBytes mapBytes (x .maps) ++ (rowsBytes paramsBytes (x .params) ++ (rowsBytes lifeBytes (x .lives) ++ rowsBytes tokenBytes (x .pending .tokens))))))
 
 -- what a store holds once its state is x: a store that is not whole holds no state, and stays
 abbrev pub stateAfter : List ℕ → Sound → List ℕ

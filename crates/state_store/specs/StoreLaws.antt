@@ -17,11 +17,11 @@ use Rattle.layout.specs.All.{All}
 use Rattle.layout.specs.StoreLaws.{sets-same}
 use Rattle.records.specs.Records.{jackInfo, jackInfoValues, pcmInfo, pcmInfoValues, channelMap, channelMapValues, jackInfoOf, pcmInfoOf, channelMapOf, jackBytes, pcmBytes, mapBytes}
 use Rattle.tables.specs.Tables.{jackAt, pcmAt, mapAt}
-use Rattle.state_store.specs.Places.{headSize, pcmsPlace, mapsPlace, paramsPlace, livesPlace, stateSize}
-use Rattle.state_store.specs.Store.{headRow, headValues, headFrom, headAt, headOf, coreOf, whole, paramsRow, paramsAt, paramsBytes, lifeRow, lifeAt, lifeBytes, soundOf, soundBytes}
+use Rattle.state_store.specs.Places.{headSize, pcmsPlace, mapsPlace, paramsPlace, livesPlace, tokensPlace, stateSize}
+use Rattle.state_store.specs.Store.{headRow, headValues, headFrom, headAt, headOf, coreOf, whole, paramsRow, paramsAt, paramsBytes, lifeRow, lifeAt, lifeBytes, tokenRow, tokenIn, tokenBytes, soundOf, soundBytes}
 use Rattle.state_store.specs.FlatLaws.{core-back, core-same}
-use Rattle.state_store.specs.OverLaws.{jack-sized, pcm-sized, map-sized, params-sized, life-sized, headBytes, head-sized, core-over}
-use Rattle.state_store.specs.Types.{Params, Sound, Head}
+use Rattle.state_store.specs.OverLaws.{jack-sized, pcm-sized, map-sized, params-sized, life-sized, token-sized, headBytes, head-sized, core-over}
+use Rattle.state_store.specs.Types.{Params, Sound, Token, Head}
 
 -- ---- WHAT WAS READ, WRITTEN AGAIN, leaves a store that is whole
 
@@ -33,11 +33,13 @@ pub core-at : (s : List ℕ) → soundOf s .core ≡ coreOf (headAt s)
 unfolding soundOf
 core-at s = refl
 
+-- its core alone
+pub head-kept : (s : List ℕ) → Bytes s → whole s ≡ true → sets s 0 (headBytes (soundOf s .core)) ≡ s
+head-kept s b w = ap (sets s 0) (ap headBytes (core-at s) ∙ head-again s b w) ∙ sets-same s 0 headSize
+
 pub store-same : (s : List ℕ) → Bytes s → whole s ≡ true → sets s 0 (soundBytes (soundOf s)) ≡ s
 store-same s b w =
-    sym (core-over s (soundOf s .core) b)
-    ∙ ap (sets s 0) (ap headBytes (core-at s) ∙ head-again s b w)
-    ∙ sets-same s 0 headSize
+    sym (core-over s (soundOf s .core) b) ∙ head-kept s b w
 
 -- ---- WHAT WAS WRITTEN IS READ BACK
 
@@ -66,7 +68,7 @@ module _ {A : Type 0} (ws : List ℕ) (values : A → List ℕ) (of : List ℕ �
   table-of : (a c : List ℕ) (xs : List A) (o n : ℕ) → length a ≡ o → length xs ≡ n → AllFit ws values xs → rowsAt f (size ws) o n (a ++ (rowsBytes g xs ++ c)) ≡ xs
   table-of = table-back f g (size ws) own sized (λ (x : A). Fit ws (values x)) back
 
--- ---- the five tables
+-- ---- the tables
 
 jack-reads : (o : ℕ) (s : List ℕ) → jackAt o s ≡ jackInfoOf (readAt o jackInfo s)
 unfolding jackAt
@@ -97,29 +99,42 @@ life-reads : (o : ℕ) (s : List ℕ) → lifeAt o s ≡ getD (readAt o lifeRow 
 unfolding lifeAt
 life-reads o s = refl
 
--- six runs and what follows, cut before each
-module _ (h j p m q v : List ℕ) where
-  abbrev six : List ℕ
-  six = h ++ (j ++ (p ++ (m ++ (q ++ v))))
+abbrev pub tokenValues : Token → List ℕ
+tokenValues t = t .state ∷ t .status ∷ []
 
-  whole-cut : six ≡ ((((h ++ j) ++ p) ++ m) ++ q) ++ v
+abbrev tokenFrom : List ℕ → Token
+tokenFrom vs = record { state = getD vs 0 0; status = getD vs 1 0 }
+
+token-reads : (o : ℕ) (s : List ℕ) → tokenIn o s ≡ tokenFrom (readAt o tokenRow s)
+unfolding tokenIn
+token-reads o s = refl
+
+-- seven runs and what follows, cut before each
+module _ (h j p m q v w : List ℕ) where
+  abbrev seven : List ℕ
+  seven = h ++ (j ++ (p ++ (m ++ (q ++ (v ++ w)))))
+
+  whole-cut : seven ≡ (((((h ++ j) ++ p) ++ m) ++ q) ++ v) ++ w
   whole-cut = simp append-assoc
 
   module _ (c : List ℕ) where
-    first-cut : six ++ c ≡ h ++ (j ++ (p ++ (m ++ (q ++ (v ++ c)))))
+    first-cut : seven ++ c ≡ h ++ (j ++ (p ++ (m ++ (q ++ (v ++ (w ++ c))))))
     first-cut = simp append-assoc
 
-    second-cut : six ++ c ≡ (h ++ j) ++ (p ++ (m ++ (q ++ (v ++ c))))
+    second-cut : seven ++ c ≡ (h ++ j) ++ (p ++ (m ++ (q ++ (v ++ (w ++ c)))))
     second-cut = simp append-assoc
 
-    third-cut : six ++ c ≡ ((h ++ j) ++ p) ++ (m ++ (q ++ (v ++ c)))
+    third-cut : seven ++ c ≡ ((h ++ j) ++ p) ++ (m ++ (q ++ (v ++ (w ++ c))))
     third-cut = simp append-assoc
 
-    fourth-cut : six ++ c ≡ (((h ++ j) ++ p) ++ m) ++ (q ++ (v ++ c))
+    fourth-cut : seven ++ c ≡ (((h ++ j) ++ p) ++ m) ++ (q ++ (v ++ (w ++ c)))
     fourth-cut = simp append-assoc
 
-    fifth-cut : six ++ c ≡ ((((h ++ j) ++ p) ++ m) ++ q) ++ (v ++ c)
+    fifth-cut : seven ++ c ≡ ((((h ++ j) ++ p) ++ m) ++ q) ++ (v ++ (w ++ c))
     fifth-cut = simp append-assoc
+
+    sixth-cut : seven ++ c ≡ (((((h ++ j) ++ p) ++ m) ++ q) ++ v) ++ (w ++ c)
+    sixth-cut = simp append-assoc
 
 -- a state with tables of the right lengths, each number of which fits its width
 pub record Fits (x : Sound) : Type 0 where
@@ -129,11 +144,13 @@ pub record Fits (x : Sound) : Type 0 where
   pub maps : AllFit channelMap channelMapValues (x .maps)
   pub params : AllFit paramsRow paramsValues (x .params)
   pub lives : AllFit lifeRow lifeValues (x .lives)
+  pub tokens : AllFit tokenRow tokenValues (x .pending .tokens)
   pub jacks-170 : length (x .jacks) ≡ 170
   pub pcms-127 : length (x .pcms) ≡ 127
   pub maps-170 : length (x .maps) ≡ 170
   pub params-127 : length (x .params) ≡ 127
   pub lives-127 : length (x .lives) ≡ 127
+  pub tokens-32 : length (x .pending .tokens) ≡ 32
 
 module _ (x : Sound) (f : Fits x) where
   abbrev h : List ℕ
@@ -154,6 +171,9 @@ module _ (x : Sound) (f : Fits x) where
   abbrev v : List ℕ
   v = rowsBytes lifeBytes (x .lives)
 
+  abbrev w : List ℕ
+  w = rowsBytes tokenBytes (x .pending .tokens)
+
   lj : length j ≡ 4080
   lj = length-rowsBytes jackBytes 24 jack-sized (x .jacks) ∙ ap (λ (k : ℕ). k * 24) (f .jacks-170)
 
@@ -169,6 +189,9 @@ module _ (x : Sound) (f : Fits x) where
   lv : length v ≡ 127
   lv = length-rowsBytes lifeBytes 1 life-sized (x .lives) ∙ ap (λ (k : ℕ). k * 1) (f .lives-127)
 
+  lw : length w ≡ 256
+  lw = length-rowsBytes tokenBytes 8 token-sized (x .pending .tokens) ∙ ap (λ (k : ℕ). k * 8) (f .tokens-32)
+
   to-pcms : length (h ++ j) ≡ pcmsPlace
   to-pcms = length-append h j ∙ (λ i. head-sized (x .core) i + lj i)
 
@@ -181,51 +204,60 @@ module _ (x : Sound) (f : Fits x) where
   to-lives : length ((((h ++ j) ++ p) ++ m) ++ q) ≡ livesPlace
   to-lives = length-append (((h ++ j) ++ p) ++ m) q ∙ (λ i. to-params i + lq i)
 
+  to-tokens : length (((((h ++ j) ++ p) ++ m) ++ q) ++ v) ≡ tokensPlace
+  to-tokens = length-append ((((h ++ j) ++ p) ++ m) ++ q) v ∙ (λ i. to-lives i + lv i)
+
   to-end : length (soundBytes x) ≡ stateSize
   unfolding soundBytes
-  to-end = ap length (whole-cut h j p m q v) ∙ length-append ((((h ++ j) ++ p) ++ m) ++ q) v ∙ (λ i. to-lives i + lv i)
+  to-end = ap length (whole-cut h j p m q v w) ∙ length-append (((((h ++ j) ++ p) ++ m) ++ q) ++ v) w ∙ (λ i. to-tokens i + lw i)
 
   module _ (c : List ℕ) where
     core-in : coreOf (headAt (soundBytes x ++ c)) ≡ x .core
     unfolding soundBytes
     core-in =
-        ap (λ (l : List ℕ). coreOf (headAt l)) (first-cut h j p m q v c)
-        ∙ ap coreOf (head-back (headOf (x .core)) (j ++ (p ++ (m ++ (q ++ (v ++ c))))) (f .core))
+        ap (λ (l : List ℕ). coreOf (headAt l)) (first-cut h j p m q v w c)
+        ∙ ap coreOf (head-back (headOf (x .core)) (j ++ (p ++ (m ++ (q ++ (v ++ (w ++ c)))))) (f .core))
         ∙ core-back (x .core)
 
     jacks-in : rowsAt jackAt 24 headSize 170 (soundBytes x ++ c) ≡ x .jacks
     unfolding soundBytes
     jacks-in =
-        ap (rowsAt jackAt 24 headSize 170) (first-cut h j p m q v c)
-        ∙ table-of jackInfo jackInfoValues jackInfoOf (λ r. refl) jackAt jack-reads h (p ++ (m ++ (q ++ (v ++ c)))) (x .jacks) headSize 170 (head-sized (x .core)) (f .jacks-170) (f .jacks)
+        ap (rowsAt jackAt 24 headSize 170) (first-cut h j p m q v w c)
+        ∙ table-of jackInfo jackInfoValues jackInfoOf (λ r. refl) jackAt jack-reads h (p ++ (m ++ (q ++ (v ++ (w ++ c))))) (x .jacks) headSize 170 (head-sized (x .core)) (f .jacks-170) (f .jacks)
 
     pcms-in : rowsAt pcmAt 32 pcmsPlace 127 (soundBytes x ++ c) ≡ x .pcms
     unfolding soundBytes
     pcms-in =
-        ap (rowsAt pcmAt 32 pcmsPlace 127) (second-cut h j p m q v c)
-        ∙ table-of pcmInfo pcmInfoValues pcmInfoOf (λ r. refl) pcmAt pcm-reads (h ++ j) (m ++ (q ++ (v ++ c))) (x .pcms) pcmsPlace 127 to-pcms (f .pcms-127) (f .pcms)
+        ap (rowsAt pcmAt 32 pcmsPlace 127) (second-cut h j p m q v w c)
+        ∙ table-of pcmInfo pcmInfoValues pcmInfoOf (λ r. refl) pcmAt pcm-reads (h ++ j) (m ++ (q ++ (v ++ (w ++ c)))) (x .pcms) pcmsPlace 127 to-pcms (f .pcms-127) (f .pcms)
 
     maps-in : rowsAt mapAt 24 mapsPlace 170 (soundBytes x ++ c) ≡ x .maps
     unfolding soundBytes
     maps-in =
-        ap (rowsAt mapAt 24 mapsPlace 170) (third-cut h j p m q v c)
-        ∙ table-of channelMap channelMapValues channelMapOf (λ r. refl) mapAt map-reads ((h ++ j) ++ p) (q ++ (v ++ c)) (x .maps) mapsPlace 170 to-maps (f .maps-170) (f .maps)
+        ap (rowsAt mapAt 24 mapsPlace 170) (third-cut h j p m q v w c)
+        ∙ table-of channelMap channelMapValues channelMapOf (λ r. refl) mapAt map-reads ((h ++ j) ++ p) (q ++ (v ++ (w ++ c))) (x .maps) mapsPlace 170 to-maps (f .maps-170) (f .maps)
 
     params-in : rowsAt paramsAt 16 paramsPlace 127 (soundBytes x ++ c) ≡ x .params
     unfolding soundBytes
     params-in =
-        ap (rowsAt paramsAt 16 paramsPlace 127) (fourth-cut h j p m q v c)
-        ∙ table-of paramsRow paramsValues paramsFrom (λ r. refl) paramsAt params-reads (((h ++ j) ++ p) ++ m) (v ++ c) (x .params) paramsPlace 127 to-params (f .params-127) (f .params)
+        ap (rowsAt paramsAt 16 paramsPlace 127) (fourth-cut h j p m q v w c)
+        ∙ table-of paramsRow paramsValues paramsFrom (λ r. refl) paramsAt params-reads (((h ++ j) ++ p) ++ m) (v ++ (w ++ c)) (x .params) paramsPlace 127 to-params (f .params-127) (f .params)
 
     lives-in : rowsAt lifeAt 1 livesPlace 127 (soundBytes x ++ c) ≡ x .lives
     unfolding soundBytes
     lives-in =
-        ap (rowsAt lifeAt 1 livesPlace 127) (fifth-cut h j p m q v c)
-        ∙ table-of lifeRow lifeValues (λ vs. getD vs 0 0) (λ r. refl) lifeAt life-reads ((((h ++ j) ++ p) ++ m) ++ q) c (x .lives) livesPlace 127 to-lives (f .lives-127) (f .lives)
+        ap (rowsAt lifeAt 1 livesPlace 127) (fifth-cut h j p m q v w c)
+        ∙ table-of lifeRow lifeValues (λ vs. getD vs 0 0) (λ r. refl) lifeAt life-reads ((((h ++ j) ++ p) ++ m) ++ q) (w ++ c) (x .lives) livesPlace 127 to-lives (f .lives-127) (f .lives)
+
+    tokens-in : rowsAt tokenIn 8 tokensPlace 32 (soundBytes x ++ c) ≡ x .pending .tokens
+    unfolding soundBytes
+    tokens-in =
+        ap (rowsAt tokenIn 8 tokensPlace 32) (sixth-cut h j p m q v w c)
+        ∙ table-of tokenRow tokenValues tokenFrom (λ r. refl) tokenIn token-reads (((((h ++ j) ++ p) ++ m) ++ q) ++ v) c (x .pending .tokens) tokensPlace 32 to-tokens (f .tokens-32) (f .tokens)
 
     sound-back : soundOf (soundBytes x ++ c) ≡ x
     unfolding soundOf
-    sound-back = λ i. record { core = core-in i; jacks = jacks-in i; pcms = pcms-in i; maps = maps-in i; params = params-in i; lives = lives-in i }
+    sound-back = λ i. record { core = core-in i; jacks = jacks-in i; pcms = pcms-in i; maps = maps-in i; params = params-in i; lives = lives-in i; pending = record { tokens = tokens-in i } }
 
 pub store-back : (s : List ℕ) (x : Sound) → Fits x → stateSize ≤ length s → soundOf (sets s 0 (soundBytes x)) ≡ x
 store-back s x f l =

@@ -32,6 +32,16 @@ pub use Rattle.core.specs.declared.state.Stage.{Stage}
 pub use Rattle.core.specs.declared.state.Stage.the-variants.{Idle, JacksAsked, StreamsAsked, MapsAsked, Sent}
 pub use Rattle.core.specs.declared.gate.Gate.{Gate}
 pub use Rattle.core.specs.declared.gate.Gate.the-variants.{Open, Shut, SetUp}
+pub use Rattle.pending.specs.declared.table.Token.{Token}
+pub use Rattle.pending.specs.declared.table.Pending.{Pending}
+pub use Rattle.pending.specs.declared.table.Seen.{Seen}
+pub use Rattle.pending.specs.declared.calls.Outcome.{Outcome}
+pub use Rattle.pending.specs.declared.calls.Told.{Told as TokenTold}
+pub use Rattle.pending.specs.declared.place.Spot.{Spot}
+pub use Rattle.turns.specs.declared.reading.Reading.{Reading}
+pub use Rattle.exchange.specs.declared.nonblocking.NbReply.{NbReply}
+pub use Rattle.exchange.specs.declared.nonblocking.NbStep.{NbStep}
+pub use Rattle.exchange.specs.declared.nonblocking.NbEnd.{NbEnd}
 pub use Rattle.exchange.specs.declared.calls.StreamList.{StreamList}
 pub use Rattle.exchange.specs.declared.state.Sound.{Sound}
 pub use Rattle.exchange.specs.declared.xfer.XferStep.{XferStep}

@@ -21,6 +21,7 @@ use crate::place::look;
 use crate::place::params_at;
 use crate::place::pending_look;
 use crate::result::put_result;
+use crate::tokens::pending_in;
 use codes::Refusal;
 use codes::both;
 use core::Call;
@@ -34,13 +35,14 @@ use core::ask_jacks;
 use core::tell;
 use core::verdict_by;
 use core::xfer_gate;
+use pending::is_none;
 use tables::Verdict;
 use tables::Written;
 use tables::page_ok;
 use turns::Track;
 
 // The bytes of a state.
-pub const SIZE: usize = 14447;
+pub const SIZE: usize = 14703;
 
 // The least length of a result: a list of 127 streams with its count.
 pub const RESULT: usize = 512;
@@ -194,7 +196,13 @@ pub fn feed_failure(state: &mut [u8], message: &mut [u8], result: &mut [u8]) -> 
 }
 
 // The transfer waits for set-up, and its first query goes out.
-fn set_up(state: &mut [u8], whole: bool, c: Core, stream: u32, message: &mut [u8]) -> Opening
+pub(crate) fn set_up(
+    state: &mut [u8],
+    whole: bool,
+    c: Core,
+    stream: u32,
+    message: &mut [u8],
+) -> Opening
     requires { ⌜ (stateSize ≤ length (now state)) × (messageSize ≤ length (now message)) ⌝ }
     ensures { λ r. ⌜ opened r (now (state .exit)) (now (message .exit)) ≡ settingUpBy whole c (now (state .entry)) stream (now (message .entry)) ⌝ }
 {
@@ -219,7 +227,8 @@ pub fn open(state: &mut [u8], t: Track, stream: u32, message: &mut [u8]) -> Open
     let c = core_by(whole, h);
     let params = params_at(&state[..], stream);
     let life = life_at(&state[..], stream);
-    let gate = xfer_gate(lengths, c, params, life, t, stream);
+    let clear = is_none(pending_in(&state[..]));
+    let gate = xfer_gate(lengths, clear, c, params, life, t, stream);
     match gate {
         Gate::Shut(refusal) => Opening::Says(refusal.word()),
         Gate::SetUp => set_up(state, whole, c, stream, message),

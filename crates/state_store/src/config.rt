@@ -57,7 +57,7 @@ pub fn new_guarded(state: &mut [u8], jacks: u32, streams: u32, chmaps: u32) -> u
 }
 
 // A count, of a core that passes the consistency test.
-fn show(c: Core, n: u32, result: &mut [u8]) -> u64
+pub(crate) fn show(c: Core, n: u32, result: &mut [u8]) -> u64
     ensures { λ r. ⌜ shown r (now (result .exit)) ≡ countBy c n (now (result .entry)) ⌝ }
 {
     if !consistent(c) {

@@ -34,8 +34,13 @@ pub(crate) const PARAMS: usize = 12288;
 
 pub(crate) const LIVES: usize = 14320;
 
+pub(crate) const TOKENS: usize = 14447;
+
 // A stream's parameters.
 pub(crate) const ROW: usize = 16;
+
+// What is pending under a token.
+pub(crate) const TOKEN: usize = 8;
 
 fn jack_features(s: &[u8], jack: u32) -> u32
     ensures { λ r. ⌜ r ≡ jackOf (soundOf (now (s .entry))) jack .features ⌝ }

@@ -18,6 +18,7 @@ use crate::sound::held;
 use codes::FoundFormat;
 use codes::FoundRate;
 use codes::PcmRate;
+use layout::put_bytes;
 use layout::put_u8;
 use layout::put_u16;
 use layout::put_u32;
@@ -81,17 +82,6 @@ fn put_header(out: &mut [u8], channels: u8, hz: u32, whole: u16, bits: u8, len: 
     put_u32(out, 40, len);
 }
 
-fn copy(frames: &[u8], out: &mut [u8], at: usize)
-    requires { ⌜ at + length (now frames) ≤ length (now out) ⌝ }
-    ensures { λ _. ⌜ now (out .exit) ≡ sets (now (out .entry)) at (now (frames .entry)) ⌝ }
-{
-    let mut i: usize = 0;
-    while i < frames.len() {
-        out[at + i] = frames[i];
-        i += 1;
-    }
-}
-
 // A pad of 0 where the number of bytes before it is odd.
 fn put_pad(out: &mut [u8], at: usize, odd: usize)
     requires { ⌜ odd ≤ 1 ⌝ }
@@ -116,7 +106,7 @@ fn fill(channels: u8, format: u8, rate: u8, frames: &[u8], out: &mut [u8])
     let len = frames.len();
     let whole = block(channels, f);
     put_header(out, channels, r.hz(), whole, f.storage_bits(), len as u32);
-    copy(frames, out, 44);
+    put_bytes(out, 44, frames);
     put_pad(out, 44 + len, len % 2);
 }
 

@@ -17,6 +17,7 @@ use Rattle.codes.specs.SaysLaws.{picks, passes}
 use Rattle.codes.specs.declared.requests.RequestCode.the-variants.{RPcmPrepare, RPcmRelease, RPcmStart, RPcmStop}
 use Rattle.records.specs.Records.{pcmCommand}
 use Rattle.tables.specs.Tables.{judged}
+use Rattle.pending.specs.Table.{noneIn}
 use Rattle.core.specs.State.{withStage}
 use Rattle.core.specs.Consistent.{periodOk, callOk}
 use Rattle.core.specs.Plan.{sendOf, endOf, kindCode, setOf, ownSet, ownOf, effectOf, afterSent}
@@ -30,6 +31,7 @@ use Rattle.exchange.specs.Feed.{paged}
 use Rattle.exchange.specs.Kept.{Kept}
 use Rattle.exchange.specs.KeptLaws.{call-kept, feed-kept}
 use Rattle.exchange.specs.StayLaws.{after-core}
+use Rattle.exchange.specs.Submitted.{effect-pending}
 use Rattle.exchange.specs.Tables.{lookOf, soundAfter}
 use Rattle.exchange.specs.Exchange.{listed, stepOf, callOf, feedOf}
 use Rattle.model.specs.Control.{laid, ok, keptBy, outcomeOf}
@@ -97,6 +99,7 @@ module _ (s : Sound) (t : Track) (d : Device) (call : Call) (q : Request) (page 
           ready = ap (λ (x : Core). x .ready) core ∙ o .ready;
           closed = ap (λ (x : Core). x .stage) core;
           counts = ap (λ (x : Core). x .counts) core ∙ o .counts ∙ n;
+          clear = ap noneIn (effect-pending (effectOf call) c (waiting s call) (okPage page)) ∙ o .clear;
           device = f;
           lent = record { consistent = o .lent .consistent; idle = o .lent .idle; whole = ok-whole; long = long };
         })

@@ -47,6 +47,7 @@ playable s r d stream to page message o e =
       closed = o .closed;
       still = not-true (r .track .running) (i .0);
       empty = eqb-true (r .track .inflight) 0 (i .1);
+      clear = o .clear;
     }
 
 -- the transfer that follows a conversation

@@ -8,6 +8,7 @@ use Prim.Native.Nat.{ℕ, _≤_, _<_, _^_}
 use lib.ListN.{length, take, getD}
 use Rattle.layout.specs.Layout.{Fit}
 use Rattle.records.specs.Records.{jackInfo, jackInfoValues, pcmInfo, pcmInfoValues, channelMap, channelMapValues, jackInfoOf, pcmInfoOf, channelMapOf}
+use Rattle.pending.specs.Table.{noneIn}
 use Rattle.turns.specs.Calls.{idleOf}
 use Rattle.turns.specs.Consistent as ring
 use Rattle.core.specs.Reply.{messageAfter}
@@ -83,13 +84,14 @@ countsOf d = record { jacks = d .counts .jacks; streams = d .counts .streams; ma
 abbrev pub newFor : Device → Sound
 newFor d = newSound false (d .counts .jacks) (d .counts .streams) (d .counts .maps)
 
--- a driver without the guard that has done set-up with the device, with no exchange open, and what is lent
+-- a driver without the guard that has done set-up with the device, with no exchange open and nothing pending, and what is lent
 pub record Settled (s : Sound) (t : Track) (d : Device) (page message : List ℕ) : Type 0 where
   pub state : Kept s
   pub off : s .core .guard ≡ false
   pub ready : s .core .ready ≡ true
   pub closed : s .core .stage ≡ Idle
   pub counts : s .core .counts ≡ countsOf d
+  pub clear : noneIn (s .pending) ≡ true
   pub device : Fitting d
   pub lent : Lent t page message
 

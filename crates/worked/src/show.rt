@@ -75,6 +75,8 @@ fn name(r: Refusal) {
         Refusal::BadLength => text(b"BadLength"),
         Refusal::Short => text(b"Short"),
         Refusal::BadState => text(b"BadState"),
+        Refusal::Full => text(b"Full"),
+        Refusal::NotYet => text(b"NotYet"),
     }
 }
 

@@ -12,6 +12,9 @@ returns-2 c = rw (c .before .before .call2 .given .1) (simp (c .life-of2 .ensure
 returns-3 : tie.Need-returns-3
 returns-3 c = rw (c .before .before .call3 .given .1) (simp (c .jack-of .ensures))
 
+returns-4 : tie.Need-returns-4
+returns-4 c = rw (c .enum-told .given .1)
+
 returns-5 : tie.Need-returns-5
 returns-5 c = rw (c .before .before .before .call4 .given .1) (simp (c .field-of .ensures, c .before .pcm-of .ensures))
 
@@ -27,6 +30,6 @@ look-spec =
     returns
     returns-2
     returns-3
-    (λ c. search needs)
+    returns-4
     returns-5
     returns-6)

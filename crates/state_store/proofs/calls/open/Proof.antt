@@ -8,6 +8,7 @@ use Rattle.state_store.specs.OpenLaws.{gated, shut-short, long-head, set
 use Rattle.core.specs.declared.gate.Gate.the-variants as gate
 use Rattle.state_store.specs.StoreLaws.{core-at}
 use Prim.Native.Nat.{ℕ}
+use Rattle.pending.specs.Table.{noneIn}
 use borrow.Author.Tests.{not-true, not-false}
 use Rattle.state_store.specs.Types.{Says, BadLength}
 use borrow.Author.Needs.{needs}
@@ -29,47 +30,51 @@ get-head-requires c κs =
 set-up-requires : tie.Need-set-up-requires
 set-up-requires c κs =
     let x = c .before .before .before .before in
-    let a = x .before .before .before .before .before .before .before .before .before .before .before .before .before .args in
+    let y = x .before .before .before in
+    let a = y .before .before .before .before .before .before .before .before .before .before .before .before .before .args in
     let s = a .state .now in
     let m = a .message .now in
     let t = a .t in
     let stream = a .stream in
-    let g = gated s m t stream (x .before .before .before .before .before .before .before .before .before .before .both .ensures) (x .before .before .before .before .before .core-by .ensures ∙ ap coreOf (x .before .before .before .before .before .before .before .get-head .ensures)) (x .before .before .before .params-at .ensures) (x .before .life-at .ensures) (x .xfer-gate .ensures) in
+    let g = gated s m t stream (y .before .before .before .before .before .before .before .before .before .before .both .ensures) (x .before .is-none .ensures ∙ ap noneIn (x .before .before .pending-in .ensures)) (y .before .before .before .before .before .core-by .ensures ∙ ap coreOf (y .before .before .before .before .before .before .before .get-head .ensures)) (y .before .before .before .params-at .ensures) (y .before .life-at .ensures) (x .xfer-gate .ensures) in
     set-up-long s m t stream (sym (c .before .before .enum-told .given .1) ∙ g)
 
 returns-2 : tie.Need-returns-2
 returns-2 c =
     let x = c .before .before .before .before in
-    let a = x .before .before .before .before .before .before .before .before .before .before .before .before .before .args in
+    let y = x .before .before .before in
+    let a = y .before .before .before .before .before .before .before .before .before .before .before .before .before .args in
     let s = a .state .now in
     let m = a .message .now in
     let t = a .t in
     let stream = a .stream in
-    let g = gated s m t stream (x .before .before .before .before .before .before .before .before .before .before .both .ensures) (x .before .before .before .before .before .core-by .ensures ∙ ap coreOf (x .before .before .before .before .before .before .before .get-head .ensures)) (x .before .before .before .params-at .ensures) (x .before .life-at .ensures) (x .xfer-gate .ensures) in
+    let g = gated s m t stream (y .before .before .before .before .before .before .before .before .before .before .both .ensures) (x .before .is-none .ensures ∙ ap noneIn (x .before .before .pending-in .ensures)) (y .before .before .before .before .before .core-by .ensures ∙ ap coreOf (y .before .before .before .before .before .before .before .get-head .ensures)) (y .before .before .before .params-at .ensures) (y .before .life-at .ensures) (x .xfer-gate .ensures) in
     ap (λ (n : ℕ). opened (Says n) s m) (c .word .ensures) ∙ opens s m t stream (gate.Shut _) (sym (c .before .before .gate .given .1) ∙ g)
 
 returns-3 : tie.Need-returns-3
 returns-3 c =
     let x = c .before .before .before .before .before .before .before .before .before in
-    let a = x .before .before .before .before .before .before .before .before .before .before .before .before .before .args in
+    let y = x .before .before .before in
+    let a = y .before .before .before .before .before .before .before .before .before .before .before .before .before .args in
     let s = a .state .now in
     let m = a .message .now in
     let t = a .t in
     let stream = a .stream in
-    let g = gated s m t stream (x .before .before .before .before .before .before .before .before .before .before .both .ensures) (x .before .before .before .before .before .core-by .ensures ∙ ap coreOf (x .before .before .before .before .before .before .before .get-head .ensures)) (x .before .before .before .params-at .ensures) (x .before .life-at .ensures) (x .xfer-gate .ensures) in
+    let g = gated s m t stream (y .before .before .before .before .before .before .before .before .before .before .both .ensures) (x .before .is-none .ensures ∙ ap noneIn (x .before .before .pending-in .ensures)) (y .before .before .before .before .before .core-by .ensures ∙ ap coreOf (y .before .before .before .before .before .before .before .get-head .ensures)) (y .before .before .before .params-at .ensures) (y .before .life-at .ensures) (x .xfer-gate .ensures) in
     c .before .before .before .before .set-up .ensures
-    ∙ (λ i. settingUpBy ((x .before .before .before .before .before .before .is-whole .ensures ∙ ap wholeHead (x .before .before .before .before .before .before .before .get-head .ensures)) i) ((x .before .before .before .before .before .core-by .ensures ∙ ap coreOf (x .before .before .before .before .before .before .before .get-head .ensures) ∙ sym (core-at s)) i) s stream m)
+    ∙ (λ i. settingUpBy ((y .before .before .before .before .before .before .is-whole .ensures ∙ ap wholeHead (y .before .before .before .before .before .before .before .get-head .ensures)) i) ((y .before .before .before .before .before .core-by .ensures ∙ ap coreOf (y .before .before .before .before .before .before .before .get-head .ensures) ∙ sym (core-at s)) i) s stream m)
     ∙ opens s m t stream gate.SetUp (sym (c .before .before .before .before .before .before .before .enum-told .given .1) ∙ g)
 
 returns-4 : tie.Need-returns-4
 returns-4 c =
     let x = c .before .before .before in
-    let a = x .before .before .before .before .before .before .before .before .before .before .before .before .before .args in
+    let y = x .before .before .before in
+    let a = y .before .before .before .before .before .before .before .before .before .before .before .before .before .args in
     let s = a .state .now in
     let m = a .message .now in
     let t = a .t in
     let stream = a .stream in
-    let g = gated s m t stream (x .before .before .before .before .before .before .before .before .before .before .both .ensures) (x .before .before .before .before .before .core-by .ensures ∙ ap coreOf (x .before .before .before .before .before .before .before .get-head .ensures)) (x .before .before .before .params-at .ensures) (x .before .life-at .ensures) (x .xfer-gate .ensures) in
+    let g = gated s m t stream (y .before .before .before .before .before .before .before .before .before .before .both .ensures) (x .before .is-none .ensures ∙ ap noneIn (x .before .before .pending-in .ensures)) (y .before .before .before .before .before .core-by .ensures ∙ ap coreOf (y .before .before .before .before .before .before .before .get-head .ensures)) (y .before .before .before .params-at .ensures) (y .before .life-at .ensures) (x .xfer-gate .ensures) in
     opens s m t stream (gate.Open _) (sym (c .before .gate2 .given .1) ∙ g)
 
 pub open-spec : {M : Type 1} → statement M
@@ -81,7 +86,7 @@ open-spec =
     get-head-requires
     (λ c κs. tt)
     (λ c κs. c .is-whole .ensures)
-    (λ c κs. tt) (λ c κs. tt) (λ c κs. tt) (λ c. search needs) (λ c κs. tt) (λ c. search needs)
+    (λ c κs. tt) (λ c κs. tt) (λ c κs. tt) (λ c κs. tt) (λ c κs. tt) (λ c. search needs) (λ c κs. tt) (λ c. search needs)
     set-up-requires
     (λ c. search needs)
     (λ c. search needs)

@@ -54,14 +54,6 @@ put-header-requires c κs =
     let q = small-product (a .channels) (storageBits f / 8) (search needs) (omega arith) in
     (byte-rate r (c .before .hz .result) (k .block .result) (c .before .hz .ensures) (omega (arith, k .block .ensures)), fits .small)
 
-copy-requires : tie.Need-copy-requires
-copy-requires c κs =
-    let s = c .before .before .before .before .before .before .before .before .before .before .before .before .before .before .before .before .before .before in
-    let a = s .args in
-    let fits = done (a .channels) (a .format) (a .rate) (length (a .frames .now)) (length (a .out .now)) (44 + padded (length (a .frames .now))) (sym (s .pre)) .1 in
-    let h : 44 + padded (length (a .frames .now)) ≤ length (a .out .now) = fits .enough in
-    search needs
-
 add-put-pad : tie.Need-add-put-pad
 add-put-pad c =
     let s = c .before .before .before .before .before .before .before .before .before .before .before .before .before .before .before .before .before .before .before .before .before .before in
@@ -90,7 +82,7 @@ returns-3 c =
     let bits : h .before .storage-bits .result ≡ getD storageTable (a .format) 0 = h .before .storage-bits .ensures ∙ ap (λ (n : ℕ). getD storageTable n 0) (t .1) in
     file-stored (a .out .now) _ _ _ (a .frames .now) (a .channels) (a .format) (a .rate) (fits .enough)
     (h .put-header .ensures ∙ (λ i. sets (a .out .now) 0 (write header (headerValues (a .channels) (hz i) (whole i) (bits i) (length (a .frames .now))))))
-    (o .copy .ensures)
+    (o .put-bytes .ensures)
     (p .put-pad .ensures)
 
 pub fill-spec : {M : Type 1} → statement M
@@ -110,7 +102,7 @@ fill-spec =
     (λ c κs. tt)
     cast-put-header
     put-header-requires
-    copy-requires
+    (λ c κs. tt)
     add-put-pad
     (λ c κs. omega arith)
     (λ c. search needs)

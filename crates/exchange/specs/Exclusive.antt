@@ -1,0 +1,191 @@
+-- Theorems: in a state and ring that calls left, slots and tokens are never in flight together, and never take more than 32 descriptors.
+-- Assumes nothing.
+use mathlib.Core.Path.{_≡_, refl, sym, ap, _∙_, subst}
+use mathlib.Core.Bool.{Bool, true, false, not, _&&_, false≢true}
+use mathlib.Core.List.{List, []}
+use mathlib.Core.Logic.{_⊎_, inl, inr}
+use Prim.Native.Nat.{ℕ, _+_, _*_, _%_, _≤_, _<_}
+use native.Mathlib.Nat.{zero-mul}
+use native.Mathlib.Omega.{arith}
+use lib.Dec.{leb, ltb, eqb}
+use lib.ListN.{length}
+use borrow.Author.Tests.{eqb-true, leb-true}
+use Rattle.layout.specs.Lent.{messageSize}
+use Rattle.codes.specs.SaysLaws.{guarded-by}
+use Rattle.pending.specs.Table.{newPending, pendingAt, noneIn, countIn, lowestIn, waits, markOf, finishOf}
+use Rattle.pending.specs.TableLaws.{waits-pending}
+use Rattle.pending.specs.CallLaws.{mark-by, finish-by}
+use Rattle.pending.specs.Count.{none-then, AboveFree, other, completes-above, finishes-above, few-pending}
+use Rattle.turns.specs.Calls as calls
+use Rattle.turns.specs.Calls.{idleOf, turnCall, drainCall, startCall, startedOf}
+use Rattle.turns.specs.Script.{transferOf}
+use Rattle.turns.specs.Rules.{isOldest}
+use Rattle.turns.specs.ConsistentLaws.{both, Consistent}
+use Rattle.turns.specs.declared.ring.Step as ring
+use Rattle.turns.specs.declared.reading.Reading.the-variants.{Quiet, Completed}
+use Rattle.exchange.specs.Tables.{soundAfter}
+use Rattle.exchange.specs.Exchange.{callOf}
+use Rattle.exchange.specs.Feed.{planOf, pageOf}
+use Rattle.exchange.specs.Xfer.{refusedStep, setUpStep, startStep, doneStep, startOf, xferOf}
+use Rattle.exchange.specs.XferLaws.{xfer-by, start-by, script-by}
+use Rattle.exchange.specs.Submit.{nbOf, markStep, markBy, finishStep}
+use Rattle.exchange.specs.Submitted.{nb-ends, effect-pending}
+use Rattle.exchange.specs.Reached.{Reached, fresh, called, fed, started, scripted, turned, drained, submitted, marked, finished, begun, ran, renewed, reached-kept}
+use Rattle.exchange.specs.Types.{Track, Ring, Reading, Pending, Judged, Core, Effect, Sound, XferStep, NbStep, NbEnd}
+
+-- nothing is pending, or no transfer runs and no slot is in flight
+abbrev pub Exclusive : Pending → Track → Type 0
+Exclusive p t = (noneIn p ≡ true) ⊎ (idleOf t ≡ true)
+
+-- the ring was never started by itself, beside the state
+abbrev pub ByCalls : {s : Sound} {r : Ring} → Reached s r → Type 0
+ByCalls (fresh guard jacks streams maps) = Unit {0}
+ByCalls (called call n h) = ByCalls h
+ByCalls (fed f h) = ByCalls h
+ByCalls (started stream len budget n h) = ByCalls h
+ByCalls (scripted stream frames budget script n h) = ByCalls h
+ByCalls (turned len reading h) = ByCalls h
+ByCalls (drained reading h) = ByCalls h
+ByCalls (submitted stream n len m h) = ByCalls h
+ByCalls (marked reading h) = ByCalls h
+ByCalls (finished token h) = ByCalls h
+ByCalls (begun stream len period budget h) = ⊥
+ByCalls (ran stream period budget frames script h) = ⊥
+ByCalls (renewed h) = ByCalls h
+
+-- ---- turns of a ring where nothing runs and nothing is in flight leave it
+
+module _ (t : Track) (idle : idleOf t ≡ true) where
+  still : not (t .running) ≡ true
+  still = both (not (t .running)) (eqb (t .inflight) 0) idle .0
+
+  running-not : t .running ≡ true → ⊥
+  running-not e = false≢true (ap not (sym e) ∙ still)
+
+  none-held : t .inflight ≡ 0
+  none-held = eqb-true (t .inflight) 0 (both (not (t .running)) (eqb (t .inflight) 0) idle .1)
+
+  turn-idle : (len : ℕ) (reading : Reading) → turnCall t len reading .track ≡ t
+  unfolding turnCall
+  turn-idle len reading =
+      let P : ring.Step → Type 0 = λ x. x .track ≡ t in
+      guarded-by P _ _ _ (λ _. guarded-by P _ _ _ (λ _. guarded-by P _ _ _ (λ e. absurd (running-not e)) (λ _. refl)) (λ _. refl)) (λ _. refl)
+
+  none-oldest : (slot : ℕ) → isOldest t slot ≡ true → ⊥
+  unfolding isOldest
+  none-oldest slot e = false≢true (sym (ap (λ (n : ℕ). ltb 0 n) none-held) ∙ both (ltb 0 (t .inflight)) (eqb slot (t .tail)) e .0)
+
+  drained-idle : (reading : Reading) → calls.drained t reading .track ≡ t
+  drained-idle Quiet = refl
+  drained-idle (Completed slot status) = guarded-by (λ (x : ring.Step). x .track ≡ t) _ _ _ (λ e. absurd (none-oldest slot e)) (λ _. refl)
+
+  drain-idle : (reading : Reading) → drainCall t reading .track ≡ t
+  unfolding drainCall
+  drain-idle reading =
+      let P : ring.Step → Type 0 = λ x. x .track ≡ t in
+      guarded-by P _ _ _ (λ _. guarded-by P _ _ _ (λ _. refl) (λ _. drained-idle reading)) (λ _. refl)
+
+-- ---- where nothing is pending, completions and finishing leave the table
+
+module _ (p : Pending) (none : noneIn p ≡ true) where
+  none-mark : (token status : ℕ) → markOf p token status .table ≡ p
+  none-mark token status = mark-by (λ (j : Judged). j .table ≡ p) p token status (λ e. absurd (false≢true (sym (none-then p none token) ∙ waits-pending p token e))) refl
+
+  none-finish : (token : ℕ) → finishOf p token .table ≡ p
+  none-finish token = finish-by (λ (j : Judged). j .table ≡ p) p token (λ e. absurd (false≢true (sym (none-then p none token) ∙ e))) refl refl
+
+-- ---- each call
+
+module _ (s : Sound) (r : Ring) (h : Exclusive (s .pending) (r .track)) where
+  abbrev t : Track
+  t = r .track
+
+  turned-by : (u : ring.Step) → (idleOf t ≡ true → u .track ≡ t) → Exclusive (s .pending) (u .track)
+  turned-by u f = elim h [ inl e ↦ inl e | inr i ↦ inr (ap idleOf (f i) ∙ i) ]
+
+  start-exclusive : (stream len budget n : ℕ) → Exclusive (startOf s r stream len budget n .sound .pending) (startOf s r stream len budget n .ring .track)
+  unfolding startOf
+  start-exclusive stream len budget n =
+      xfer-by (λ (x : XferStep). Exclusive (x .sound .pending) (x .ring .track)) (leb messageSize n) (noneIn (s .pending)) s t stream (refusedStep s r) (setUpStep s r stream)
+      (λ period. startStep s r (startedOf r (startCall t stream len period budget))) (λ _. h) (λ _ _ _. h) (λ c _. inl c)
+
+  script-exclusive : (stream len budget : ℕ) (script : List ℕ) (n : ℕ) → Exclusive (xferOf s r stream len budget script n .sound .pending) (xferOf s r stream len budget script n .ring .track)
+  unfolding xferOf
+  script-exclusive stream len budget script n =
+      xfer-by (λ (x : XferStep). Exclusive (x .sound .pending) (x .ring .track)) (leb messageSize n && eqb (length script % 12) 0) (noneIn (s .pending)) s t stream (refusedStep s r) (setUpStep s r stream)
+      (λ period. doneStep s (transferOf r stream len period budget script)) (λ _. h) (λ _ _ _. h) (λ c _. inl c)
+
+  nb-exclusive : (stream n len m : ℕ) → Exclusive (nbOf s r stream n len m .sound .pending) t
+  nb-exclusive stream n len m = nb-ends (λ (u : NbStep). Exclusive (u .sound .pending) t) s r stream n len m (λ _. h) (λ _ _ _. h) (λ g. inr (g .idle))
+
+  mark-by-exclusive : (reading : Reading) → Exclusive (markBy s reading .sound .pending) t
+  mark-by-exclusive Quiet = h
+  mark-by-exclusive (Completed slot status) = elim h [ inl e ↦ inl (ap noneIn (none-mark (s .pending) e slot status) ∙ e) | inr i ↦ inr i ]
+
+  mark-exclusive : (reading : Reading) → Exclusive (markStep s reading .sound .pending) t
+  unfolding markStep
+  mark-exclusive reading = guarded-by (λ (u : NbEnd). Exclusive (u .sound .pending) t) _ _ _ (λ _. mark-by-exclusive reading) (λ _. h)
+
+  finish-exclusive : (token : ℕ) → Exclusive (finishStep s token .sound .pending) t
+  unfolding finishStep
+  finish-exclusive token = guarded-by (λ (u : NbEnd). Exclusive (u .sound .pending) t) _ _ _ (λ _. elim h [ inl e ↦ inl (ap noneIn (none-finish (s .pending) e token) ∙ e) | inr i ↦ inr i ]) (λ _. h)
+
+  effect-exclusive : (x : Effect) (c : Core) (page : List ℕ) → Exclusive (soundAfter x c s page .pending) t
+  effect-exclusive x c page = subst (λ (p : Pending). Exclusive p t) (sym (effect-pending x c s page)) h
+
+-- THE THEOREM. "A blocking transfer while any is pending is Busy, as is a submission while a transfer's slots are owed"
+pub exclusive : {s : Sound} {r : Ring} (h : Reached s r) → ByCalls h → Exclusive (s .pending) (r .track)
+exclusive (fresh guard jacks streams maps) b = inl refl
+exclusive (called {s} {r} call n h) b = effect-exclusive s r (exclusive h b) (callOf s (r .track) call n .effect) (callOf s (r .track) call n .core) []
+exclusive (fed {s} {r} f h) b = effect-exclusive s r (exclusive h b) (planOf s f .effect) (planOf s f .core) (pageOf f)
+exclusive (started {s} {r} stream len budget n h) b = start-exclusive s r (exclusive h b) stream len budget n
+exclusive (scripted {s} {r} stream frames budget script n h) b = script-exclusive s r (exclusive h b) stream (length frames) budget script n
+exclusive (turned {s} {r} len reading h) b = turned-by s r (exclusive h b) (turnCall (r .track) len reading) (λ i. turn-idle (r .track) i len reading)
+exclusive (drained {s} {r} reading h) b = turned-by s r (exclusive h b) (drainCall (r .track) reading) (λ i. drain-idle (r .track) i reading)
+exclusive (submitted {s} {r} stream n len m h) b = nb-exclusive s r (exclusive h b) stream n len m
+exclusive (marked {s} {r} reading h) b = mark-exclusive s r (exclusive h b) reading
+exclusive (finished {s} {r} token h) b = finish-exclusive s r (exclusive h b) token
+exclusive (begun stream len period budget h) b = absurd b
+exclusive (ran stream period budget frames script h) b = absurd b
+exclusive (renewed h) b = inr refl
+
+-- ---- tokens past the 16 places stay free
+
+above-by : (s : Sound) (reading : Reading) → AboveFree 16 (s .pending) → AboveFree 16 (markBy s reading .sound .pending)
+above-by s Quiet a = a
+above-by s (Completed slot status) a = completes-above 16 (s .pending) a slot status
+
+abbrev Above : Sound → Type 0
+Above s = AboveFree 16 (s .pending)
+
+pub above : {s : Sound} {r : Ring} → Reached s r → AboveFree 16 (s .pending)
+unfolding markStep finishStep
+above (fresh guard jacks streams maps) = λ k _. none-then newPending refl k
+above (called {s} {r} call n h) = subst (AboveFree 16) (sym (effect-pending (callOf s (r .track) call n .effect) (callOf s (r .track) call n .core) s [])) (above h)
+above (fed {s} f h) = subst (AboveFree 16) (sym (effect-pending (planOf s f .effect) (planOf s f .core) s (pageOf f))) (above h)
+above (started {s} {r} stream len budget n h) = start-by (λ (x : XferStep). Above (x .sound)) s r stream len budget n (λ _. above h) (λ _ _ _. above h) (above h)
+above (scripted {s} {r} stream frames budget script n h) = script-by (λ (x : XferStep). Above (x .sound)) s r stream (length frames) budget n (λ _. above h) (λ _ _ _. above h) script (above h)
+above (turned len reading h) = above h
+above (drained reading h) = above h
+above (submitted {s} {r} stream n len m h) =
+    nb-ends (λ (u : NbStep). Above (u .sound)) s r stream n len m (λ _. above h) (λ _ _ _. above h) (λ g. other 16 (s .pending) (above h) (lowestIn (s .pending) 16) waits (g .free))
+above (marked {s} reading h) = guarded-by (λ (u : NbEnd). Above (u .sound)) _ _ _ (λ _. above-by s reading (above h)) (λ _. above h)
+above (finished {s} token h) = guarded-by (λ (u : NbEnd). Above (u .sound)) _ _ _ (λ _. finishes-above 16 (s .pending) (above h) token) (λ _. above h)
+above (begun stream len period budget h) = above h
+above (ran stream period budget frames script h) = above h
+above (renewed h) = above h
+
+-- no more than 16 are pending
+pub few-tokens : {s : Sound} {r : Ring} → Reached s r → countIn (s .pending) ≤ 16
+few-tokens {s} h = few-pending (s .pending) 16 (reached-kept h .0 .pending) (above h)
+
+-- "A submission is .. two descriptors": with those of the slots in flight there are never more than 32
+descriptors-by : (p : Pending) (u : Track) → Exclusive p u → Consistent u → countIn p ≤ 16 → u .inflight * u .descriptors + 2 * countIn p ≤ 32
+descriptors-by p u x c few =
+    elim x [
+      | inl e ↦ (let z : countIn p ≡ 0 = eqb-true _ _ e in let m = c .placed .room in omega arith)
+      | inr i ↦ (let z : u .inflight * u .descriptors ≡ 0 = ap (λ (n : ℕ). n * u .descriptors) (none-held u i) ∙ zero-mul (u .descriptors) in omega arith)
+    ]
+
+pub descriptors : {s : Sound} {r : Ring} (h : Reached s r) → ByCalls h → r .track .inflight * r .track .descriptors + 2 * countIn (s .pending) ≤ 32
+descriptors {s} {r} h b = descriptors-by (s .pending) (r .track) (exclusive h b) (reached-kept h .1) (few-tokens h)
