@@ -32,6 +32,17 @@ pub enum Step {
     },
     /// drain turns
     Drain(Vec<Reading>),
+    /// a submission that does not wait, with so many bytes of places lent
+    Submit {
+        stream: u32,
+        payload: Frames,
+        places: u32,
+        answers: Vec<Answer>,
+    },
+    /// completion readings: the oldest is the lowest token that waits
+    Mark(Vec<Reading>),
+    /// the finish of a token
+    Finish(u32),
     /// what the event queue holds
     Event(Option<Vec<u8>>),
     /// a request to the model device itself

@@ -29,6 +29,11 @@ pub struct Seen {
     pub sent: Vec<Sent>,
     /// slot, offset and length of what is in flight afterwards, oldest first
     pub in_flight: Vec<(u64, u64, u64)>,
+    /// tokens of what does not wait that are pending afterwards, ascending
+    pub pending: Vec<u64>,
+    /// of each its state and its status, and what stands in the places: the Rust has neither
+    pub held: Vec<(u64, u64)>,
+    pub places: u64,
     pub model: Option<ModelSeen>,
     /// bytes written that are not the call's own, numbers that disagree: always none
     pub stray: Vec<String>,
@@ -37,6 +42,7 @@ pub struct Seen {
 impl Seen {
     pub fn new(end: End, values: Vec<u64>) -> Self {
         let (requests, heard, log, sent, in_flight, stray) = Default::default();
+        let (pending, held, places) = Default::default();
         Seen {
             end,
             high: 0,
@@ -49,14 +55,21 @@ impl Seen {
             log,
             sent,
             in_flight,
+            pending,
+            held,
+            places,
             model: None,
             stray,
         }
     }
 
-    /// Without the status: "equality with the Rust then reads after mapping all to IoError, or Unsupported for remap".
+    /// Without the status: "equality with the Rust then reads after mapping all to IoError, or Unsupported for remap". And without what it
+    /// does not have of what does not wait: marks, and places.
     pub fn forgetting(&self) -> Cow<'_, Self> {
-        if self.high == 0 { Cow::Borrowed(self) } else { Cow::Owned(Seen { high: 0, ..self.clone() }) }
+        if self.high == 0 && self.held.is_empty() && self.places == 0 {
+            return Cow::Borrowed(self);
+        }
+        Cow::Owned(Seen { high: 0, held: vec![], places: 0, ..self.clone() })
     }
 }
 

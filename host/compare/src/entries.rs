@@ -37,6 +37,12 @@ pub trait Entries {
     fn turn(&mut self, frames: &[u8], kind: u32, slot: u32, status: u32) -> u64;
     fn drain_turn(&mut self, kind: u32, slot: u32, status: u32) -> u64;
     fn ring_read(&self, asked: Asked, result: &mut [u8]) -> u64;
+    fn xfer_nb(&mut self, stream: u32, payload: &[u8], places: &mut [u8], message: &mut [u8], result: &mut [u8])
+    -> u64;
+    fn xfer_mark(&mut self, kind: u32, token: u32, status: u32) -> u64;
+    fn xfer_ok(&mut self, token: u32) -> u64;
+    fn pending_count(&self, result: &mut [u8]) -> u64;
+    fn pending_token(&self, token: u32, result: &mut [u8]) -> u64;
     fn notification(&self, event: &[u8], result: &mut [u8]) -> u64;
 
     fn model_new(&mut self, tables: [&[u8]; 3]) -> u64;

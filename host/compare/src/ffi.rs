@@ -217,6 +217,31 @@ unsafe extern "C" {
     pub fn snd_ring_stream(ring: *const u8, ring_len: usize, result: *mut u8, result_len: usize) -> u64;
     pub fn snd_ring_carried(ring: *const u8, ring_len: usize, slot: usize, result: *mut u8, result_len: usize) -> u64;
     pub fn snd_ring_oldest(ring: *const u8, ring_len: usize, result: *mut u8, result_len: usize) -> u64;
+    pub fn snd_pcm_xfer_nb(
+        state: *mut u8,
+        state_len: usize,
+        ring: *const u8,
+        ring_len: usize,
+        stream: u32,
+        payload: *const u8,
+        payload_len: usize,
+        places: *mut u8,
+        places_len: usize,
+        message: *mut u8,
+        message_len: usize,
+        result: *mut u8,
+        result_len: usize,
+    ) -> u64;
+    pub fn snd_pcm_xfer_mark(state: *mut u8, state_len: usize, kind: u32, token: u32, status: u32) -> u64;
+    pub fn snd_pcm_xfer_ok(state: *mut u8, state_len: usize, token: u32) -> u64;
+    pub fn snd_pending_count(state: *const u8, state_len: usize, result: *mut u8, result_len: usize) -> u64;
+    pub fn snd_pending_token(
+        state: *const u8,
+        state_len: usize,
+        token: usize,
+        result: *mut u8,
+        result_len: usize,
+    ) -> u64;
     pub fn snd_latest_notification(event: *const u8, event_len: usize, result: *mut u8, result_len: usize) -> u64;
     pub fn snd_wav_read(file: *const u8, file_len: usize, result: *mut u8, result_len: usize) -> u64;
     pub fn snd_wav_write(

@@ -1,13 +1,14 @@
 //! A host over the C entries, as the console's is: it sends what it is told to, feeds what came back, submits what is offered.
 use crate::case::{Case, Reading, Step, model_tables};
-use crate::driver::{Driver, ModelSeen, Seen};
+use crate::driver::{DIGEST, Driver, ModelSeen, Seen, digest};
 use crate::entries::Entries;
 use crate::outside::{Device, Scripted, resolve};
 use oracle::{Control, End, Inside};
 use rules::entries::{Asked, GOING, NOTHING, RESULT_SIZE, SEND};
+use rules::pending::{PLACES, TOKENS};
 use rules::sound::Call;
 use rules::wire::{u32_at, u64_at};
-use rules::{BAD_LENGTH, BAD_STATE, MESSAGE, PAGE};
+use rules::{BAD_LENGTH, BAD_STATE, FULL, MESSAGE, NOT_YET, PAGE};
 
 /// What lent buffers hold before a call, and bytes lent beyond what is asked for.
 const FILL: u8 = 0xc3;
@@ -18,6 +19,9 @@ pub struct Host<E> {
     page: Vec<u8>,
     model: bool,
     strict: bool,
+    /// those of what does not wait, and where in them each token's bytes stand
+    places: Vec<u8>,
+    out: [(usize, usize); TOKENS],
     stray: Vec<String>,
 }
 
@@ -54,11 +58,8 @@ fn value(call: Option<Call>, result: &[u8]) -> (usize, Vec<u64>) {
 /// An answer as the way a call ended: its number, and the high half beside it.
 fn ended(answer: u64, values: Vec<u64>) -> Seen {
     let (number, high) = (answer as u32, (answer >> 32) as u32);
-    let end = if number <= u32::from(BAD_STATE) {
-        End::Number(number as u8)
-    } else {
-        End::Panic(format!("answers {number}"))
-    };
+    let known = number <= u32::from(BAD_STATE) || [FULL, NOT_YET].map(u32::from).contains(&number);
+    let end = if known { End::Number(number as u8) } else { End::Panic(format!("answers {number}")) };
     Seen { high, ..Seen::new(end, values) }
 }
 
@@ -86,7 +87,8 @@ impl<E: Entries> Host<E> {
             assert_eq!(entries.model_new([&tables[0], &tables[1], &tables[2]]), 0, "good tables are taken");
         }
         let (page, model) = (vec![0; PAGE], case.model.is_some());
-        Host { entries, page, model, strict: case.strict, stray: vec![] }
+        let (places, out, stray) = (vec![], [(0, 0); TOKENS], vec![]);
+        Host { entries, page, model, strict: case.strict, places, out, stray }
     }
 
     fn note(&mut self, fine: bool, what: &str) {
@@ -223,6 +225,76 @@ impl<E: Entries> Host<E> {
         Seen::new(End::Number(0), values)
     }
 
+    /// Of what does not wait: the tokens that are pending, with state and status of each.
+    fn pending(&mut self) -> Vec<(u64, u64, u64)> {
+        let mut result = [FILL; RESULT_SIZE + MORE];
+        let number = self.entries.pending_count(&mut result);
+        let count = u64_at(&result, 0);
+        self.note(number == 0 && untouched(&result[8..]), "the count of what is pending is not told, or more than it");
+        let mut all = vec![];
+        if count == 0 {
+            return all;
+        }
+        for token in 0..TOKENS as u32 {
+            let mut result = [FILL; RESULT_SIZE + MORE];
+            let number = self.entries.pending_token(token, &mut result);
+            self.note(number == 0 && untouched(&result[16..]), "a token is not told, or more than it");
+            if u64_at(&result, 0) != 0 {
+                all.push((token.into(), u64_at(&result, 0), u64_at(&result, 8)));
+            }
+        }
+        self.note(count == all.len() as u64, "the count of what is pending is another");
+        all
+    }
+
+    fn submit(&mut self, stream: u32, lent_places: usize, script: &mut Scripted) -> Seen {
+        if self.places.len() < lent_places {
+            self.places.resize(lent_places, FILL);
+        }
+        let (mut lent, payload, before) = (Slices::new(), script.frames.clone(), self.places.clone());
+        let places = &mut self.places[..lent_places];
+        let number = self.entries.xfer_nb(stream, &payload, places, &mut lent.message, &mut lent.result);
+        let at_once = number == 0;
+        let Some((number, lent)) = self.exchange(number, lent, script) else {
+            self.note(self.places == before, "places written with a request");
+            return Seen::new(End::Waits, vec![]);
+        };
+        if !at_once {
+            self.note(self.places == before && untouched(&lent.result), "places or result written with a refusal");
+            return ended(number, vec![]);
+        }
+        let (token, length) = (u64_at(&lent.result, 0), payload.len() + 4);
+        let at = (token as usize).min(PLACES) * (lent_places / PLACES);
+        let fits = token < PLACES as u64 && at + length <= lent_places;
+        self.note(fits && untouched(&lent.result[8..]), "a token that is no place, or more than a token");
+        if fits {
+            let mut expected = before;
+            expected[at..][..length].copy_from_slice(&self.places[at..][..length]);
+            self.note(self.places == expected, "other bytes of the places written");
+            self.out[token as usize] = (at, length);
+            script.submit_one(token as u16, &self.places[at..][..length]);
+        }
+        ended(number, vec![token])
+    }
+
+    /// The values are what each mark answered.
+    fn mark(&mut self, readings: &[Reading]) -> Seen {
+        let mut values = vec![];
+        for reading in readings {
+            let waiting: Vec<u16> =
+                self.pending().iter().filter(|held| held.1 == 1).map(|(token, ..)| *token as u16).collect();
+            let mut read = resolve(*reading, &waiting);
+            if let (Reading::Device, Some(oldest)) = (reading, waiting.first()) {
+                let (at, length) = self.out[*oldest as usize];
+                let answer = self.entries.transfer(&self.places[at..][..length]);
+                read = Some((u32::from(*oldest), u32_at(&answer, 0)));
+            }
+            let (kind, (token, status)) = read.map_or((0, (0, 0)), |read| (1, read));
+            values.push(self.entries.xfer_mark(kind, token, status));
+        }
+        Seen::new(End::Number(0), values)
+    }
+
     fn event(&mut self, event: &[u8]) -> Seen {
         let mut result = [FILL; RESULT_SIZE + MORE];
         let number = self.entries.notification(event, &mut result);
@@ -308,6 +380,9 @@ impl<E: Entries> Driver for Host<E> {
             Step::Control { call, .. } => self.control(*call, &mut script),
             Step::Transfer { stream, budget, .. } => self.transfer(*stream, *budget, &mut script),
             Step::Drain(readings) => self.drain(readings),
+            Step::Submit { stream, places, .. } => self.submit(*stream, *places as usize, &mut script),
+            Step::Mark(readings) => self.mark(readings),
+            Step::Finish(token) => ended(self.entries.xfer_ok(*token), vec![]),
             Step::Event(event) => self.event(event.as_deref().unwrap_or(&[])),
             Step::Counts => self.counts(),
             Step::ModelControl(_) | Step::ModelTransfer(_) if !self.model => return None,
@@ -316,6 +391,13 @@ impl<E: Entries> Driver for Host<E> {
         for slot in self.in_flight() {
             let [offset, length] = self.read(Asked::Carried(slot as usize));
             seen.in_flight.push((slot as u64, offset, length));
+        }
+        for (token, state, status) in self.pending() {
+            seen.pending.push(token);
+            seen.held.push((state, status));
+        }
+        if !self.places.is_empty() {
+            seen.places = digest(DIGEST, &self.places);
         }
         script.tell(&mut seen);
         seen.stray = std::mem::take(&mut self.stray);

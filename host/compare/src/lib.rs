@@ -7,6 +7,7 @@ pub mod guarded;
 pub mod host;
 pub mod judge;
 pub mod outside;
+pub mod pending;
 pub mod plain;
 pub mod port;
 pub mod random;

@@ -8,7 +8,7 @@ use compare::plain::Plain;
 use compare::port::Port;
 use compare::run::{Counts, With, report, run};
 use compare::waves::{self, Kinds};
-use compare::{guarded, raw, record, rust, short, shown, stages};
+use compare::{guarded, pending, raw, record, rust, short, shown, stages};
 use options::{Options, Run, Seeds, USAGE, options};
 use std::process::exit;
 use std::time::Instant;
@@ -17,6 +17,7 @@ use std::time::Instant;
 const CASES: Seeds = 1..=60_000;
 const STRICT: Seeds = 1..=10_000;
 const GUARD: Seeds = 1..=10_000;
+const PENDING: Seeds = 1..=10_000;
 const ENTRIES: Seeds = 1..=8_000;
 const WAVES: Seeds = 1..=200_000;
 /// From so many files on every kind of fault must have been seen.
@@ -43,10 +44,11 @@ fn main() {
         Run::Case(case) => finish(one(&case, with)),
         Run::Short => finish(short_cases(with)),
         Run::Differences => finish(shown::print() == 0),
-        Run::Random { cases, strict, guard, entries, waves } => {
+        Run::Random { cases, strict, guard, pending, entries, waves } => {
             let agreed = cases.is_none_or(|seeds| random_cases(with, seeds));
             let agreed = agreed && strict.is_none_or(|seeds| strict_cases(with, seeds));
             let agreed = agreed && guard.is_none_or(|seeds| guarded_cases(with, seeds));
+            let agreed = agreed && pending.is_none_or(|seeds| pending_cases(with, seeds));
             let agreed = agreed && entries.is_none_or(random_entries);
             finish(agreed && waves.is_none_or(|seeds| random_waves(seeds) && large_waves()))
         }
@@ -68,6 +70,7 @@ fn finish(agreed: bool) -> ! {
 fn gate(with: With, short: bool) -> bool {
     let short = !short || short_cases(with);
     let random = random_cases(with, CASES) && strict_cases(with, STRICT) && guarded_cases(with, GUARD);
+    let random = random && pending_cases(with, PENDING);
     let entries = !with.port || entries_by_stage() && random_entries(ENTRIES);
     let waves = !with.port || random_waves(WAVES) && large_waves();
     let recorded = !with.port || replay(RECORDED);
@@ -96,7 +99,7 @@ fn agrees(case: &Case, with: With, counts: &mut Counts) -> bool {
 
 fn short_cases(with: With) -> bool {
     let (mut counts, since, mut agreed) = (Counts::default(), Instant::now(), true);
-    for (_, group) in short::GROUPS.into_iter().chain(short::STRICT).chain(guarded::GROUPS) {
+    for (_, group) in short::GROUPS.into_iter().chain(short::STRICT).chain(guarded::GROUPS).chain(pending::GROUPS) {
         group(&mut |case| agreed = agreed && agrees(&case, with, &mut counts));
     }
     told("short cases", &counts, since);
@@ -125,6 +128,10 @@ fn guarded_cases(with: With, seeds: Seeds) -> bool {
     from_seeds("guard", compare::random::guarded, with, seeds)
 }
 
+fn pending_cases(with: With, seeds: Seeds) -> bool {
+    from_seeds("pending", compare::random::pending, with, seeds)
+}
+
 fn from_seeds(option: &str, made: fn(u64) -> Case, with: With, seeds: Seeds) -> bool {
     let (mut counts, since, first) = (Counts::default(), Instant::now(), *seeds.start());
     for seed in seeds {
@@ -136,6 +143,7 @@ fn from_seeds(option: &str, made: fn(u64) -> Case, with: With, seeds: Seeds) -> 
     let name = match option {
         "strict" => "random cases in strict mode",
         "guard" => "random cases under the guard",
+        "pending" => "random cases of what does not wait",
         _ => "random cases",
     };
     told(&format!("{name} from seed {first}"), &counts, since);

@@ -9,6 +9,7 @@ compare                      short cases, random cases, single entries, WAVE fil
 compare --cases N --seed S   N random cases from seed S; case i has seed S + i, so that `--cases 1 --seed S+i` repeats it
 compare --strict N --seed S  the same in strict mode
 compare --guard N --seed S   the same under the guard
+compare --pending N --seed S the same of what does not wait
 compare --short              the short cases alone
 compare --entries N --seed S N sequences of single entries, the port against the rules
 compare --wav N --seed S     N random WAVE files read and N written, and large ones, the port against the rules
@@ -23,11 +24,12 @@ pub enum Run {
         short: bool,
     },
     Short,
-    /// random cases, those of strict mode, those under the guard, sequences of entries, and WAVE files, by their seeds
+    /// random cases, those of strict mode, those under the guard, those of what does not wait, sequences of entries, and WAVE files, by their seeds
     Random {
         cases: Option<Seeds>,
         strict: Option<Seeds>,
         guard: Option<Seeds>,
+        pending: Option<Seeds>,
         entries: Option<Seeds>,
         waves: Option<Seeds>,
     },
@@ -46,10 +48,21 @@ pub struct Options {
 }
 
 const WORDS: [&str; 5] = ["--short", "--differences", "--no-port", "--no-rust", "--no-short"];
-const WITH_VALUE: [&str; 10] =
-    ["--cases", "--strict", "--guard", "--entries", "--wav", "--seed", "--case", "--record", "--check", "--replay"];
+const WITH_VALUE: [&str; 11] = [
+    "--cases",
+    "--strict",
+    "--guard",
+    "--pending",
+    "--entries",
+    "--wav",
+    "--seed",
+    "--case",
+    "--record",
+    "--check",
+    "--replay",
+];
 /// These go together; of all others one at a time.
-const SEEDED: [&str; 5] = ["--cases", "--strict", "--guard", "--entries", "--wav"];
+const SEEDED: [&str; 6] = ["--cases", "--strict", "--guard", "--pending", "--entries", "--wav"];
 const OTHERS: [&str; 6] = ["--short", "--differences", "--case", "--record", "--check", "--replay"];
 
 /// The options given, each with its value, if it takes one.
@@ -102,7 +115,7 @@ impl Given {
         let runs: Vec<&str> = OTHERS.into_iter().chain(SEEDED).filter(|name| self.has(name)).collect();
         let file = |name| self.value(name).unwrap_or_default().to_string();
         if self.has("--seed") && !SEEDED.iter().any(|name| self.has(name)) {
-            return Err("--seed goes with --cases, --strict, --guard, --entries or --wav".into());
+            return Err("--seed goes with --cases, --strict, --guard, --pending, --entries or --wav".into());
         }
         Ok(match runs[..] {
             [] => Run::Gate { short: !self.has("--no-short") },
@@ -116,6 +129,7 @@ impl Given {
                 cases: self.seeds("--cases")?,
                 strict: self.seeds("--strict")?,
                 guard: self.seeds("--guard")?,
+                pending: self.seeds("--pending")?,
                 entries: self.seeds("--entries")?,
                 waves: self.seeds("--wav")?,
             },

@@ -55,6 +55,10 @@ impl Scripted {
                 (script.readings, script.budget) = (readings.clone(), *budget);
                 (script.frames, script.stream) = (Rc::from(frames.bytes()), stream.to_le_bytes());
             }
+            Step::Submit { stream, payload, answers, .. } => {
+                script.answers = answers.iter().cloned().collect();
+                (script.frames, script.stream) = (Rc::from(payload.bytes()), stream.to_le_bytes());
+            }
             Step::Event(event) => script.event = event.clone(),
             _ => {}
         }
@@ -113,6 +117,12 @@ impl Scripted {
         let digest = digest(digest(DIGEST, stream), payload);
         self.sent.push(Sent { slot, offset: offset as u64, length: payload.len() as u64, digest });
         self.log.last_mut().expect("a turn began").sent = Some(slot);
+    }
+
+    /// Stream id and period in one buffer, under a token.
+    pub fn submit_one(&mut self, token: u16, buffer: &[u8]) {
+        let length = buffer.len().saturating_sub(4) as u64;
+        self.sent.push(Sent { slot: token, offset: 0, length, digest: digest(DIGEST, buffer) });
     }
 
     /// This turn's reading; past the end of the script it is quiet.

@@ -19,6 +19,9 @@ impl Plain {
         let state = Store { len: self.lent.state, value: Some(&mut self.sound) };
         (state, Store { len: self.lent.ring, value: Some(&mut self.ring) })
     }
+    fn sound(&self) -> Store<&Sound> {
+        Store { len: self.lent.state, value: Some(&self.sound) }
+    }
     fn ring(&self) -> Store<&Ring> {
         Store { len: self.lent.ring, value: Some(&self.ring) }
     }
@@ -60,8 +63,7 @@ impl Entries for Plain {
         0
     }
     fn count(&self, which: usize, result: &mut [u8]) -> u64 {
-        let state = Store { len: self.lent.state, value: Some(&self.sound) };
-        number(e::count(state, which, result))
+        number(e::count(self.sound(), which, result))
     }
     fn call(&mut self, call: Call, message: &mut [u8], result: &mut [u8]) -> u64 {
         let (state, ring) = self.state();
@@ -92,6 +94,30 @@ impl Entries for Plain {
     }
     fn ring_read(&self, asked: Asked, result: &mut [u8]) -> u64 {
         number(e::ring_read(self.ring(), asked, result))
+    }
+    fn xfer_nb(
+        &mut self,
+        stream: u32,
+        payload: &[u8],
+        places: &mut [u8],
+        message: &mut [u8],
+        result: &mut [u8],
+    ) -> u64 {
+        let (state, ring) = self.state();
+        let ring = Store { len: ring.len, value: ring.value.map(|ring| &*ring) };
+        number(e::pcm_xfer_nb(state, ring, stream, payload, places, message, result))
+    }
+    fn xfer_mark(&mut self, kind: u32, token: u32, status: u32) -> u64 {
+        number(e::pcm_xfer_mark(self.state().0, Reading::from_words(kind, token, status)))
+    }
+    fn xfer_ok(&mut self, token: u32) -> u64 {
+        number(e::pcm_xfer_ok(self.state().0, token))
+    }
+    fn pending_count(&self, result: &mut [u8]) -> u64 {
+        number(e::pending_count(self.sound(), result))
+    }
+    fn pending_token(&self, token: u32, result: &mut [u8]) -> u64 {
+        number(e::pending_token(self.sound(), token as usize, result))
     }
     fn notification(&self, event: &[u8], result: &mut [u8]) -> u64 {
         number(e::notification(event, result))

@@ -160,6 +160,35 @@ impl Entries for Port {
         };
         unsafe { entry(r, rn, o, on) }
     }
+    fn xfer_nb(
+        &mut self,
+        stream: u32,
+        payload: &[u8],
+        places: &mut [u8],
+        message: &mut [u8],
+        result: &mut [u8],
+    ) -> u64 {
+        let (s, sn) = lend!(mut self.state[LEAD..][..self.lent.state]);
+        let ((r, rn), (p, pn)) = (lend!(self.ring[LEAD..][..self.lent.ring]), lend!(payload));
+        let ((k, kn), (m, mn), (o, on)) = (lend!(mut places), lend!(mut message), lend!(mut result));
+        unsafe { snd_pcm_xfer_nb(s, sn, r, rn, stream, p, pn, k, kn, m, mn, o, on) }
+    }
+    fn xfer_mark(&mut self, kind: u32, token: u32, status: u32) -> u64 {
+        let (s, sn) = lend!(mut self.state[LEAD..][..self.lent.state]);
+        unsafe { snd_pcm_xfer_mark(s, sn, kind, token, status) }
+    }
+    fn xfer_ok(&mut self, token: u32) -> u64 {
+        let (s, sn) = lend!(mut self.state[LEAD..][..self.lent.state]);
+        unsafe { snd_pcm_xfer_ok(s, sn, token) }
+    }
+    fn pending_count(&self, result: &mut [u8]) -> u64 {
+        let ((s, sn), (o, on)) = (lend!(self.state[LEAD..][..self.lent.state]), lend!(mut result));
+        unsafe { snd_pending_count(s, sn, o, on) }
+    }
+    fn pending_token(&self, token: u32, result: &mut [u8]) -> u64 {
+        let ((s, sn), (o, on)) = (lend!(self.state[LEAD..][..self.lent.state]), lend!(mut result));
+        unsafe { snd_pending_token(s, sn, token as usize, o, on) }
+    }
     fn notification(&self, event: &[u8], result: &mut [u8]) -> u64 {
         let ((v, vn), (o, on)) = (lend!(event), lend!(mut result));
         unsafe { snd_latest_notification(v, vn, o, on) }

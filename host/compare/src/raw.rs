@@ -1,13 +1,15 @@
 //! Single entries in any order, with lent slices of any length: the port against the rules, every number and every lent byte. A refusal
-//! leaves the port's stores as they were, byte for byte; the guard and each stream's state are looked up in them. Then the same with damaged
-//! stores, where only what holds of any bytes is asked, but of a damaged guard or stream's state, which both readings know.
+//! leaves the port's stores as they were, byte for byte; the guard, each stream's state and the tokens of what does not wait are looked up
+//! in them. Then the same with damaged stores, where only what holds of any bytes is asked, but of a damaged guard, stream's state or
+//! token, which both readings know.
 use crate::case::{Body, Frames, Kind, Rng};
 use crate::entries::{Entries, Lent};
 use crate::plain::Plain;
 use crate::port::{LEAD, PAST, Port};
 use crate::random::STATUSES;
 use crate::stages;
-use rules::entries::{Asked, GUARD, LIVES, RESULT_SIZE, RING_RESERVED, STATE_RESERVED};
+use rules::entries::{Asked, GUARD, LIVES, RESULT_SIZE, RING_RESERVED, STATE_RESERVED, TOKENS};
+use rules::pending::{PLACES, TOKEN_SIZE, Token, WAITS};
 use rules::sound::{Call, Params};
 use rules::{FIT, MESSAGE, PAGE, wire};
 
@@ -62,6 +64,19 @@ pub enum What {
         status: u32,
     },
     Read(Asked),
+    Submit {
+        stream: u32,
+        payload: u32,
+        places: usize,
+    },
+    Mark {
+        kind: u32,
+        token: u32,
+        status: u32,
+    },
+    Finish(u32),
+    PendingCount,
+    PendingToken(u32),
     Event(Vec<u8>),
     ModelNew([usize; 3]),
     ModelControl {
@@ -83,7 +98,7 @@ struct Left {
     number: u64,
     message: Vec<u8>,
     result: Vec<u8>,
-    /// a page, or a transfer's answer
+    /// a page, a transfer's answer, or the places of what does not wait
     other: Vec<u8>,
 }
 
@@ -118,6 +133,14 @@ fn enter<E: Entries>(e: &mut E, op: &Op) -> Left {
         What::Turn { frames: len, kind, slot, status } => e.turn(&frames(*len), *kind, *slot, *status),
         What::Drain { kind, slot, status } => e.drain_turn(*kind, *slot, *status),
         What::Read(asked) => e.ring_read(*asked, o),
+        What::Submit { stream, payload, places } => {
+            other = vec![FILL; *places];
+            e.xfer_nb(*stream, &frames(*payload), &mut other, m, o)
+        }
+        What::Mark { kind, token, status } => e.xfer_mark(*kind, *token, *status),
+        What::Finish(token) => e.xfer_ok(*token),
+        What::PendingCount => e.pending_count(o),
+        What::PendingToken(token) => e.pending_token(*token, o),
         What::Event(event) => e.notification(event, o),
         What::ModelNew(lens) => {
             let tables = lens.map(|len| Body::of(Kind::Streams, len as u64).bytes().repeat(2)[..len].to_vec());
@@ -147,7 +170,10 @@ fn keeps(what: &What, left: &Left, open: bool) -> bool {
         What::Feed { .. } | What::FeedWritten { .. } | What::FeedFailure => number == 10 || (number == 1 && !open),
         What::Start { .. } => number < 256,
         What::Turn { .. } => number == 1 || number == 10,
-        What::Drain { kind, .. } => number != 0 || *kind == 0,
+        What::Drain { kind, .. } | What::Mark { kind, .. } => number != 0 || *kind == 0,
+        What::Submit { .. } => number < 256 && number != 0,
+        // 2 frees the place too
+        What::Finish(_) => number != 0 && number != 2,
         What::ModelControl { .. } | What::ModelTransfer { .. } => {
             number != 0 || left.other[..4] == wire::STATUS_BAD.to_le_bytes()
         }
@@ -162,6 +188,7 @@ fn writes(what: &What) -> [bool; 3] {
         What::Call(_) | What::Feed { .. } | What::FeedWritten { .. } | What::FeedFailure => [true, false, false],
         What::RingNew | What::Turn { .. } | What::Drain { .. } => [false, true, false],
         What::Start { .. } => [true, true, false],
+        What::Submit { .. } | What::Mark { .. } | What::Finish(_) => [true, false, false],
         What::ModelNew(_) | What::ModelControl { .. } | What::ModelTransfer { .. } => [false, false, true],
         _ => [false; 3],
     }
@@ -194,6 +221,8 @@ pub enum Damage {
     Life(usize, u8),
     /// the guard is there where it was not, or the other way
     Guard,
+    /// a token's state and status become these
+    Token(usize, u32, u32),
 }
 
 #[derive(Clone)]
@@ -234,6 +263,11 @@ impl Pair {
                 port.state[LEAD + STATE_RESERVED] ^= GUARD;
                 rules.sound.guard ^= true;
             }
+            Damage::Token(at, state, status) => {
+                let bytes = wire::words(&[state, status]);
+                port.state[LEAD + TOKENS + TOKEN_SIZE * at..][..TOKEN_SIZE].copy_from_slice(&bytes);
+                rules.sound.pending.tokens[at] = Token { state, status };
+            }
         }
     }
 
@@ -241,6 +275,12 @@ impl Pair {
     fn lives_agree(&self) -> bool {
         let (store, sound) = (&self.port.state[LEAD..], &self.rules.sound);
         (store[STATE_RESERVED] & GUARD != 0) == sound.guard && store[LIVES..][..sound.lives.len()] == sound.lives
+    }
+
+    /// The same of the tokens: the state's last bytes.
+    fn tokens_agree(&self) -> bool {
+        let expected = self.rules.sound.pending.bytes();
+        self.port.state[LEAD + TOKENS..][..expected.len()] == expected
     }
 
     pub fn step(&mut self, op: &Op) -> Result<(), String> {
@@ -266,6 +306,15 @@ impl Pair {
         }
         if !self.lives_agree() {
             return Err(format!("{op:?}\n  the guard or a stream's state in the port's store is another"));
+        }
+        if !self.tokens_agree() {
+            return Err(format!("{op:?}\n  a token in the port's store is another"));
+        }
+        if let What::Submit { .. } = op.what {
+            let changed = port.other.iter().any(|byte| *byte != FILL);
+            if changed != (port.number == 0) {
+                return Err(format!("{op:?}\n  places with answer {:#x}: {changed}", port.number));
+            }
         }
         Ok(())
     }
@@ -311,6 +360,9 @@ pub fn op(rng: &mut Rng, guide: &Plain) -> Op {
 
 fn what(rng: &mut Rng, guide: &Plain) -> What {
     let open = guide.sound.open.is_some();
+    if rng.one_in(4) {
+        return of_what_does_not_wait(rng, guide);
+    }
     match rng.below(30) {
         0 if rng.one_in(16) => What::New(counts(rng)),
         0 if rng.one_in(8) => What::NewGuarded(counts(rng)),
@@ -335,10 +387,56 @@ fn what(rng: &mut Rng, guide: &Plain) -> What {
     }
 }
 
-/// Of the guard and of streams' states alone, so that most stores are still taken.
+fn of_what_does_not_wait(rng: &mut Rng, guide: &Plain) -> What {
+    let tokens = &guide.sound.pending.tokens;
+    let of = |wanted: fn(&Token) -> bool| {
+        let found = (0..).zip(tokens).filter(move |(_, token)| wanted(token)).map(|(at, _)| at);
+        found.collect::<Vec<u32>>()
+    };
+    let some = |rng: &mut Rng, of: Vec<u32>| {
+        let any = [0, 1, 2, 14, 15, 16, 30, 31, 32, 33, 99, 256, u32::MAX];
+        if of.is_empty() || rng.one_in(8) { rng.pick(&any) } else { rng.pick(&of) }
+    };
+    match rng.below(9) {
+        0..=3 => submit(rng, guide),
+        4 | 5 => {
+            let token = some(rng, of(|token| token.state == WAITS));
+            let status = if rng.one_in(4) { rng.pick(&STATUSES) } else { wire::STATUS_OK };
+            What::Mark { kind: rng.pick(&[0, 1, 1, 1, 1, 2, u32::MAX]), token, status }
+        }
+        6 => {
+            let marked = if rng.one_in(4) { of(|token| token.pending()) } else { of(|token| token.marked()) };
+            What::Finish(some(rng, marked))
+        }
+        7 => What::PendingCount,
+        _ => What::PendingToken(some(rng, (0..32).collect())),
+    }
+}
+
+/// One period with room for it mostly; else around it.
+fn submit(rng: &mut Rng, guide: &Plain) -> What {
+    let set: Vec<u32> = guide.sound.params.keys().copied().collect();
+    let stream = if set.is_empty() || rng.one_in(6) { rng.below(4) as u32 } else { rng.pick(&set) };
+    let period = guide.sound.params.get(&stream).map_or(3, |params| params.period);
+    let payload = if rng.one_in(9) { rng.below(u64::from(period) + 3) as u32 } else { period };
+    let room = PLACES * (period as usize + 4);
+    let places = match rng.below(12) {
+        0 => rng.below(17) as usize,
+        1 => room - 1 - rng.below(16) as usize,
+        2 => room + 16 + rng.below(9) as usize,
+        _ => room + rng.below(16) as usize,
+    };
+    What::Submit { stream, payload, places }
+}
+
+/// Of the guard, of streams' states and of tokens alone, so that most stores are still taken.
 fn damage(rng: &mut Rng) -> Damage {
     if rng.one_in(4) {
         return Damage::Guard;
+    }
+    if rng.one_in(2) {
+        let state = rng.pick(&[0, 0, 1, 2, 3, 256, 0x0100_0000, u32::MAX]);
+        return Damage::Token(rng.below(32) as usize, state, rng.pick(&[0, 0x8000, 0x8003, u32::MAX]));
     }
     let life = rng.pick(&[0, 1, 2, 3, 4, 5, 127, 128, 255]);
     Damage::Life(rng.pick(&[0, 0, 0, 1, 1, 2, 125, 126]), life)
@@ -490,7 +588,7 @@ pub fn sequence(seed: u64, length: usize) -> Result<(), (Vec<Op>, String)> {
 
 /// The beginning of a driver's life, so that sequences are not all of an empty device.
 fn begun(rng: &mut Rng) -> Vec<Op> {
-    let life = if rng.one_in(2) { stages::life() } else { stages::guarded_life() };
+    let life = rng.pick(&[stages::life, stages::guarded_life, stages::pending_life])();
     let length = rng.below(life.len() as u64 + 1) as usize;
     life.into_iter().take(length).map(stages::whole).collect()
 }
@@ -518,7 +616,7 @@ pub fn shrink(mut ops: Vec<Op>) -> (Vec<Op>, String) {
 /// A number that entries answer, and a high half of 2 and 3 alone.
 fn known(answer: u64) -> bool {
     let (number, high) = (answer as u32, answer >> 32);
-    let known = matches!(number, 0..=12 | 512 | 513) || (257..=256 + MESSAGE as u32).contains(&number);
+    let known = matches!(number, 0..=12 | 15 | 16 | 512 | 513) || (257..=256 + MESSAGE as u32).contains(&number);
     known && (high == 0 || matches!(number, 2 | 3))
 }
 

@@ -7,7 +7,7 @@ use crate::plain::Plain;
 use crate::port::Port;
 use crate::rust::Rust;
 use crate::text::{case_of, case_text, hex, step_text};
-use crate::{guarded, random, short};
+use crate::{guarded, pending, random, short};
 use oracle::End;
 
 fn list<T>(items: &[T], text: impl Fn(&T) -> String) -> String {
@@ -46,6 +46,7 @@ pub fn seen_text(seen: &Seen) -> String {
         add("bytes", format!("{all:016x}"));
     }
     add("flight", list(&seen.in_flight, |(slot, offset, length)| format!("{slot}:{offset}+{length}")));
+    add("pending", list(&seen.pending, u64::to_string));
     if let Some(model) = &seen.model {
         add("answer", model.answer.as_ref().map_or_else(|text| panics(text), |a| hex(a)));
         add("payload", if model.payload.is_empty() { String::new() } else { hex(&model.payload) });
@@ -111,6 +112,18 @@ const GUARD: [(&str, usize); 6] = [
     ("guard, as before", 1009),
 ];
 
+/// The same of what does not wait.
+const PENDING_SEEDS: u64 = 20;
+const PENDING: [(&str, usize); 7] = [
+    ("pending, lengths", 37),
+    ("pending, tokens", 11),
+    ("pending, orders", 997),
+    ("pending, wrong", 17),
+    ("pending, meanwhile", 7),
+    ("pending, set-ups", 13),
+    ("pending, played", 5),
+];
+
 /// The cases of the recorded list; those of document 02 came later, and stand after all others.
 fn cases() -> Vec<Case> {
     let mut all = vec![];
@@ -120,6 +133,8 @@ fn cases() -> Vec<Case> {
     all.extend((0..STRICT_SEEDS).map(random::strict));
     some_of(&guarded::GROUPS, &GUARD, &mut all);
     all.extend((0..GUARD_SEEDS).map(random::guarded));
+    some_of(&pending::GROUPS, &PENDING, &mut all);
+    all.extend((0..PENDING_SEEDS).map(random::pending));
     all
 }
 

@@ -11,7 +11,7 @@ use crate::text::{case_of, step_text};
 
 /// A name, the case, and the entry of the closed list that its last step shows (none: the step is outside the domain, or the
 /// difference is in how the number is come by).
-pub const ROWS: [(&str, &str, Option<Intended>); 28] = [
+pub const ROWS: [(&str, &str, Option<Intended>); 40] = [
     ("too many jacks", "171 0 0 slots | outputs < 8000", Some(Intended::TooMany)),
     ("too many streams", "0 128 0 slots | outputs < 8000 8000", Some(Intended::TooMany)),
     ("too many maps", "0 0 171 slots | outputs < 8000 8000 8000", Some(Intended::TooMany)),
@@ -88,7 +88,60 @@ pub const ROWS: [(&str, &str, Option<Intended>); 28] = [
     ),
     ("guard, a start that was never prepared", "0 1 0 slots guard | start 0 < 8000 8000 8000 8000", None),
     ("guard, a command past the streams", "0 0 0 slots guard | prepare 0 < 8000 8000 8000 8000", None),
+    (
+        "a submission, stream too high",
+        "0 0 0 slots | submit 0 1.0 80 < 8000 8000 8000",
+        Some(Intended::SubmitStreamTooHigh),
+    ),
+    (
+        "a submission that is no period",
+        "0 1 0 slots | set 0 1 1 0 0 0 0 < 8000 8000 8000 8000 ; submit 0 0.0 80",
+        Some(Intended::NotOnePeriod),
+    ),
+    ("a finish of nothing", "0 0 0 slots | finish 0", Some(Intended::FinishUnknown)),
+    (
+        "a finish after a status that is not ok",
+        "0 1 0 slots | set 0 1 1 0 0 0 0 < 8000 8000 8000 8000 ; submit 0 1.0 80 ; mark s0:8003 ; finish 0",
+        Some(Intended::FinishStatus),
+    ),
+    (
+        "a finish out of order",
+        "0 1 0 slots | set 0 1 1 0 0 0 0 < 8000 8000 8000 8000 ; submit 0 1.0 80 ; submit 0 1.0 80 ; mark s1 s0 ; finish 0",
+        Some(Intended::FinishOrder),
+    ),
+    (
+        "a finish of what is not completed, another is",
+        "0 1 0 slots | set 0 1 1 0 0 0 0 < 8000 8000 8000 8000 ; submit 0 1.0 80 ; submit 0 1.0 80 ; mark s1 ; finish 0",
+        Some(Intended::FinishEarly),
+    ),
+    (
+        "a finish of what is not completed",
+        "0 1 0 slots | set 0 1 1 0 0 0 0 < 8000 8000 8000 8000 ; submit 0 1.0 80 ; finish 0",
+        None,
+    ),
+    ("a submission with every place taken", FULL, None),
+    ("a submission without room", "0 1 0 slots | set 0 1 1 0 0 0 0 < 8000 8000 8000 8000 ; submit 0 1.0 79", None),
+    (
+        "a transfer while a token is pending",
+        "0 1 0 slots | set 0 1 1 0 0 0 0 < 8000 8000 8000 8000 ; submit 0 1.0 80 ; xfer 0 1.0 2 o",
+        None,
+    ),
+    (
+        "a submission while a slot is owed",
+        "0 1 0 slots | set 0 1 1 0 0 0 0 < 8000 8000 8000 8000 ; xfer 0 1.0 1 ; submit 0 1.0 80",
+        None,
+    ),
+    (
+        "guard, a submission of a stream that is not prepared",
+        "0 1 0 slots guard | set 0 1 1 0 0 0 0 < 8000 8000 8000 8000 ; submit 0 1.0 80",
+        None,
+    ),
 ];
+
+/// Sixteen submissions, and one more.
+const FULL: &str = "0 1 0 slots | set 0 1 1 0 0 0 0 < 8000 8000 8000 8000 ; submit 0 1.0 80 ; submit 0 1.0 80 ; submit 0 1.0 80 ; \
+    submit 0 1.0 80 ; submit 0 1.0 80 ; submit 0 1.0 80 ; submit 0 1.0 80 ; submit 0 1.0 80 ; submit 0 1.0 80 ; submit 0 1.0 80 ; \
+    submit 0 1.0 80 ; submit 0 1.0 80 ; submit 0 1.0 80 ; submit 0 1.0 80 ; submit 0 1.0 80 ; submit 0 1.0 80 ; submit 0 1.0 80";
 
 /// What the three drivers do at the last step of a case; the Rust is asked also outside the domain.
 pub fn last(case: &Case) -> [Option<(String, Option<Intended>)>; 3] {

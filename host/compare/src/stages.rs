@@ -4,6 +4,7 @@ use crate::case::{Body, Kind};
 use crate::entries::Lent;
 use crate::raw::{Damage, Op, Pair, What};
 use rules::entries::{Asked, RESULT_SIZE};
+use rules::pending::PLACES;
 use rules::sound::{Call, Params};
 use rules::{MESSAGE, PAGE, RESERVED, wire};
 
@@ -56,6 +57,39 @@ pub fn guarded_life() -> Vec<What> {
     all.extend(command(wire::START));
     all.extend_from_slice(&life()[8..]);
     all.extend([turn(0, 0, 0, 0)].into_iter().chain(command(wire::STOP)).chain(command(wire::RELEASE)));
+    all
+}
+
+fn submit(stream: u32, payload: u32, places: usize) -> What {
+    What::Submit { stream, payload, places }
+}
+
+fn mark(token: u32, status: u32) -> What {
+    What::Mark { kind: 1, token, status }
+}
+
+/// Set up, then submissions that do not wait up to Full, marks and finishes between, and a transfer that waits for the last of them.
+pub fn pending_life() -> Vec<What> {
+    let room = PLACES * 8;
+    let mut all = life()[..8].to_vec();
+    all.extend([submit(0, 4, room), submit(0, 4, room + 3), mark(1, 0x8003), What::Finish(1), submit(0, 4, room)]);
+    all.extend((2..PLACES).map(|_| submit(0, 4, room)));
+    all.extend((0..PLACES as u32).map(|token| mark(token, wire::STATUS_OK)));
+    all.extend((0..PLACES as u32).rev().map(What::Finish));
+    all.push(What::Start { stream: 0, frames: 10, budget: 5 });
+    all
+}
+
+fn pendings() -> Vec<What> {
+    let room = PLACES * 8;
+    let mut all = vec![What::PendingCount, What::Mark { kind: 0, token: 0, status: 0x8003 }];
+    for (payload, places) in [(4, room), (4, room + 17), (3, room), (5, room), (0, 0), (4, room - 1), (4, 15), (4, 0)] {
+        all.push(submit(0, payload, places));
+    }
+    all.extend([submit(1, 4, room), submit(2, 4, room)]);
+    for token in [0, 1, 15, 16, 31, 32, 99, u32::MAX] {
+        all.extend([mark(token, wire::STATUS_OK), mark(token, 0x8003), What::Finish(token), What::PendingToken(token)]);
+    }
     all
 }
 
@@ -150,20 +184,32 @@ fn damages() -> Vec<Damage> {
     all.extend((1..8).map(|at| Damage::State(0, bit(at))));
     all.extend([0, 1, 2, 3, 4, 5, 255].map(|life| Damage::Life(0, life)));
     all.push(Damage::Guard);
+    for (at, state) in [(0, 0), (0, 1), (0, 2), (0, u32::MAX), (15, 1), (16, 3), (31, 1), (31, 256)] {
+        all.push(Damage::Token(at, state, 0x8003));
+    }
     all
 }
 
 /// How many entries agreed, or the first that did not.
 pub fn all() -> Result<u64, String> {
-    Ok(along(life(), "life")? + along(guarded_life(), "guarded_life")?)
+    let all = |_: usize| true;
+    let lives = along(life(), "life", all)? + along(guarded_life(), "guarded_life", all)?;
+    Ok(lives + along(pending_life(), "pending_life", |at| PENDING_STAGES.contains(&at))?)
 }
 
-fn along(life: Vec<What>, name: &str) -> Result<u64, String> {
-    let whats = [calls(), rings(), others()].concat();
+/// Of the third, where one token is out, where one is marked, where all are out, where all are marked, and where a transfer runs again.
+const PENDING_STAGES: [usize; 5] = [8, 10, 26, 42, 59];
+
+/// Tries every entry at those stages of a life that are looked at.
+fn along(life: Vec<What>, name: &str, looked: impl Fn(usize) -> bool) -> Result<u64, String> {
+    let whats = [calls(), rings(), pendings(), others()].concat();
     let mut count = 0;
     let mut pair = Pair::new();
     for (at, step) in life.into_iter().enumerate() {
         pair.step(&whole(step))?;
+        if !looked(at) {
+            continue;
+        }
         let after = |text| format!("after {} entries of {name} in src/stages.rs: {text}", at + 1);
         for op in whats.iter().flat_map(lengths) {
             pair.clone().step(&op).map_err(after)?;

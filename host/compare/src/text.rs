@@ -5,7 +5,8 @@
 //!
 //! STEP = CALL [< ANSWER ..]. Calls: `remap JACK ASSOCIATION SEQUENCE`, `set STREAM BUFFER PERIOD FEATURES CHANNELS FORMAT RATE`,
 //! `prepare|release|start|stop STREAM`, `outputs`, `inputs`, `rates|formats|channels|features STREAM`, `counts`,
-//! `xfer STREAM LENGTH.SEED BUDGET READING ..`, `drain READING ..`, `event BYTES|none`, `ctl BYTES`, `tx BYTES` (the last two to the
+//! `xfer STREAM LENGTH.SEED BUDGET READING ..`, `drain READING ..`, `submit STREAM LENGTH.SEED PLACES` (which does not wait, with so many
+//! bytes of places), `mark READING ..` (of the tokens that wait), `finish TOKEN`, `event BYTES|none`, `ctl BYTES`, `tx BYTES` (the last two to the
 //! model device). ANSWER: STATUS[.KINDSEED][/WROTE][~PLACE=BYTE ..] with KIND n, j, s, m for noise or good records, `F` for the queue's
 //! failure, `M` for the model. READING: `q`, `o[:STATUS]` oldest, `kN[:STATUS]` N-th later, `sN[:STATUS]` slot N, `d` device; each may
 //! end in `*TIMES`. Statuses and bytes are hexadecimal; `-` is no bytes.
@@ -172,6 +173,11 @@ pub fn step_text(step: &Step) -> String {
             start + &readings_text(readings) + &answers_text(answers)
         }
         Step::Drain(readings) => "drain".to_string() + &readings_text(readings),
+        Step::Submit { stream, payload, places, answers } => {
+            format!("submit {stream} {}.{} {places}", payload.len, payload.seed) + &answers_text(answers)
+        }
+        Step::Mark(readings) => "mark".to_string() + &readings_text(readings),
+        Step::Finish(token) => format!("finish {token}"),
         Step::Event(None) => "event none".into(),
         Step::Event(Some(bytes)) => format!("event {}", hex(bytes)),
         Step::ModelControl(request) => format!("ctl {}", hex(request)),
@@ -180,14 +186,24 @@ pub fn step_text(step: &Step) -> String {
     }
 }
 
+fn frames_of(word: &str) -> Frames {
+    let (len, seed) = word.split_once('.').expect("LENGTH.SEED");
+    Frames { len: number(len), seed: number(seed) }
+}
+
 pub fn step_of(text: &str) -> Step {
     let (call, answers) = text.split_once('<').unwrap_or((text, ""));
     let words: Vec<&str> = call.split_whitespace().collect();
     let answers: Vec<Answer> = answers.split_whitespace().map(answer_of).collect();
     match words[0] {
+        "submit" => {
+            let (stream, payload, places) = (number(words[1]), frames_of(words[2]), number(words[3]));
+            Step::Submit { stream, payload, places, answers }
+        }
+        "mark" => Step::Mark(readings_of(&words[1..])),
+        "finish" => Step::Finish(number(words[1])),
         "xfer" => {
-            let (len, seed) = words[2].split_once('.').expect("LENGTH.SEED");
-            let frames = Frames { len: number(len), seed: number(seed) };
+            let frames = frames_of(words[2]);
             let readings = readings_of(&words[4..]);
             Step::Transfer { stream: number(words[1]), frames, budget: number(words[3]), readings, answers }
         }

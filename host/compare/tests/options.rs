@@ -30,7 +30,7 @@ fn an_option_has_its_value_once() {
     refused(&["--cases", "many"], "--cases many: no number below 2^64");
     refused(&["--cases", "-1"], "--cases -1: no number below 2^64");
     refused(&["--cases", "1", "--cases", "2"], "--cases is given twice");
-    refused(&["--seed", "5"], "--seed goes with --cases, --strict, --guard, --entries or --wav");
+    refused(&["--seed", "5"], "--seed goes with --cases, --strict, --guard, --pending, --entries or --wav");
     refused(&["--short", "--check", "x"], "--short, --check: one of these at a time");
 }
 

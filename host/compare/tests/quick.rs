@@ -1,6 +1,6 @@
 //! The comparison in small, for `cargo test`; the gate's run is the program's own.
 use compare::run::{Counts, With, report, run};
-use compare::{guarded, judge::Intended, random, raw, record, rust, short, shown, stages, text, waves};
+use compare::{guarded, judge::Intended, pending, random, raw, record, rust, short, shown, stages, text, waves};
 
 const WITH: With = With { rust: oracle::AT_HAND, port: true };
 
@@ -13,7 +13,7 @@ fn agrees(case: compare::case::Case) {
 #[test]
 fn a_case_is_its_text() {
     for seed in 0..400 {
-        for case in [random::case(seed), random::strict(seed), random::guarded(seed)] {
+        for case in [random::case(seed), random::strict(seed), random::guarded(seed), random::pending(seed)] {
             assert_eq!(text::case_of(&text::case_text(&case)), case);
         }
     }
@@ -35,6 +35,11 @@ fn drivers_agree() {
     guarded::ranges(&mut agrees);
     guarded::announcements(&mut agrees);
     (0..200).for_each(|seed| agrees(random::guarded(seed)));
+    pending::tokens(&mut agrees);
+    pending::wrong(&mut agrees);
+    pending::meanwhile(&mut agrees);
+    pending::played(&mut agrees);
+    (0..200).for_each(|seed| agrees(random::pending(seed)));
 }
 
 #[test]

@@ -4,12 +4,23 @@
 #[derive(Copy, Clone, Debug)]
 pub enum Call<'a> {
     JackRemap(u32, u32, u32),
-    PcmSetParams { stream: u32, buffer: u32, period: u32, features: u32, channels: u8, format: u8, rate: u8 },
+    PcmSetParams {
+        stream: u32,
+        buffer: u32,
+        period: u32,
+        features: u32,
+        channels: u8,
+        format: u8,
+        rate: u8,
+    },
     PcmPrepare(u32),
     PcmRelease(u32),
     PcmStart(u32),
     PcmStop(u32),
     PcmXfer(u32, &'a [u8]),
+    PcmXferNb(u32, &'a [u8]),
+    /// by the queue's own token
+    PcmXferOk(u16),
     OutputStreams,
     InputStreams,
     RatesSupported(u32),
@@ -22,7 +33,7 @@ pub enum Call<'a> {
 /// How a call ended.
 #[derive(Clone, Debug, PartialEq, Eq)]
 pub enum End {
-    /// Ok is 0, an error has document 01's number, the queue's own failure 7
+    /// Ok is 0, an error has document 01's number, the queue's own failure 7; that it has no room 15, and that nothing is completed 16
     Number(u8),
     /// it panicked, and said this
     Panic(String),
@@ -48,6 +59,8 @@ pub trait Outside {
     fn turn(&mut self, free: usize) -> bool;
     /// Two buffers were added at a slot.
     fn submit(&mut self, slot: u16, stream: &[u8], payload: &[u8]);
+    /// One buffer was added, under a token: what does not wait.
+    fn submit_one(&mut self, token: u16, buffer: &[u8]);
     /// What this turn reads, given the slots in flight, oldest first: a slot and its status.
     fn reading(&mut self, flight: &[u16]) -> Option<(u32, u32)>;
     fn event(&mut self) -> Option<Vec<u8>>;
@@ -79,6 +92,10 @@ pub trait Sound {
     fn in_flight(&self) -> Vec<u16>;
     /// No call of the Rust: what a drain turn does to the queue, the slot being the oldest or not.
     fn drain(&mut self, slot: u32);
+    /// The queue's tokens of what does not wait, as the driver keeps them.
+    fn tokens(&self) -> Vec<u16>;
+    /// No call of the Rust: the device has used what stands under a token.
+    fn complete(&mut self, token: u16, status: u32);
 }
 
 /// The model device.

@@ -21,6 +21,10 @@ impl<H: Hal, T: Transport> Probe for VirtIOSound<H, T> {
         };
         Inside { set_up: self.set_up, params: self.pcm_parameters.iter().map(seven).collect(), tables }
     }
+    fn tokens(&self) -> Vec<u16> {
+        assert!(self.token_buf.keys().eq(self.token_rsp.keys()), "the two maps of tokens go together");
+        self.token_buf.keys().copied().collect()
+    }
 }
 
 struct Device(FakeSoundDevice);

@@ -3,6 +3,8 @@
 //! - a completion names what it completes; `pop_used` with another token gives WrongToken and frees nothing, with the right
 //!   token writes the status into the buffer that was added and frees its descriptors;
 //! - a control exchange writes what the device wrote over the driver's page and leaves the rest;
+//! - a submission of one buffer, which does not wait, is used when the device says so, and `pop_used` takes used ones in that order
+//!   only: with none used it gives NotReady, with another token than the next WrongToken;
 //! - `pcm_xfer` asks `available_desc` once at the top of each iteration and nowhere else, so a turn begins there.
 use crate::api::{Control, Outside, Tokens};
 use crate::transport::Transport;
@@ -30,7 +32,7 @@ struct Flight {
     token: u16,
     descriptors: Vec<u16>,
     /// where each buffer lies, and how long it is
-    buffers: [(usize, usize); 3],
+    buffers: Vec<(usize, usize)>,
 }
 
 /// What the queues of one driver share.
@@ -39,6 +41,9 @@ pub struct Queues {
     tokens: Tokens,
     free: Vec<u16>,
     flight: VecDeque<Flight>,
+    /// what does not wait, and of it what the device has used, in that order
+    alone: Vec<Flight>,
+    used: VecDeque<(u16, u32)>,
     next_slot: u16,
     /// this turn's reading, once it was asked for
     reading: Option<Option<(u32, u32)>>,
@@ -48,8 +53,9 @@ pub type Shared = Rc<RefCell<Queues>>;
 impl Queues {
     pub fn new(tokens: Tokens) -> Shared {
         let free = (0..DESCRIPTORS).rev().collect();
-        let (flight, outside) = (VecDeque::new(), None);
-        Rc::new(RefCell::new(Queues { outside, tokens, free, flight, next_slot: 0, reading: None }))
+        let (flight, alone, used) = Default::default();
+        let (outside, next_slot, reading) = (None, 0, None);
+        Rc::new(RefCell::new(Queues { outside, tokens, free, flight, alone, used, next_slot, reading }))
     }
     /// A transfer numbers its slots from 0. What an earlier one left in flight (outside document 01's domain) is told apart by 32 more.
     pub fn begin(&mut self, outside: Box<dyn Outside>, transfer: bool) {
@@ -65,6 +71,14 @@ impl Queues {
     fn outside(&mut self) -> &mut dyn Outside {
         &mut **self.outside.as_mut().expect("a call is being made")
     }
+    pub fn complete(&mut self, token: u16, status: u32) {
+        assert!(self.alone.iter().any(|f| f.token == token), "a device uses what it has");
+        self.used.push_back((token, status));
+    }
+    /// The lowest that nothing stands under.
+    fn lowest_token(&self) -> u16 {
+        (0..).find(|token| self.alone.iter().all(|f| f.token != *token)).expect("there are enough numbers")
+    }
     fn give_back(&mut self, flight: Flight) {
         self.free.extend(flight.descriptors.into_iter().rev());
     }
@@ -76,14 +90,36 @@ impl Queues {
     }
 }
 
+impl Queues {
+    /// What this turn read, if it is what the token names.
+    fn read(&mut self, token: u16) -> Result<(Flight, u32)> {
+        let Some(Some((slot, status))) = self.reading else {
+            return Err(Error::NotReady);
+        };
+        let named = self.flight.iter().position(|f| f.slot as u32 == slot && f.token == token);
+        let Some(at) = named else { return Err(Error::WrongToken) };
+        Ok((self.flight.remove(at).unwrap(), status))
+    }
+    /// The next that is used of what does not wait, if it is what the token names.
+    fn next_used(&mut self, token: u16) -> Result<(Flight, u32)> {
+        let (used, status) = *self.used.front().ok_or(Error::NotReady)?;
+        if used != token {
+            return Err(Error::WrongToken);
+        }
+        self.used.pop_front();
+        let at = self.alone.iter().position(|f| f.token == token).expect("what is used was added");
+        Ok((self.alone.remove(at), status))
+    }
+}
+
 pub struct VirtQueue<H: Hal, const SIZE: usize> {
     index: u16,
     shared: Shared,
     hal: PhantomData<H>,
 }
 
-fn places(inputs: &[&[u8]], output: &[u8]) -> [(usize, usize); 3] {
-    [inputs[0], inputs[1], output].map(|b| (b.as_ptr() as usize, b.len()))
+fn places(inputs: &[&[u8]], output: &[u8]) -> Vec<(usize, usize)> {
+    inputs.iter().copied().chain([output]).map(|b| (b.as_ptr() as usize, b.len())).collect()
 }
 
 impl<H: Hal, const SIZE: usize> VirtQueue<H, SIZE> {
@@ -111,7 +147,7 @@ impl<H: Hal, const SIZE: usize> VirtQueue<H, SIZE> {
     /// # Safety
     /// The buffers live until `pop_used`.
     pub unsafe fn add<'a, 'b>(&mut self, inputs: &'a [&'b [u8]], outputs: &'a mut [&'b mut [u8]]) -> Result<u16> {
-        assert!(self.index == TX && inputs.len() == 2, "only pcm_xfer submits here");
+        assert!(self.index == TX && matches!(inputs.len(), 1 | 2), "only pcm_xfer and pcm_xfer_nb submit here");
         let mut queues = self.shared.borrow_mut();
         let need = inputs.len() + outputs.len();
         if queues.free.len() < need {
@@ -119,11 +155,17 @@ impl<H: Hal, const SIZE: usize> VirtQueue<H, SIZE> {
         }
         let at = queues.free.len() - need;
         let descriptors: Vec<u16> = queues.free.drain(at..).rev().collect();
+        let buffers = places(inputs, outputs[0]);
+        if let [alone] = inputs {
+            let token = if queues.tokens == Tokens::Slots { queues.lowest_token() } else { descriptors[0] };
+            queues.outside().submit_one(token, alone);
+            queues.alone.push(Flight { slot: token, token, descriptors, buffers });
+            return Ok(token);
+        }
         let slot = queues.next_slot;
         queues.next_slot = (slot + 1) % DESCRIPTORS;
         let token = if queues.tokens == Tokens::Slots { slot } else { descriptors[0] };
         queues.outside().submit(slot, inputs[0], inputs[1]);
-        let buffers = places(inputs, outputs[0]);
         queues.flight.push_back(Flight { slot, token, descriptors, buffers });
         Ok(token)
     }
@@ -147,12 +189,7 @@ impl<H: Hal, const SIZE: usize> VirtQueue<H, SIZE> {
         outputs: &'a mut [&'a mut [u8]],
     ) -> Result<u32> {
         let mut queues = self.shared.borrow_mut();
-        let Some(Some((slot, status))) = queues.reading else {
-            return Err(Error::NotReady);
-        };
-        let named = queues.flight.iter().position(|f| f.slot as u32 == slot && f.token == token);
-        let Some(at) = named else { return Err(Error::WrongToken) };
-        let flight = queues.flight.remove(at).unwrap();
+        let (flight, status) = if inputs.len() == 1 { queues.next_used(token)? } else { queues.read(token)? };
         assert!(flight.buffers == places(inputs, outputs[0]), "pop_used with other buffers than add");
         outputs[0][..4].copy_from_slice(&status.to_le_bytes());
         outputs[0][4..].fill(0x5a);

@@ -7,7 +7,7 @@ use crate::ring::{Reading, Ring, Turn};
 use crate::sound::{Call, Fed, Say, Sound, Value};
 use crate::*;
 
-pub const STATE_SIZE: usize = 14447;
+pub const STATE_SIZE: usize = 14703;
 pub const RING_SIZE: usize = 608;
 /// Where the reserved bytes of a state's and of a ring's store stand.
 pub const STATE_RESERVED: usize = 48;
@@ -15,6 +15,8 @@ pub const RING_RESERVED: usize = 80;
 /// The bit of the first that is the guard, and where the streams' states stand.
 pub const GUARD: u8 = 1;
 pub const LIVES: usize = 14320;
+/// Where the 32 tokens of what does not wait stand: the state's last bytes.
+pub const TOKENS: usize = 14447;
 pub const RESULT_SIZE: usize = 512;
 pub const MODEL_SIZE: usize = 16427;
 pub const SEND: u64 = 256;
@@ -61,6 +63,7 @@ fn said(say: Say, result: &mut [u8]) -> u64 {
         Say::Going => return GOING,
         Say::Done(Value::Nothing) => {}
         Say::Done(Value::Bits(bits)) => put(result, &[bits]),
+        Say::Done(Value::Token(token)) => put(result, &[token as u64]),
         Say::Done(Value::Range(min, max)) => result[..2].copy_from_slice(&[min, max]),
         Say::Done(Value::Streams(ids)) => {
             result[..4].copy_from_slice(&(ids.len() as u32).to_le_bytes());
@@ -120,6 +123,46 @@ pub fn xfer_start(
     let (state, ring) = (state.known()?, ring.known()?);
     let say = state.xfer_start(ring, stream, frames_len as u64, budget, message);
     Ok(said(say, &mut []))
+}
+
+/// Neither the payload's length nor that of the places is among the first: the call has its own order for them.
+pub fn pcm_xfer_nb(
+    state: Store<&mut Sound>,
+    ring: Store<&Ring>,
+    stream: u32,
+    payload: &[u8],
+    places: &mut [u8],
+    message: &mut [u8],
+    result: &mut [u8],
+) -> Answer {
+    let lent = message.len() >= MESSAGE && result.len() >= RESULT_SIZE;
+    lengths(state.len >= STATE_SIZE && ring.len >= RING_SIZE && lent)?;
+    let (state, ring) = (state.known()?, ring.known()?);
+    Ok(said(state.pcm_xfer_nb(ring, stream, payload, places, message), result))
+}
+
+/// The reading's slot is the token.
+pub fn pcm_xfer_mark(state: Store<&mut Sound>, reading: Reading) -> Answer {
+    lengths(state.len >= STATE_SIZE)?;
+    Ok(state.known()?.pcm_xfer_mark(reading) as u64)
+}
+
+pub fn pcm_xfer_ok(state: Store<&mut Sound>, token: u32) -> Answer {
+    lengths(state.len >= STATE_SIZE)?;
+    Ok(state.known()?.pcm_xfer_ok(token).answer())
+}
+
+pub fn pending_count(state: Store<&Sound>, result: &mut [u8]) -> Answer {
+    lengths(state.len >= STATE_SIZE && result.len() >= RESULT_SIZE)?;
+    put(result, &[state.known()?.pending_count().map_err(u64::from)?]);
+    Ok(OK as u64)
+}
+
+pub fn pending_token(state: Store<&Sound>, token: usize, result: &mut [u8]) -> Answer {
+    lengths(state.len >= STATE_SIZE && result.len() >= RESULT_SIZE)?;
+    let (held, status) = state.known()?.pending_token(token).map_err(u64::from)?;
+    put(result, &[held, status]);
+    Ok(OK as u64)
 }
 
 pub fn offered(ring: Store<&Ring>, frames_len: usize, result: &mut [u8]) -> Answer {

@@ -1,7 +1,8 @@
 //! Document 01, read a second time: plain Rust, written from the paper (and from the decisions on what
 //! it leaves open) and from nothing else. The port and the Rust driver are both held to it by `compare`.
 //! Of document 02 these requests are read here too: 2026-01, feeds that carry the length the device wrote; 2026-02, the guard
-//! over a stream's lifecycle; 2026-03, announcements from WAV; 2026-05, the device's status in 2 and 3.
+//! over a stream's lifecycle; 2026-03, announcements from WAV; 2026-05, the device's status in 2 and 3;
+//! 2026-06, submissions that do not wait.
 //!
 //! Clarity before speed: tables are vectors, refusals are numbers.
 
@@ -9,6 +10,7 @@ pub mod entries;
 pub mod event;
 pub mod life;
 pub mod model;
+pub mod pending;
 pub mod ring;
 pub mod sound;
 pub mod status;
@@ -34,6 +36,9 @@ pub const BAD_STATE: u8 = 12;
 /// Of WAVE files only: their structure, then their sound.
 pub const NOT_WAVE: u8 = 13;
 pub const BAD_SOUND: u8 = 14;
+/// Of submissions that do not wait: no place is free; finishing one that is not marked.
+pub const FULL: u8 = 15;
+pub const NOT_YET: u8 = 16;
 
 /// The answer page.
 pub const PAGE: usize = 4096;

@@ -1,6 +1,7 @@
 //! Control exchanges: set-up, every call, feeds, the start of a transfer.
 
 use crate::life::{self, Life};
+use crate::pending::Pending;
 use crate::ring::{Ring, Turn};
 use crate::status::{Status, Verdict};
 use crate::wire::{self, u32_at, u64_at};
@@ -58,6 +59,8 @@ pub enum Value {
     Streams(Vec<u32>),
     Bits(u64),
     Range(u8, u8),
+    /// of a submission that does not wait
+    Token(usize),
 }
 
 /// What a call or a feed yields.
@@ -129,6 +132,8 @@ pub struct Sound {
     /// each stream's state: with no guard neither moved nor looked at
     pub lives: [Life; STREAMS],
     pub open: Option<(Awaits, Call)>,
+    /// what was submitted without waiting; no control call and no feed looks at it or changes it
+    pub pending: Pending,
     pub reserved: [u8; RESERVED],
 }
 
@@ -180,8 +185,8 @@ fn read_table(table: usize, count: u32, answer: Option<&[u8]>) -> Result<Vec<Vec
 impl Sound {
     pub fn new(counts: [u32; 3]) -> Self {
         let (tables, params) = (Default::default(), BTreeMap::new());
-        let (lives, reserved) = ([life::SET; STREAMS], [0; RESERVED]);
-        Sound { counts, guard: false, set_up: false, tables, params, lives, open: None, reserved }
+        let (lives, pending, reserved) = ([life::SET; STREAMS], Pending::default(), [0; RESERVED]);
+        Sound { counts, guard: false, set_up: false, tables, params, lives, open: None, pending, reserved }
     }
 
     pub fn new_guarded(counts: [u32; 3]) -> Self {
@@ -231,6 +236,11 @@ impl Sound {
         }
     }
 
+    /// "New call while an exchange is open, a transfer runs or a slot is in flight."
+    pub(crate) fn busy(&self, ring: &Ring) -> bool {
+        self.open.is_some() || ring.busy()
+    }
+
     pub fn call(&mut self, ring: &Ring, call: Call, message: &mut [u8]) -> Say {
         if message.len() < MESSAGE {
             return Say::refused(BAD_LENGTH);
@@ -238,7 +248,7 @@ impl Sound {
         if !self.consistent() || !ring.consistent() {
             return Say::refused(INVALID_PARAM);
         }
-        if self.open.is_some() || ring.busy() {
+        if self.busy(ring) {
             return Say::refused(BUSY);
         }
         if let Call::SetParams { params, .. } = &call
@@ -405,7 +415,38 @@ impl Sound {
         }
     }
 
-    /// Busy, set-up, stream range, its state under the guard, parameters set, then the budget.
+    /// What a transfer and a submission that does not wait test alike: Busy, set-up, stream range, its state under the guard, parameters
+    /// set. What is said where they fail, or those parameters.
+    pub(crate) fn transfer_checks(
+        &mut self,
+        ring: &Ring,
+        stream: u32,
+        busy: bool,
+        message: &mut [u8],
+    ) -> Result<Params, Say> {
+        if message.len() < MESSAGE {
+            return Err(Say::refused(BAD_LENGTH));
+        }
+        if !self.consistent() || !ring.consistent() || !self.stream_consistent(stream) {
+            return Err(Say::refused(INVALID_PARAM));
+        }
+        if busy {
+            return Err(Say::refused(BUSY));
+        }
+        if !self.set_up {
+            let plan = self.begin(Call::Transfer(stream));
+            return Err(finish(plan, message));
+        }
+        if stream >= self.counts[1] {
+            return Err(Say::refused(INVALID_PARAM));
+        }
+        if self.bars_transfers(stream) {
+            return Err(Say::refused(BAD_STATE));
+        }
+        self.params.get(&stream).copied().ok_or(Say::refused(IO_ERROR))
+    }
+
+    /// "A blocking transfer while any is pending is Busy"; after the tests of its stream comes the budget.
     pub fn xfer_start(
         &mut self,
         ring: &mut Ring,
@@ -414,27 +455,10 @@ impl Sound {
         budget: u64,
         message: &mut [u8],
     ) -> Say {
-        if message.len() < MESSAGE {
-            return Say::refused(BAD_LENGTH);
-        }
-        if !self.consistent() || !ring.consistent() || !self.stream_consistent(stream) {
-            return Say::refused(INVALID_PARAM);
-        }
-        if self.open.is_some() || ring.busy() {
-            return Say::refused(BUSY);
-        }
-        if !self.set_up {
-            let plan = self.begin(Call::Transfer(stream));
-            return finish(plan, message);
-        }
-        if stream >= self.counts[1] {
-            return Say::refused(INVALID_PARAM);
-        }
-        if self.bars_transfers(stream) {
-            return Say::refused(BAD_STATE);
-        }
-        let Some(params) = self.params.get(&stream) else {
-            return Say::refused(IO_ERROR);
+        let busy = self.busy(ring) || self.pending.count() > 0;
+        let params = match self.transfer_checks(ring, stream, busy, message) {
+            Ok(params) => params,
+            Err(say) => return say,
         };
         match ring.start(stream, frames_len, params.period as u64, budget) {
             Turn::Going => Say::Going,
