@@ -2,13 +2,14 @@
  * which makes a call and gives its answer; all that calls may change stands in `s`. A call's arguments may be evaluated more than once. */
 #include "snd.h"
 
-enum { JACKS = 3, STREAMS = 2, MAPS = 1, FRAMES = 40000 };
+enum { JACKS = 3, STREAMS = 2, MAPS = 1, FRAMES = 40000, PERIOD = 48 };
 
 /* Everything that a call may change. */
 struct stores {
     uint64_t answer;
     uint8_t state[SND_STATE_SIZE], ring[SND_RING_SIZE], message[SND_MESSAGE_SIZE], result[SND_RESULT_SIZE];
     uint8_t page[SND_PAGE_SIZE], model[SND_MODEL_SIZE], status[8], file[64];
+    uint8_t places[SND_PLACES * (4 + PERIOD) + 5];
 };
 
 static struct stores s;
@@ -21,6 +22,7 @@ static uint8_t frames[FRAMES];
 #define PAGE s.page, sizeof s.page
 #define MODEL s.model, sizeof s.model
 #define WAVE s.file, sizeof s.file
+#define PLACES s.places, sizeof s.places
 
 /* Hands each request to the model device and feeds its answer, until the call says something else. */
 static uint64_t answered(uint64_t said) {
@@ -123,10 +125,48 @@ static void transfer(uint64_t budget, uint32_t failing) {
     }
 }
 
+/* A period that does not wait, and goes out to the model device. */
+static uint64_t submitted(uint32_t from) {
+    return CALL(snd_pcm_xfer_nb, STATE, RING, 0, frames + from, PERIOD, PLACES, MESSAGE, RESULT);
+}
+
+/* Submissions that do not wait: every token, completions out of order, control calls meanwhile, and each way to be refused. */
+static void go_on(void) {
+    answered(CALL(snd_pcm_set_params, STATE, RING, 0, 2 * PERIOD, PERIOD, 0, 2, 5, 7, MESSAGE, RESULT));
+    for (uint32_t i = 0; i < SND_PLACES; i++)
+        submitted(i);
+    submitted(0); /* Full */
+    CALL(snd_pending_count, STATE, RESULT);
+    CALL(snd_model_transfer, MODEL, s.places, 4 + PERIOD, s.status, sizeof s.status);
+    CALL(snd_pcm_xfer_mark, STATE, 0, 3, 0x8000); /* quiet */
+    CALL(snd_pcm_xfer_mark, STATE, 1, 3, 0x8000);
+    CALL(snd_pcm_xfer_mark, STATE, 1, 3, 0x8003);           /* twice */
+    CALL(snd_pcm_xfer_mark, STATE, 1, SND_PLACES, 0x8000);  /* no such token */
+    CALL(snd_pcm_xfer_mark, STATE, 1, 1, 0x8003);
+    CALL(snd_pending_token, STATE, 1, RESULT);
+    CALL(snd_pending_token, STATE, 32, RESULT); /* no such token */
+    CALL(snd_pcm_xfer_ok, STATE, 2);            /* NotYet */
+    CALL(snd_pcm_xfer_ok, STATE, 3);
+    CALL(snd_pcm_xfer_ok, STATE, 1); /* the device failed it */
+    CALL(snd_pcm_xfer_ok, STATE, 1); /* not pending */
+    answered(CALL(snd_pcm_start, STATE, RING, 0, MESSAGE, RESULT));
+    CALL(snd_pcm_xfer_start, STATE, RING, 0, frames, sizeof frames, 9, MESSAGE); /* Busy */
+    submitted(7);                                                               /* the lowest again */
+    CALL(snd_pcm_xfer_nb, STATE, RING, 0, frames, PERIOD - 1, PLACES, MESSAGE, RESULT);                                   /* no period */
+    CALL(snd_pcm_xfer_nb, STATE, RING, 0, frames, PERIOD, s.places, SND_PLACES * (3 + PERIOD), MESSAGE, RESULT);          /* no room */
+    CALL(snd_pcm_xfer_nb, STATE, RING, 1, frames, PERIOD, PLACES, MESSAGE, RESULT);                                       /* no parameters */
+    for (uint32_t i = 0; i < SND_PLACES; i++) {
+        CALL(snd_pcm_xfer_mark, STATE, 1, i, 0x8000);
+        CALL(snd_pcm_xfer_ok, STATE, i);
+    }
+}
+
 static void strict(void) {
     CALL(snd_new, STATE, JACKS, STREAMS, MAPS);
     answered_in(4, CALL(snd_jack_remap, STATE, RING, 0, 1, 2, MESSAGE, RESULT)); /* headers alone: no jacks, and Short for the streams */
     answered_in(SND_PAGE_SIZE, CALL(snd_pcm_set_params, STATE, RING, 0, 8192, 2048, 0, 2, 5, 7, MESSAGE, RESULT));
+    CALL(snd_new, STATE, JACKS, STREAMS, MAPS);
+    answered_in(SND_PAGE_SIZE, CALL(snd_pcm_xfer_nb, STATE, RING, 0, frames, PERIOD, PLACES, MESSAGE, RESULT)); /* set-up, and no parameters */
     answered_in(3, CALL(snd_pcm_prepare, STATE, RING, 0, MESSAGE, RESULT)); /* Short */
     CALL(snd_pcm_prepare, STATE, RING, 0, MESSAGE, RESULT);
     CALL(snd_feed_written, STATE, PAGE, SND_PAGE_SIZE + 1, MESSAGE, RESULT); /* no page has so many bytes */
@@ -190,6 +230,7 @@ static void session(void) {
     transfer(100, ~0u);
     transfer(100, 7);
     transfer(5, ~0u);
+    go_on();
     others();
     guarded();
     waves();

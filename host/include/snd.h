@@ -1,7 +1,7 @@
 /* The driver's C entries. docs/BOUNDARY.md says what each answers and writes.
  *
  * Every entry answers one number: the answer's own in its low 32 bits, SND_NUMBER. 0 to 10 are
- * document 01's answers, 11 to 14 are document 02's; a request of n bytes to send is SND_SEND + n; a turn
+ * document 01's answers, 11 to 16 are document 02's; a request of n bytes to send is SND_SEND + n; a turn
  * that goes on is SND_GOING; an event that says nothing is SND_NOTHING. Of 2 and 3 the high 32 bits,
  * SND_STATUS, are the status by which the device refused, or SND_NO_STATUS; of every other answer 0.
  *
@@ -31,7 +31,7 @@ extern "C" {
 /* The version of this header and of the archive beside it: docs/BOUNDARY.md says when it changes.
  * As one number it can be compared by #if. */
 #define SND_VERSION_MAJOR 0u
-#define SND_VERSION_MINOR 5u
+#define SND_VERSION_MINOR 6u
 #define SND_VERSION_PATCH 0u
 #define SND_VERSION (SND_VERSION_MAJOR * 1000000u + SND_VERSION_MINOR * 1000u + SND_VERSION_PATCH)
 
@@ -50,6 +50,8 @@ extern "C" {
 #define SND_BAD_STATE 12u
 #define SND_NOT_WAVE 13u
 #define SND_BAD_SOUND 14u
+#define SND_FULL 15u
+#define SND_NOT_YET 16u
 #define SND_SEND 256u
 #define SND_GOING 512u
 #define SND_NOTHING 513u
@@ -64,12 +66,14 @@ extern "C" {
 #define SND_NO_STATUS 0x8000u
 
 /* Sizes of the stores and buffers, the same as the entries below hand out. */
-#define SND_STATE_SIZE 14447u
+#define SND_STATE_SIZE 14703u
 #define SND_RING_SIZE 608u
 #define SND_MESSAGE_SIZE 24u
 #define SND_RESULT_SIZE 512u
 #define SND_PAGE_SIZE 4096u
 #define SND_MODEL_SIZE 16427u
+/* Equal places of a store of submissions that do not wait. */
+#define SND_PLACES 16u
 
 uint64_t snd_state_size(void);
 uint64_t snd_ring_size(void);
@@ -162,6 +166,31 @@ uint64_t snd_ring_turns_run(const uint8_t *ring, size_t ring_len, uint8_t *resul
 uint64_t snd_ring_stream(const uint8_t *ring, size_t ring_len, uint8_t *result, size_t result_len);
 uint64_t snd_ring_carried(const uint8_t *ring, size_t ring_len, size_t slot, uint8_t *result, size_t result_len);
 uint64_t snd_ring_oldest(const uint8_t *ring, size_t ring_len, uint8_t *result, size_t result_len);
+
+/* Submissions that do not wait: a period goes out, and the console goes on.
+ *
+ * snd_pcm_xfer_nb copies stream id, 4 bytes least first, and the payload, which is one whole period, to
+ * the front of the lowest free place of `places`: SND_PLACES of places_len / SND_PLACES bytes each. No
+ * other byte of it changes. Result: the place's number, 8, which is the token. These 4 + period bytes
+ * are for the device to read, in one descriptor, then 8 bytes for it to write, as above. Lend the same
+ * store each time: what is pending stands there and stays until it is finished.
+ *
+ * snd_pcm_xfer_mark takes what was seen on the queue: kind 0 is a quiet reading, any other a completed
+ * token with its status. snd_pcm_xfer_ok takes a token that was marked, in any order, frees its place
+ * and answers 0, or 2 with a status that is not ok. What is not pending, or is completed twice, is 6;
+ * what is not marked yet 16. Both need no set-up and are never Busy; while a token is pending control
+ * calls go on, and the start of a transfer is Busy. */
+uint64_t snd_pcm_xfer_nb(uint8_t *state, size_t state_len, const uint8_t *ring, size_t ring_len, uint32_t stream,
+                         const uint8_t *payload, size_t payload_len, uint8_t *places, size_t places_len,
+                         uint8_t *message, size_t message_len, uint8_t *result, size_t result_len);
+uint64_t snd_pcm_xfer_mark(uint8_t *state, size_t state_len, uint32_t kind, uint32_t token, uint32_t status);
+uint64_t snd_pcm_xfer_ok(uint8_t *state, size_t state_len, uint32_t token);
+
+/* Reads of what is pending. Result: how many tokens are, marked or not, 8; of a token, 0 to 31, its
+ * state 8 (0 free, 1 waits, 2 marked) and 8 of the status with which it was marked. A token of 32 or
+ * more is 1. */
+uint64_t snd_pending_count(const uint8_t *state, size_t state_len, uint8_t *result, size_t result_len);
+uint64_t snd_pending_token(const uint8_t *state, size_t state_len, size_t token, uint8_t *result, size_t result_len);
 
 /* An event. Result: code 4, data 4. */
 uint64_t snd_latest_notification(const uint8_t *event, size_t event_len, uint8_t *result, size_t result_len);

@@ -30,6 +30,10 @@ other on one device that is set up once: a page for each, and a closing line.
                      lifecycle of a stream does not permit
   --short-jacks      the device answers the query of its jack by a header alone,
                      in a page that holds an old jack; a remap is then asked for
+  --go-on            speak without waiting: each period is submitted, and the
+                     console goes on and polls a made-up breaker meanwhile; the
+                     last period is filled up with silence, and the budget is the
+                     console's own
   --accepted FILE    write the bytes that the device had accepted when the
                      transfer answered: compare FILE with the frames
   --wav FILE         write the same as a WAVE file, in whole frames: play it

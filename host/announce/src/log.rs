@@ -2,7 +2,7 @@
 use crate::account::{Gap, Part, Same};
 use crate::json::{self, Object};
 use crate::report::Report;
-use crate::told::{Control, Fault, Jacks, Period, What, When};
+use crate::told::{Control, Fault, GoingOn, Jacks, Period, What, When};
 use page::Built;
 use snd::Answer;
 
@@ -50,6 +50,10 @@ fn before(to: &mut Object, report: &Report) {
         Some(told) => to.object("jacks", |to| jacks(to, told)),
         None => to.null("jacks"),
     }
+    match &told.going_on {
+        Some(told) => to.object("going_on", |to| going_on(to, told)),
+        None => to.null("going_on"),
+    }
     match told.stream {
         Some(stream) => to.object("stream", |to| {
             to.number("number", stream.into());
@@ -93,6 +97,13 @@ fn jacks(to: &mut Object, jacks: &Jacks) {
     to.number("whole", jacks.whole as u64);
     to.truth("remap_sent", jacks.sent);
     to.object("remap_answer", |to| answer(to, jacks.answer));
+}
+
+fn going_on(to: &mut Object, told: &GoingOn) {
+    to.number("polled", told.polled);
+    to.number_if("opened", told.opened);
+    to.number("most_pending", told.most);
+    to.number("filled", told.filled as u64);
 }
 
 fn device(to: &mut Object, report: &Report) {

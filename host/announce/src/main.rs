@@ -3,9 +3,11 @@
 #![deny(clippy::unwrap_used, clippy::expect_used, clippy::panic, clippy::indexing_slicing)]
 
 mod account;
+mod breakers;
 mod clock;
 mod device;
 mod form;
+mod going_on;
 mod help;
 mod json;
 mod log;

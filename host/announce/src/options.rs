@@ -69,6 +69,8 @@ pub struct Options {
     pub guard: bool,
     /// The jack query is answered by its header alone.
     pub short_jacks: bool,
+    /// Periods do not wait, and breakers are polled meanwhile.
+    pub go_on: bool,
     pub accepted: Option<PathBuf>,
     pub wav: Option<PathBuf>,
     pub log: Option<PathBuf>,
@@ -93,6 +95,7 @@ impl Options {
             strict: false,
             guard: false,
             short_jacks: false,
+            go_on: false,
             accepted: None,
             wav: None,
             log: None,
@@ -134,7 +137,10 @@ pub fn parse(words: &[OsString]) -> Result<Asked, String> {
             "--strict" if value.is_none() => options.strict = true,
             "--guard" if value.is_none() => options.guard = true,
             "--short-jacks" if value.is_none() => options.short_jacks = true,
-            "--help" | "-h" | "--strict" | "--guard" | "--short-jacks" => return Err(format!("{name} takes no value")),
+            "--go-on" if value.is_none() => options.go_on = true,
+            "--help" | "-h" | "--strict" | "--guard" | "--short-jacks" | "--go-on" => {
+                return Err(format!("{name} takes no value"));
+            }
             "--" if value.is_none() => words.by_ref().try_for_each(|word| take_file(&mut options, word))?,
             name if name.len() > 1 && name.starts_with('-') => {
                 let value = || {
@@ -150,6 +156,12 @@ pub fn parse(words: &[OsString]) -> Result<Asked, String> {
     options.buffer = sizes::buffer(buffer, options.period)?;
     if options.fail_call == Some(REMAP) && !options.short_jacks {
         return Err("--fail-call remap goes with --short-jacks: without it no remap is asked for".into());
+    }
+    if options.go_on {
+        if options.wrong_slot_at.is_some() {
+            return Err("--wrong-slot-at goes with a transfer: what does not wait may come back in any order".into());
+        }
+        sizes::places(options.period)?;
     }
     if options.sources.is_empty() {
         sizes::tone(&options)?;

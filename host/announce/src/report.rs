@@ -35,6 +35,7 @@ impl<'r> Report<'r> {
             strict: options.strict,
             guard: options.guard,
             jacks: told.jacks,
+            going_on: told.going_on,
             stream: told.stream.map(|number| Stream {
                 number,
                 output: true,

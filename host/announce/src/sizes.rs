@@ -36,6 +36,18 @@ pub fn tone(options: &Options) -> Result<(), String> {
     ))
 }
 
+/// Whether there can be places for periods that do not wait.
+pub fn places(period: u32) -> Result<(), String> {
+    let bytes = snd::PLACES as u64 * (u64::from(period) + 4);
+    if bytes <= MOST_TONE {
+        return Ok(());
+    }
+    Err(format!(
+        "{} places for periods of {period} bytes are {bytes} bytes; at most {MOST_TONE} are made",
+        snd::PLACES
+    ))
+}
+
 /// Whether an account of so many periods can be kept.
 pub fn periods(name: &str, bytes: usize, period: u32) -> Result<(), String> {
     let periods = bytes.div_ceil(period as usize);

@@ -1,11 +1,12 @@
 //! What happened in one announcement, as it was seen.
-pub use page::{Completed, Fault, Jacks, Refused, What, When};
+pub use page::{Completed, Fault, GoingOn, Jacks, Refused, What, When};
 use snd::{Answer, ChannelRange};
 use std::time::Duration;
 
 /// A period that was submitted.
 #[derive(Clone, PartialEq, Eq, Debug)]
 pub struct Period {
+    /// Of what does not wait, the token.
     pub slot: u32,
     /// Where it begins in the frames.
     pub offset: usize,
@@ -34,6 +35,8 @@ pub struct Told {
     /// In the order in which they were sent, since the announcement before.
     pub controls: Vec<Control>,
     pub stream: Option<u32>,
+    /// Known where it was spoken without waiting.
+    pub going_on: Option<GoingOn>,
     pub channels: ChannelRange,
     pub refused: Option<Refused>,
     /// Turns that the budget allows.

@@ -39,6 +39,15 @@ fn bad_options() {
     complaint("--strict=yes", "--strict takes no value");
     complaint("--guard=on", "--guard takes no value");
     complaint("--short-jacks=1", "--short-jacks takes no value");
+    complaint("--go-on=1", "--go-on takes no value");
+    complaint(
+        "--go-on --wrong-slot-at 3",
+        "--wrong-slot-at goes with a transfer: what does not wait may come back in any order",
+    );
+    complaint(
+        "--go-on --period 67108861",
+        "16 places for periods of 67108861 bytes are 1073741840 bytes; at most 1073741824 are made",
+    );
     complaint("--slow", "--slow needs a value; see --help");
     complaint("--slow 0", "--slow takes a number from 1 to 1000000, not '0'");
     complaint("--slow=", "--slow takes a number from 1 to 1000000, not ''");

@@ -184,7 +184,19 @@ fn lengths_and_jacks() {
     assert_eq!(announcement.at("strict"), &Json::Truth(false));
     assert_eq!(announcement.at("guard"), &Json::Truth(false));
     assert_eq!(announcement.at("jacks"), &Json::Null);
+    assert_eq!(announcement.at("going_on"), &Json::Null);
     assert_eq!(controls(announcement), [&queries(4)[..], &own].concat());
+}
+
+#[test]
+fn going_on() {
+    let folder = Folder::new("log-go-on");
+    folder.write("a.raw", &frames(10_000));
+    let log = log(&folder, "--go-on --slow 5 a.raw");
+    let going_on = log.at("announcements").list()[0].at("going_on");
+    let numbers = ["polled", "most_pending", "filled"].map(|name| going_on.at(name).number());
+    assert_eq!(numbers, [15, 3, 2288]);
+    assert_eq!(going_on.at("opened"), &Json::Null);
 }
 
 /// Strings are escaped: the name comes back as the page has it.

@@ -211,6 +211,58 @@ fn the_guard() {
     );
 }
 
+/// Without waiting: what the device accepts is the same, and breakers are polled once a turn.
+#[test]
+fn going_on() {
+    page("go-on", "--go-on", 0);
+    page("go-on-slow", "--go-on --slow 3", 0);
+    page("go-on-fail", "--go-on --fail-at 5", 1);
+    page(
+        "go-on-fail-slow",
+        "--go-on --fail-at 5 --slow 3 --fail-status 0x8002 --guard",
+        1,
+    );
+    page("go-on-budget", "--go-on --budget 9 --slow 3", 1);
+    page("go-on-nothing", "--go-on --seconds 0", 0);
+}
+
+/// Several on one device, one of which fails, and files of each form; the last period of each is filled up, and what was accepted has none of it.
+#[test]
+fn going_on_with_several() {
+    let folder = Folder::new("go-on-several");
+    for name in ["a.raw", "b.raw", "c.raw"] {
+        folder.write(name, &frames(10_000));
+    }
+    let output = folder.run("--go-on --slow 2 --fail-at 4 a.raw b.raw c.raw");
+    let page = masked(&output);
+    let answers: Vec<_> = page.lines().filter(|line| line.starts_with("answer ")).collect();
+    assert_eq!(
+        answers,
+        [
+            "answer       0 Ok",
+            "answer       2 IoError: the device said 0x8003, I/O error, to finish",
+            "answer       0 Ok"
+        ]
+    );
+    for format in [Format::U8, Format::S16, Format::S24In3, Format::S32] {
+        let frames = frames(4800);
+        folder.write("d.wav", &wave(1, format, Rate::Hz8000, &frames));
+        let output = folder.run("--go-on --period 960 --slow 4 d.wav --accepted d.raw");
+        assert_eq!((output.status.code(), folder.read("d.raw")), (Some(0), frames));
+        let output = folder.run("--go-on --period 1000 d.wav --accepted d.raw");
+        let page = masked(&output);
+        let filled = "filled       the last period, with 200 bytes of silence: what does not wait is a whole period\n";
+        assert!(page.contains(filled), "{page}");
+        assert_eq!((output.status.code(), folder.read("d.raw").len()), (Some(0), 4800));
+    }
+    // each turn polls the breakers once, however slow the device is
+    for slow in [1, 2, 7, 40] {
+        let page = masked(&folder.run(&format!("--go-on --slow {slow} a.raw")));
+        let polled = format!("going on     polled breakers {} times; ", 3 * slow);
+        assert!(page.contains(&polled), "{page}");
+    }
+}
+
 /// The customer's story: a jack query that returns its header alone, and an old jack in the page. Read whole, the old jack is used; in strict mode there
 /// is none.
 #[test]

@@ -1,5 +1,5 @@
 //! The port through its C entries, with stores and buffers that are used again, as a console keeps them.
-use crate::ways::{BUDGET, EVENT, FULL, Way, full_pages, page};
+use crate::ways::{BUDGET, EVENT, FULL, PLACES_SIZE, Way, full_pages, page};
 use snd::ffi::*;
 use snd::{MESSAGE_SIZE, PAGE_SIZE, PcmInfo, RESULT_SIZE, RING_SIZE, STATE_SIZE, STATUS_OK};
 use std::hint::black_box;
@@ -16,6 +16,7 @@ pub struct Entries {
     result: [u8; RESULT_SIZE],
     ok: [u8; PAGE_SIZE],
     pages: [[u8; PAGE_SIZE]; 3],
+    places: Vec<u8>,
 }
 
 impl Entries {
@@ -28,6 +29,7 @@ impl Entries {
             result: [0; RESULT_SIZE],
             ok: page(&[]),
             pages: full_pages(),
+            places: vec![0; PLACES_SIZE],
         };
         assert_eq!(snd_new(&mut new.state, 0, 1, 0), OK);
         assert_eq!(snd_ring_new(&mut new.ring), OK);
@@ -122,6 +124,23 @@ impl Way for Entries {
             }
         }
         0
+    }
+
+    fn submit(&mut self, period: &[u8]) {
+        let (message, result) = (&mut self.message, &mut self.result);
+        let out = snd_pcm_xfer_nb(
+            &mut self.state,
+            &self.ring,
+            0,
+            period,
+            &mut self.places,
+            message,
+            result,
+        );
+        assert_eq!(out, OK);
+        let token = self.told(0) as u32;
+        assert_eq!(snd_pcm_xfer_mark(&mut self.state, 1, token, STATUS_OK), OK);
+        assert_eq!(snd_pcm_xfer_ok(&mut self.state, token), OK);
     }
 
     fn event(&mut self) {

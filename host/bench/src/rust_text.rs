@@ -52,6 +52,8 @@ impl<const N: usize> Outside for Prepared<N> {
 
     fn submit(&mut self, _slot: u16, _stream: &[u8], _payload: &[u8]) {}
 
+    fn submit_one(&mut self, _token: u16, _buffer: &[u8]) {}
+
     fn reading(&mut self, flight: &[u16]) -> Option<(u32, u32)> {
         flight.first().map(|&oldest| (oldest.into(), STATUS_OK))
     }
@@ -62,13 +64,18 @@ impl<const N: usize> Outside for Prepared<N> {
 }
 
 impl Text {
-    fn make<const N: usize>(&mut self, call: Call, answers: Pages<N>) {
-        make(self.sound.as_mut(), call, answers, &self.turns);
+    fn make<const N: usize>(&mut self, call: Call, answers: Pages<N>) -> Vec<u64> {
+        make(self.sound.as_mut(), call, answers, &self.turns)
     }
 }
 
-fn make<const N: usize>(sound: &mut dyn oracle::Sound, call: Call, answers: Pages<N>, turns: &Rc<Cell<u64>>) {
-    let (end, _values) = sound.call(
+fn make<const N: usize>(
+    sound: &mut dyn oracle::Sound,
+    call: Call,
+    answers: Pages<N>,
+    turns: &Rc<Cell<u64>>,
+) -> Vec<u64> {
+    let (end, values) = sound.call(
         call,
         Box::new(Prepared {
             answers,
@@ -77,6 +84,7 @@ fn make<const N: usize>(sound: &mut dyn oracle::Sound, call: Call, answers: Page
         }),
     );
     assert_eq!(end, End::Number(0));
+    values
 }
 
 impl Way for Text {
@@ -116,6 +124,13 @@ impl Way for Text {
 
     fn announce_blindly(&mut self, frames: &[u8]) -> u64 {
         self.announce(frames)
+    }
+
+    fn submit(&mut self, period: &[u8]) {
+        let ok = self.ok.clone();
+        let token = self.make(Call::PcmXferNb(0, period), ok.clone())[0] as u16;
+        self.sound.complete(token, STATUS_OK);
+        self.make(Call::PcmXferOk(token), ok);
     }
 
     fn event(&mut self) {

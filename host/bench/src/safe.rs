@@ -1,7 +1,8 @@
 //! The port through the safe crate, as a Rust console writes it.
-use crate::ways::{BUDGET, EVENT, FULL, Way, full_pages, page};
+use crate::ways::{BUDGET, EVENT, FULL, PLACES_SIZE, Way, full_pages, page};
 use snd::{
-    Format, PAGE_SIZE, Page, Params, PcmInfo, Rate, Reading, Refusal, Ring, STATUS_OK, Sound, Step, StreamList, Turn,
+    Format, PAGE_SIZE, Page, Params, PcmInfo, Places, Rate, Reading, Refusal, Ring, STATUS_OK, Sound, Step, StreamList,
+    Submitted, Turn,
 };
 use std::hint::black_box;
 
@@ -10,6 +11,7 @@ pub struct Safe {
     ring: Ring,
     ok: Page,
     pages: [Page; 3],
+    places: Places<Vec<u8>>,
 }
 
 fn of(bytes: [u8; PAGE_SIZE]) -> Page {
@@ -43,6 +45,7 @@ impl Safe {
             ring,
             ok: of(page(&[])),
             pages: full_pages().map(of),
+            places: Places::new(vec![0; PLACES_SIZE]),
         }
     }
 
@@ -113,6 +116,18 @@ impl Way for Safe {
             }
         }
         0
+    }
+
+    fn submit(&mut self, period: &[u8]) {
+        let Ok(Submitted::Token(slot)) = self.sound.pcm_xfer_nb(&self.ring, 0, period, &mut self.places) else {
+            unreachable!("a place is free")
+        };
+        let reading = Reading::Completed {
+            slot,
+            status: STATUS_OK,
+        };
+        assert_eq!(self.sound.pcm_xfer_mark(reading), Ok(()));
+        assert_eq!(self.sound.pcm_xfer_ok(&mut self.places, slot), Ok(()));
     }
 
     fn event(&mut self) {

@@ -13,12 +13,16 @@ pub trait Way {
     fn announce(&mut self, frames: &[u8]) -> u64;
     /// The same, with no look at what is offered.
     fn announce_blindly(&mut self, frames: &[u8]) -> u64;
+    /// A submission that does not wait, its completion and its finish.
+    fn submit(&mut self, period: &[u8]);
     /// Reads an event.
     fn event(&mut self);
 }
 
 /// An event of 8 bytes.
 pub const EVENT: [u8; 8] = [0x01, 0x11, 0, 0, 3, 0, 0, 0];
+/// The places of submissions that do not wait, for the longest period here.
+pub const PLACES_SIZE: usize = snd::PLACES * (4000 + 4);
 /// More than every announcement here needs.
 pub const BUDGET: u64 = 1 << 40;
 

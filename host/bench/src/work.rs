@@ -16,6 +16,8 @@ pub enum Work {
     LongTurn,
     LongTurnAlone,
     LongAnnouncement,
+    Submission,
+    LongSubmission,
     Event,
 }
 
@@ -29,6 +31,8 @@ impl Work {
         Self::LongTurn,
         Self::LongTurnAlone,
         Self::LongAnnouncement,
+        Self::Submission,
+        Self::LongSubmission,
         Self::Event,
     ];
 
@@ -42,6 +46,8 @@ impl Work {
             Self::LongTurn => "long-turn",
             Self::LongTurnAlone => "long-turn-alone",
             Self::LongAnnouncement => "long-announcement",
+            Self::Submission => "submission",
+            Self::LongSubmission => "long-submission",
             Self::Event => "event",
         }
     }
@@ -56,6 +62,8 @@ impl Work {
             Self::LongTurn => "one turn, frames 1,000 times longer",
             Self::LongTurnAlone => "one turn alone, frames 1,000 times longer",
             Self::LongAnnouncement => "an announcement, frames 1,000 times longer",
+            Self::Submission => "a submission, its mark and its finish",
+            Self::LongSubmission => "the same, a period 1,000 times longer",
             Self::Event => "an event",
         }
     }
@@ -68,15 +76,16 @@ impl Work {
     /// Bytes of a period.
     const fn period(self) -> u32 {
         match self {
-            Self::LongTurn | Self::LongTurnAlone | Self::LongAnnouncement => 4000,
+            Self::LongTurn | Self::LongTurnAlone | Self::LongAnnouncement | Self::LongSubmission => 4000,
             _ => 4,
         }
     }
 
-    /// The frames of its announcement, if it has one.
+    /// The frames of its announcement, if it has one; of a submission its period.
     pub fn frames(self) -> Vec<u8> {
         match self {
             Self::Control | Self::SetUp | Self::Event => vec![],
+            Self::Submission | Self::LongSubmission => vec![0x55; self.period() as usize],
             _ => vec![0x55; PERIODS * self.period() as usize],
         }
     }
@@ -95,6 +104,7 @@ pub fn run(work: Work, way: &mut dyn Way, frames: &[u8], times: u64) -> u64 {
             Work::Turn | Work::LongTurn => return way.announce(frames),
             Work::TurnAlone | Work::LongTurnAlone => return way.announce_blindly(frames),
             Work::Announcement | Work::LongAnnouncement => _ = way.announce(frames),
+            Work::Submission | Work::LongSubmission => way.submit(frames),
         }
         1
     };

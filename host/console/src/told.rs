@@ -210,6 +210,7 @@ impl Told {
             strict: true,
             guard: false,
             jacks: None,
+            going_on: None,
             stream: self.stream,
             turns: self.turns,
             submitted: self.submitted,

@@ -2,8 +2,8 @@
 //! this only has to look whether that function is asked for.
 #![no_std]
 use snd::{
-    Features, Format, Formats, Model, Page, Params, Rate, Rates, Reading, Refusal, Ring, Sound, Started, Status, Step,
-    StreamList, Unfed, Value, latest_notification, wav,
+    Features, Format, Formats, Model, Page, Params, Pending, Places, Rate, Rates, Reading, Refusal, Ring, Sound,
+    Started, Status, Step, StreamList, Submitted, Unfed, Value, latest_notification, wav,
 };
 
 unsafe extern "C" {
@@ -22,6 +22,7 @@ pub struct Console {
     ring: Ring,
     model: Model,
     page: Page,
+    places: Places<&'static mut [u8]>,
     number: u32,
     bytes: [u8; 64],
     length: usize,
@@ -31,7 +32,7 @@ pub struct Console {
 #[unsafe(no_mangle)]
 pub extern "C" fn guest_main(console: &mut Console) -> u64 {
     [
-        calls, supported, feeds, lists, turns, transfer, reads, device, waves, values,
+        calls, supported, feeds, lists, turns, transfer, pending, reads, device, waves, values,
     ]
     .iter()
     .fold(0, |sum, part| part(console).wrapping_add(sum))
@@ -184,6 +185,36 @@ fn transfer(console: &mut Console) -> u64 {
     let kept = sum(transfer.frames()) ^ transfer.ring().turns_run().unwrap_or(0);
     let ended = transfer.end().map_or(0, |frames| sum(frames));
     offered ^ u64::from(turned) ^ u64::from(drained) ^ kept ^ ended
+}
+
+fn pending(console: &mut Console) -> u64 {
+    let payload = console.bytes.get(..console.length).unwrap_or_default();
+    let Console {
+        sound,
+        ring,
+        places,
+        number,
+        ..
+    } = console;
+    let reading = Reading::Completed {
+        slot: *number,
+        status: *number,
+    };
+    let out = match sound.pcm_xfer_nb(ring, *number, payload, places) {
+        Ok(Submitted::Token(token)) => places.request(token).map_or(0, sum),
+        Ok(Submitted::SetUp(exchange)) => length(sound.feed_failure(exchange)),
+        Err(refusal) => refused(refusal),
+    };
+    let marked = sound.pcm_xfer_mark(reading).map_or_else(refused, |()| 0);
+    let held = match sound.pending_token(*number) {
+        Ok(Pending::Free) => 0,
+        Ok(Pending::Waits) => 1,
+        Ok(Pending::Marked { status }) => status.into(),
+        Err(refusal) => refused(refusal),
+    };
+    let ended = sound.pcm_xfer_ok(places, *number).map_or_else(refused, |()| 0);
+    let count = sound.pending_count().unwrap_or(0);
+    out ^ marked ^ held ^ ended ^ count ^ places.size() as u64
 }
 
 fn reads(console: &mut Console) -> u64 {

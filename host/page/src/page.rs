@@ -25,6 +25,8 @@ pub struct Page<'p> {
     pub guard: bool,
     /// What came of the query of jacks, where the device cut its answer.
     pub jacks: Option<Jacks>,
+    /// Where periods did not wait: what the console did meanwhile.
+    pub going_on: Option<GoingOn>,
     /// Where one was found.
     pub stream: Option<Stream>,
     /// The turns of the transfer.
@@ -80,6 +82,19 @@ pub struct Jacks {
     pub sent: bool,
     /// What the remap was answered.
     pub answer: Answer,
+}
+
+/// An announcement whose periods did not wait.
+#[derive(Clone, Copy, PartialEq, Eq, Debug)]
+pub struct GoingOn {
+    /// How often breakers were polled while it was spoken.
+    pub polled: u64,
+    /// At which poll one was seen to open.
+    pub opened: Option<u64>,
+    /// The most periods that were pending at a time.
+    pub most: u64,
+    /// Bytes of silence with which the last period was filled up, if it was submitted.
+    pub filled: usize,
 }
 
 /// The turns of a transfer.
@@ -220,13 +235,16 @@ fn announcement(lines: &mut Lines, page: &Page) -> fmt::Result {
 /// What the device did.
 fn device(lines: &mut Lines, page: &Page) -> fmt::Result {
     turns(lines, &page.turns)?;
+    if let Some(told) = &page.going_on {
+        going_on(lines, told)?;
+    }
     lines.line("submitted", Count(page.submitted, "period"))?;
     accepted(lines, page)?;
     sum(lines, "accepted", &page.accepted)?;
     for fault in page.faults {
         lines.line("fault", fault)?;
     }
-    owed(lines, page.owed)?;
+    owed(lines, page)?;
     if page.owed > 0 {
         drained(lines, &page.drain)?;
         sum(lines, "drained", &page.drain.accepted)?;
@@ -417,9 +435,36 @@ fn sum(lines: &mut Lines, name: &str, part: &Part) -> fmt::Result {
     }
 }
 
-fn owed(lines: &mut Lines, slots: u64) -> fmt::Result {
-    match slots {
+/// Whether the console was kept from its other work.
+fn going_on(lines: &mut Lines, told: &GoingOn) -> fmt::Result {
+    let polled = Count(told.polled, "time");
+    match told.opened {
+        None => lines.line("going on", format_args!("polled breakers {polled}; none opened"))?,
+        Some(poll) => lines.line(
+            "going on",
+            format_args!("polled breakers {polled}; one was seen to open at poll {poll}"),
+        )?,
+    }
+    lines.line(
+        "pending",
+        format_args!("at most {} of {} places were taken at a time", told.most, snd::PLACES),
+    )?;
+    match told.filled {
+        0 => Ok(()),
+        filled => lines.line(
+            "filled",
+            format_args!("the last period, with {filled} bytes of silence: what does not wait is a whole period"),
+        ),
+    }
+}
+
+fn owed(lines: &mut Lines, page: &Page) -> fmt::Result {
+    match page.owed {
         0 => lines.line("owed", "nothing"),
+        periods if page.going_on.is_some() => lines.line(
+            "owed",
+            format_args!("{} pending when it was broken off", Count(periods, "period")),
+        ),
         slots => lines.line(
             "owed",
             format_args!("{} in flight when the transfer answered", Count(slots, "slot")),

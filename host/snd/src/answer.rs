@@ -93,7 +93,7 @@ macro_rules! table {
 }
 
 table! {
-    /// A bad id, number or period rule; a feed with no exchange open; a turn with no transfer running; a drain turn while one runs; a
+    /// A bad id, number or period rule; a payload that is not one period; a feed with no exchange open; a turn with no transfer running; a drain turn while one runs; a
     /// store that is inconsistent.
     InvalidParam = 1,
     /// The device's status was not ok, which is the cause; or, with none, the stream has no parameters, or an event's code is unknown.
@@ -104,15 +104,16 @@ table! {
     NoInfo = 4,
     /// More records than a page holds.
     TooMany = 5,
-    /// A completion that does not name the oldest slot in flight.
+    /// A completion that does not name the oldest slot in flight; of submissions that do not wait, a token that is not pending, or was
+    /// completed already.
     WrongToken = 6,
     /// The queue reported failure of a control request.
     QueueFailed = 7,
-    /// An exchange is open, a transfer runs, or a slot is in flight.
+    /// An exchange is open, a transfer runs, or a slot is in flight; of the start of a transfer also that a token is pending.
     Busy = 8,
     /// The turn budget is used up.
     OutOfTurns = 9,
-    /// A lent slice has a wrong length, or a device is said to have written more than a page.
+    /// A lent slice has a wrong length, or a device is said to have written more than a page; a place that is shorter than a period and 4.
     BadLength = 10,
     /// In strict mode ([`crate::Sound::feed_written`]): the device wrote fewer bytes than its answer needs.
     Short = 11,
@@ -123,6 +124,10 @@ table! {
     NotWave = 13,
     /// A WAVE file's format, rate, channels or block size is not taken; to write one, the frames too ([`crate::wav`]).
     BadSound = 14,
+    /// Every place for submissions that do not wait is taken ([`crate::Sound::pcm_xfer_nb`]): finish one first.
+    Full = 15,
+    /// A submission that is to be finished, and whose completion was not seen yet ([`crate::Sound::pcm_xfer_ok`]).
+    NotYet = 16,
 }
 
 impl Answer {
@@ -251,7 +256,7 @@ mod tests {
 
     #[test]
     fn a_number_outside_the_table_is_unknown() {
-        for number in [15, 255, 514, u64::MAX] {
+        for number in [17, 255, 514, u64::MAX] {
             assert_eq!(Said::of(number), Said::Refused(Refusal::Unknown));
         }
         assert_eq!(Said::done(512), Err(Refusal::Unknown));

@@ -129,6 +129,18 @@ entries! {
     /// The oldest slot in flight.
     fn snd_ring_oldest(ring: &[u8], result: &mut [u8],);
 
+    /// A submission that does not wait.
+    fn snd_pcm_xfer_nb(state: &mut [u8], ring: &[u8], stream: u32, payload: &[u8], places: &mut [u8],
+        message: &mut [u8], result: &mut [u8],);
+    /// A completion reading of it.
+    fn snd_pcm_xfer_mark(state: &mut [u8], kind: u32, token: u32, status: u32,);
+    /// Its finish.
+    fn snd_pcm_xfer_ok(state: &mut [u8], token: u32,);
+    /// How many tokens are pending.
+    fn snd_pending_count(state: &[u8], result: &mut [u8],);
+    /// What stands under a token.
+    fn snd_pending_token(state: &[u8], token: usize, result: &mut [u8],);
+
     /// What an event says.
     fn snd_latest_notification(event: &[u8], result: &mut [u8],);
 

@@ -8,6 +8,12 @@ const WAITS: usize = 24;
 /// Where it says whether there is a guard, 8 bytes; and where streams' states stand, a byte each.
 const GUARD: usize = 48;
 const LIVES: usize = 14_320;
+/// How many streams' states there are.
+const STREAMS: usize = 127;
+/// Where its tokens stand, its last bytes: state 4, status 4 each.
+const TOKENS: usize = 14_447;
+const TOKEN: usize = 8;
+const TOKEN_COUNT: usize = 32;
 /// Descriptors of a submission.
 const DESCRIPTORS: u8 = 3;
 
@@ -55,7 +61,10 @@ pub(crate) fn set_up(state: &[u8; STATE_SIZE]) -> bool {
 
 /// The states of so many streams, to be shown; `None` with no guard.
 pub(crate) fn lives(state: &[u8; STATE_SIZE], streams: u32) -> Option<Lives<'_>> {
-    let lives = state.get(LIVES..).unwrap_or_default();
+    let lives = state
+        .get(LIVES..)
+        .and_then(|rest| rest.get(..STREAMS))
+        .unwrap_or_default();
     let counted = lives.get(..streams as usize).unwrap_or(lives);
     (u64_at(state, GUARD) != 0).then_some(Lives(counted))
 }
@@ -81,6 +90,51 @@ impl fmt::Debug for Life {
             4 => "stop",
             _ => "no state",
         })
+    }
+}
+
+/// A token's state and status; one that is not there is free.
+fn token(state: &[u8; STATE_SIZE], token: usize) -> (u32, u32) {
+    let [s0, s1, s2, s3, w0, w1, w2, w3] = run(state, token.saturating_mul(TOKEN).saturating_add(TOKENS));
+    (
+        u32::from_le_bytes([s0, s1, s2, s3]),
+        u32::from_le_bytes([w0, w1, w2, w3]),
+    )
+}
+
+/// Whether something is pending under a token.
+pub(crate) fn taken(state: &[u8; STATE_SIZE], of: usize) -> bool {
+    token(state, of).0 != 0
+}
+
+/// What is pending, to be shown; `None` where nothing is.
+pub(crate) fn tokens(state: &[u8; STATE_SIZE]) -> Option<Tokens<'_>> {
+    (0..TOKEN_COUNT).any(|of| taken(state, of)).then_some(Tokens(state))
+}
+
+/// The tokens of a state that are pending, each with what is known of it.
+pub(crate) struct Tokens<'s>(&'s [u8; STATE_SIZE]);
+
+impl fmt::Debug for Tokens<'_> {
+    fn fmt(&self, f: &mut fmt::Formatter<'_>) -> fmt::Result {
+        let all = (0..TOKEN_COUNT).map(|of| (of, token(self.0, of)));
+        f.debug_map()
+            .entries(
+                all.filter(|(_, (state, _))| *state != 0)
+                    .map(|(of, told)| (of, Told(told))),
+            )
+            .finish()
+    }
+}
+
+struct Told((u32, u32));
+
+impl fmt::Debug for Told {
+    fn fmt(&self, f: &mut fmt::Formatter<'_>) -> fmt::Result {
+        match self.0 {
+            (1, _) => f.write_str("waits"),
+            (_, status) => write!(f, "marked {status:#06x}"),
+        }
     }
 }
 

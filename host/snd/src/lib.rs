@@ -37,6 +37,8 @@
 //!
 //! A transfer goes turn by turn, and keeps its frames until no device reads them: see [`Transfer`].
 //!
+//! A console that has other work meanwhile submits period by period and goes on: see [`Places`].
+//!
 //! With the feature `alloc` frames may be a `Vec<u8>` or a `Box<[u8]>`; else the crate needs no allocator.
 #![no_std]
 #![deny(unsafe_code)]
@@ -62,6 +64,7 @@ pub mod ffi;
 mod layout;
 mod model;
 mod params;
+mod pending;
 mod records;
 mod ring;
 mod sound;
@@ -75,6 +78,7 @@ pub use answer::{Answer, Refusal};
 pub use event::{Event, EventKind, latest_notification};
 pub use model::{Model, TransferStatus};
 pub use params::{Format, Params, Rate};
+pub use pending::{Pending, PlaceStore, Places, Submitted};
 pub use records::{ChannelMap, JackInfo, PcmInfo};
 pub use ring::{Carried, Offer, Reading, Ring, Turn};
 pub use sound::Sound;
@@ -84,7 +88,7 @@ pub use supported::{ChannelRange, Features, Formats, Rates};
 pub use transfer::{Frames, Started, Transfer};
 
 /// The size of a state's store.
-pub const STATE_SIZE: usize = 14_447;
+pub const STATE_SIZE: usize = 14_703;
 /// The size of a ring's store.
 pub const RING_SIZE: usize = 608;
 /// The size of a message buffer.
@@ -100,3 +104,5 @@ pub const MODEL_SIZE: usize = 16_427;
 pub const STATUS_OK: u32 = 0x8000;
 /// How many slots a ring has: the length of an array by slot.
 pub const SLOTS: usize = 32;
+/// How many places there are for submissions that do not wait: the length of an array by token.
+pub const PLACES: usize = 16;

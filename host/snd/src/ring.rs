@@ -12,9 +12,9 @@ use core::fmt;
 pub enum Reading {
     /// Nothing was completed.
     Quiet,
-    /// The device has completed a slot, with this status.
+    /// The device has completed a slot, or a submission that does not wait, with this status.
     Completed {
-        /// The slot that the device names. Any number is safe; one that is not the oldest in flight is [`Refusal::WrongToken`]. A queue
+        /// The slot that the device names; of what does not wait, the token. Any number is safe; one that is not the oldest in flight is [`Refusal::WrongToken`]. A queue
         /// entry that names nothing you have out, as after a reset, is passed as `u32::MAX`.
         slot: u32,
         /// The status in the device's answer; 0x8000 is ok.
@@ -24,7 +24,7 @@ pub enum Reading {
 
 impl Reading {
     /// Kind, slot and status, as the entries take them.
-    const fn numbers(self) -> (u32, u32, u32) {
+    pub(crate) const fn numbers(self) -> (u32, u32, u32) {
         match self {
             Self::Quiet => (0, 0, 0),
             Self::Completed { slot, status } => (1, slot, status),

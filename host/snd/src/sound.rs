@@ -1,10 +1,12 @@
 //! The driver's state and its calls.
 use crate::answer::Said;
-use crate::bytes::Results;
-use crate::layout::{lives, new_state, open, set_up};
+use crate::bytes::{Results, u64_at};
+use crate::layout::{lives, new_state, open, set_up, tokens};
+use crate::pending::token;
 use crate::step::{Exchange, Page, Step, Unfed, Value, narrow, told};
 use crate::{
-    ChannelRange, Features, Formats, Frames, Params, Rates, Refusal, Ring, Started, StreamList, Transfer, ffi,
+    ChannelRange, Features, Formats, Frames, Params, Pending, PlaceStore, Places, Rates, Reading, Refusal, Ring,
+    Started, StreamList, Submitted, Transfer, ffi,
 };
 use crate::{MESSAGE_SIZE, PAGE_SIZE, RESULT_SIZE, RING_SIZE, STATE_SIZE};
 use core::borrow::{Borrow, BorrowMut};
@@ -136,9 +138,25 @@ impl<S: Borrow<[u8; STATE_SIZE]>> Sound<S> {
     pub fn chmaps(&self) -> Result<u32, Refusal> {
         self.count(ffi::snd_chmaps)
     }
+
+    /// How many submissions that do not wait are pending, marked or not. Needs no set-up and is never Busy.
+    pub fn pending_count(&self) -> Result<u64, Refusal> {
+        told(
+            |result| ffi::snd_pending_count(self.store(), result),
+            |result| u64_at(result, 0),
+        )
+    }
+
+    /// What stands under a token. One of 32 or more is [`Refusal::InvalidParam`]; from 16 on none is ever given out.
+    pub fn pending_token(&self, token: u32) -> Result<Pending, Refusal> {
+        told(
+            |result| ffi::snd_pending_token(self.store(), token as usize, result),
+            Pending::read,
+        )?
+    }
 }
 
-/// Short: the counts, what is open and, under the guard, each stream's last ok command; or that the store is inconsistent.
+/// Short: the counts, what is open, under the guard each stream's last ok command, and the tokens that are pending; or that the store is inconsistent.
 impl<S: Borrow<[u8; STATE_SIZE]>> fmt::Debug for Sound<S> {
     fn fmt(&self, f: &mut fmt::Formatter<'_>) -> fmt::Result {
         let (Ok(jacks), Ok(streams), Ok(chmaps)) = (self.jacks(), self.streams(), self.chmaps()) else {
@@ -154,6 +172,9 @@ impl<S: Borrow<[u8; STATE_SIZE]>> fmt::Debug for Sound<S> {
         if let Some(lives) = lives(self.store(), streams) {
             said.field("guarded", &lives);
         }
+        if let Some(tokens) = tokens(self.store()) {
+            said.field("pending", &tokens);
+        }
         said.finish()
     }
 }
@@ -161,7 +182,8 @@ impl<S: Borrow<[u8; STATE_SIZE]>> fmt::Debug for Sound<S> {
 /// An entry that takes state, ring and stream.
 type OfStream = fn(&mut [u8], &[u8], u32, &mut [u8], &mut [u8]) -> u64;
 
-/// Calls. Each is refused with [`Refusal::Busy`] while an exchange is open, a transfer runs or a slot is in flight.
+/// Calls. Each is refused with [`Refusal::Busy`] while an exchange is open, a transfer runs or a slot is in flight. What does not wait
+/// ([`Places`]) keeps none of them back.
 ///
 /// ```
 /// use snd::{Format, Model, Page, Params, PcmInfo, Rate, Refusal, Ring, Sound, Step};
@@ -487,5 +509,67 @@ impl<S: BorrowMut<[u8; STATE_SIZE]>> Sound<S> {
             Said::Ok => Err(Refusal::Unknown),
             _ => Step::of(answer, message, self.store(), &[0; RESULT_SIZE]),
         }
+    }
+}
+
+/// Submissions that do not wait: see [`Places`]. Control calls go on meanwhile; the start of a transfer is [`Refusal::Busy`] while a token is
+/// pending.
+impl<S: BorrowMut<[u8; STATE_SIZE]>> Sound<S> {
+    /// Copies stream id and payload into the lowest free place, whose number is the token, and goes on. The payload is one whole period.
+    ///
+    /// Busy while an exchange is open, a transfer runs or a slot is in flight. Refused after that, in this order: 1 for a stream too high, 12
+    /// under the guard, 2 where it has no parameters, 1 for a payload that is not one period, 10 for a place that is shorter than a
+    /// period and 4, and [`Refusal::Full`] where every place is taken. A refusal changes nothing.
+    ///
+    /// Start the stream first, as for a transfer. Places in which this state does not know what is pending are [`Refusal::InvalidParam`].
+    pub fn pcm_xfer_nb<P: PlaceStore>(
+        &mut self,
+        ring: &Ring<impl Borrow<[u8; RING_SIZE]>>,
+        stream: u32,
+        payload: &[u8],
+        places: &mut Places<P>,
+    ) -> Result<Submitted, Refusal> {
+        if !places.go_with(self.store()) {
+            return Err(Refusal::InvalidParam);
+        }
+        let (mut message, mut result) = ([0; MESSAGE_SIZE], [0; RESULT_SIZE]);
+        let answer = ffi::snd_pcm_xfer_nb(
+            self.state(),
+            ring.store(),
+            stream,
+            payload,
+            places.bytes_mut(),
+            &mut message,
+            &mut result,
+        );
+        match Step::of(answer, message, self.store(), &result)? {
+            Step::Send(exchange) => Ok(Submitted::SetUp(exchange)),
+            Step::Done(()) => {
+                let token = token(&result)?;
+                places.take(token, payload.len());
+                Ok(Submitted::Token(token))
+            }
+        }
+    }
+
+    /// A completion reading: marks the token that it names, whatever its status. A quiet one changes nothing. A token that is not pending, or
+    /// was completed already, is [`Refusal::WrongToken`]: the first status stays. Needs no set-up and is never Busy.
+    pub fn pcm_xfer_mark(&mut self, reading: Reading) -> Result<(), Refusal> {
+        let (kind, token, status) = reading.numbers();
+        Said::done(ffi::snd_pcm_xfer_mark(self.state(), kind, token, status))
+    }
+
+    /// Finishes a submission that was marked, in any order: its place is free again, also where the device's status was not ok, which is
+    /// [`Refusal::IoError`] with that status. One that is not marked is [`Refusal::NotYet`], a token that is not pending
+    /// [`Refusal::WrongToken`]; both change nothing. Needs no set-up and is never Busy.
+    pub fn pcm_xfer_ok<P: PlaceStore>(&mut self, places: &mut Places<P>, token: u32) -> Result<(), Refusal> {
+        if !places.go_with(self.store()) {
+            return Err(Refusal::InvalidParam);
+        }
+        let said = Said::done(ffi::snd_pcm_xfer_ok(self.state(), token));
+        if matches!(said, Ok(()) | Err(Refusal::IoError(_))) {
+            places.free(token);
+        }
+        said
     }
 }

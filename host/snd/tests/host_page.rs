@@ -1,6 +1,8 @@
-//! The audio loop, the strict feed, the refusal told and the announcement from a file of docs/HOST.md run, and the page shows the texts that ran.
+//! The audio loop, the strict feed, the refusal told, the announcement from a file and the loop that does not wait of docs/HOST.md run, and the page shows the texts that ran.
 #[path = "../examples/audio_loop.rs"]
 mod audio_loop;
+#[path = "../examples/go_on.rs"]
+mod go_on;
 #[path = "../examples/refused.rs"]
 mod refused;
 #[path = "../examples/strict_mode.rs"]
@@ -29,6 +31,11 @@ fn a_file_says_what_a_stream_is_set_to() {
 }
 
 #[test]
+fn the_loop_that_does_not_wait_goes_on() {
+    assert_eq!(go_on::main(), Ok(()));
+}
+
+#[test]
 fn the_page_shows_the_texts_that_ran() {
     let page = include_str!("../../../docs/HOST.md");
     let texts = [
@@ -36,6 +43,7 @@ fn the_page_shows_the_texts_that_ran() {
         include_str!("../examples/strict_mode.rs"),
         include_str!("../examples/refused.rs"),
         include_str!("../examples/wave_file.rs"),
+        include_str!("../examples/go_on.rs"),
     ];
     let blocks: Vec<_> = page.split("```").skip(1).step_by(2).collect();
     assert_eq!(blocks.len(), texts.len());

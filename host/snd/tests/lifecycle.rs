@@ -163,7 +163,7 @@ fn all_25_pairs_of_a_state_and_a_command() {
             assert_eq!(feed(&mut lent, OK), DONE);
             assert_eq!(usize::from(lent.state[LIVES]), command, "{command} from {from}");
             assert_eq!(
-                lent.state[LIVES + 1..],
+                lent.state[LIVES + 1..][..126],
                 [0; 126],
                 "{command} from {from} moved another stream"
             );
@@ -306,11 +306,11 @@ fn parameters_outlive_a_release_and_a_prepared_stream_is_prepared_again_once_the
 fn without_the_guard_everything_is_sent() {
     for way in WAYS {
         let left = led(false, way);
-        assert_eq!(left.state[LIVES..], [0; 127]);
+        assert_eq!(left.state[LIVES..][..127], [0; 127]);
         for command in COMMANDS {
             let mut lent = left.clone();
             goes(&mut lent, command);
-            assert_eq!(lent.state[LIVES..], [0; 127]);
+            assert_eq!(lent.state[LIVES..][..127], [0; 127]);
             if command != SET {
                 assert_eq!(ask(&mut lent, command, u32::MAX), SEND + 8);
             }

@@ -1,7 +1,10 @@
 //! Every refusal but 10, each way to it.
 mod common;
 use common::{Desk, PARAMS, sent};
-use snd::{Cause, Model, Page, Params, PcmInfo, Reading, Refusal, Ring, STATUS_OK, Sound, Status, Step, Unfed, Value};
+use snd::{
+    Cause, Model, PLACES, Page, Params, PcmInfo, Places, Reading, Refusal, Ring, STATUS_OK, Sound, Status, Step,
+    Submitted, Unfed, Value,
+};
 
 const OK: Reading = Reading::Completed {
     slot: 0,
@@ -373,6 +376,20 @@ fn short_11() {
     }
 }
 
+/// Each way to them, and to 1, 2, 6, 8, 10 and 12 of what does not wait: tests/pending.rs.
+#[test]
+fn full_15_and_not_yet_16() {
+    let mut desk = Desk::with_params();
+    let mut places = Places::new(vec![0; PLACES * 8]);
+    for token in 0..PLACES as u32 {
+        let out = desk.sound.pcm_xfer_nb(&desk.ring, 0, b"four", &mut places);
+        assert_eq!(out, Ok(Submitted::Token(token)));
+    }
+    let out = desk.sound.pcm_xfer_nb(&desk.ring, 0, b"four", &mut places);
+    assert_eq!(out, Err(Refusal::Full));
+    assert_eq!(desk.sound.pcm_xfer_ok(&mut places, 0), Err(Refusal::NotYet));
+}
+
 /// Each way to them: tests/wav.rs.
 #[test]
 fn not_wave_13_and_bad_sound_14() {
@@ -434,6 +451,8 @@ fn answers_have_the_documents_numbers() {
         (12, "BadState"),
         (13, "NotWave"),
         (14, "BadSound"),
+        (15, "Full"),
+        (16, "NotYet"),
     ];
     for (number, name) in names {
         let refusal = Refusal::of(u64::from(number) | 0x8002 << 32);
@@ -453,7 +472,7 @@ fn answers_have_the_documents_numbers() {
         );
     }
     assert_eq!((snd::Answer::Ok.number(), snd::Answer::Ok.name()), (0, "Ok"));
-    assert_eq!(Refusal::of(15), Refusal::Unknown);
+    assert_eq!(Refusal::of(17), Refusal::Unknown);
     assert_eq!(
         Refusal::of(0x8000_0000_0003).to_string(),
         "3 Unsupported: no status caused it"

@@ -78,6 +78,7 @@ fn cases() -> Vec<Lent> {
         Lent::good(),
         Lent::idle(),
         Lent::asking(),
+        Lent::pending(),
         full,
         completed,
         refused,

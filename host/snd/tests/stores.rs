@@ -1,7 +1,10 @@
 //! The few places of stores that the crate itself knows: new stores as constants write them, and what `Debug` shows.
 mod common;
 use common::{Desk, PARAMS, sent};
-use snd::{MODEL_SIZE, Model, RING_SIZE, Reading, Refusal, Ring, STATE_SIZE, Sound, Step, Turn, ffi};
+use snd::{
+    MODEL_SIZE, Model, Pending, Places, RING_SIZE, Reading, Refusal, Ring, STATE_SIZE, Sound, Step, Submitted, Turn,
+    ffi,
+};
 use std::sync::Mutex;
 
 /// Counts at the edges of a byte, of a page and of their width.
@@ -135,6 +138,45 @@ fn a_guarded_state_shows_where_its_streams_are() {
     }
     let shown = format!("{:?}", Sound::new_guarded(0, u32::MAX, 0));
     assert_eq!(shown.matches("set parameters").count(), 127);
+}
+
+#[test]
+fn a_state_and_places_show_what_is_pending() {
+    let mut desk = Desk::with_params();
+    let mut places = Places::new(vec![0; 16 * 8 + 3]);
+    assert!(!format!("{:?}", desk.sound).contains("pending"));
+    assert_eq!(format!("{places:?}"), "Places { size: 8, taken: [] }");
+    for token in 0..3 {
+        let out = desk.sound.pcm_xfer_nb(&desk.ring, 0, b"four", &mut places);
+        assert_eq!(out, Ok(Submitted::Token(token)));
+    }
+    let marked = Reading::Completed { slot: 1, status: 3 };
+    desk.sound.pcm_xfer_mark(marked).unwrap();
+    let marked = Reading::Completed {
+        slot: 0,
+        status: 0x8000,
+    };
+    desk.sound.pcm_xfer_mark(marked).unwrap();
+    desk.sound.pcm_xfer_ok(&mut places, 0).unwrap();
+    let shown = format!("{:?}", desk.sound);
+    assert!(
+        shown.ends_with("open: nothing, pending: {1: marked 0x0003, 2: waits} }"),
+        "{shown}"
+    );
+    assert_eq!(format!("{places:?}"), "Places { size: 8, taken: [1, 2] }");
+    // the places that the crate knows are those of the archive: each token in turn
+    for token in 0..32 {
+        let mut store = *desk.sound.store();
+        store[STATE_SIZE - 256..].fill(0);
+        store[STATE_SIZE - 256 + 8 * token as usize] = 1;
+        let sound = Sound::over(store);
+        assert_eq!(
+            (sound.pending_count(), sound.pending_token(token)),
+            (Ok(1), Ok(Pending::Waits))
+        );
+        let shown = format!("{sound:?}");
+        assert!(shown.ends_with(&format!("pending: {{{token}: waits}} }}")), "{shown}");
+    }
 }
 
 #[test]

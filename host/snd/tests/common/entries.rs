@@ -16,7 +16,7 @@ macro_rules! entries {
     };
 }
 
-/// The 47 entries, in the header's order.
+/// The 52 entries, in the header's order.
 pub const ENTRIES: &[Entry] = entries! {
     snd_state_size [] |_l| ();
     snd_ring_size [] |_l| ();
@@ -61,6 +61,12 @@ pub const ENTRIES: &[Entry] = entries! {
     snd_ring_stream [Ring Result] |l| (&l.ring, &mut l.result);
     snd_ring_carried [Ring Result] |l| (&l.ring, l.numbers[0] as usize, &mut l.result);
     snd_ring_oldest [Ring Result] |l| (&l.ring, &mut l.result);
+    snd_pcm_xfer_nb [State Ring Message Result]
+        |l| (&mut l.state, &l.ring, l.numbers[0], &l.payload, &mut l.places, &mut l.message, &mut l.result);
+    snd_pcm_xfer_mark [State] |l| (&mut l.state, l.numbers[3], l.numbers[0], l.numbers[1]);
+    snd_pcm_xfer_ok [State] |l| (&mut l.state, l.numbers[0]);
+    snd_pending_count [State Result] |l| (&l.state, &mut l.result);
+    snd_pending_token [State Result] |l| (&l.state, l.numbers[0] as usize, &mut l.result);
     snd_latest_notification [Result] |l| (&l.event, &mut l.result);
     snd_wav_read [Result] |l| (&l.file, &mut l.result);
     snd_wav_write [File] |l| (l.narrow[0], l.narrow[1], l.narrow[2], &l.samples, &mut l.file);

@@ -15,6 +15,9 @@ pub struct Lent {
     pub page: Vec<u8>,
     pub model: Vec<u8>,
     pub frames: Vec<u8>,
+    /// One period, and places that have room for it and a byte more; the last bytes belong to none.
+    pub payload: Vec<u8>,
+    pub places: Vec<u8>,
     pub request: Vec<u8>,
     pub answer: Vec<u8>,
     pub event: Vec<u8>,
@@ -84,6 +87,18 @@ impl Lent {
         }
     }
 
+    /// Set up, with tokens 0 to 2 pending, of which 1 is marked with a status that is not ok.
+    pub fn pending() -> Self {
+        let mut lent = Self::idle();
+        for token in 0..3u8 {
+            assert_eq!((super::entries::entry("snd_pcm_xfer_nb").call)(&mut lent), 0);
+            assert_eq!(lent.result[0], token);
+        }
+        assert_eq!(ffi::snd_pcm_xfer_mark(&mut lent.state, 1, 1, 0x8003), 0);
+        lent.numbers[0] = 1;
+        lent
+    }
+
     /// The first request of set-up is out.
     pub fn asking() -> Self {
         let mut lent = Self::idle();
@@ -102,6 +117,8 @@ impl Lent {
             result: vec![0xa2; RESULT_SIZE],
             page: vec![0; PAGE_SIZE],
             frames: FRAMES.to_vec(),
+            payload: b"four".to_vec(),
+            places: vec![0xa4; snd::PLACES * (4 + 4 + 1) + 7],
             request: vec![2, 1, 0, 0, 0, 0, 0, 0],
             answer: vec![0xa3; 8],
             event: vec![0, 16, 0, 0, 1, 0, 0, 0],
