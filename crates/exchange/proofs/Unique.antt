@@ -15,6 +15,10 @@ use Rattle.exchange.proofs.state.Sound.new_guarded.Reads as new-guarded
 use Rattle.exchange.proofs.state.Sound.jacks.Reads as jacks
 use Rattle.exchange.proofs.state.Sound.streams.Reads as streams
 use Rattle.exchange.proofs.state.Sound.chmaps.Reads as chmaps
+use Rattle.exchange.proofs.effect.direction_at.Reads as direction-at
+use Rattle.exchange.proofs.effect.life_at.Reads as life-at
+use Rattle.exchange.proofs.effect.look.Reads as look
+use Rattle.exchange.proofs.effect.pending_look.Reads as pending-look
 use Rattle.exchange.proofs.calls.jack_remap.Reads as jack-remap
 use Rattle.exchange.proofs.calls.pcm_set_params.Reads as pcm-set-params
 use Rattle.exchange.proofs.calls.pcm_prepare.Reads as pcm-prepare
@@ -127,3 +131,15 @@ pending-count-one κs a r₁ r₂ e₁ e₂ p q = one saysConfigured unConfigure
 
 pub pending-token-one : (κs : _) (a : _) (r₁ r₂ : _) (e₁ e₂ : _) → pending-token.Post κs a r₁ e₁ → pending-token.Post κs a r₂ e₂ → r₁ ≡ r₂
 pending-token-one κs a r₁ r₂ e₁ e₂ p q = same p q
+
+pub direction-at-one : (κs : _) (a : _) (r₁ r₂ : _) (e₁ e₂ : _) → direction-at.Post κs a r₁ e₁ → direction-at.Post κs a r₂ e₂ → r₁ ≡ r₂
+direction-at-one κs a r₁ r₂ e₁ e₂ p q = same p q
+
+pub life-at-one : (κs : _) (a : _) (r₁ r₂ : _) (e₁ e₂ : _) → life-at.Post κs a r₁ e₁ → life-at.Post κs a r₂ e₂ → r₁ ≡ r₂
+life-at-one κs a r₁ r₂ e₁ e₂ p q = same p q
+
+pub look-one : (κs : _) (a : _) (r₁ r₂ : _) (e₁ e₂ : _) → look.Post κs a r₁ e₁ → look.Post κs a r₂ e₂ → r₁ ≡ r₂
+look-one κs a r₁ r₂ e₁ e₂ p q = same p q
+
+pub pending-look-one : (κs : _) (a : _) (r₁ r₂ : _) (e₁ e₂ : _) → pending-look.Post κs a r₁ e₁ → pending-look.Post κs a r₂ e₂ → r₁ ≡ r₂
+pending-look-one κs a r₁ r₂ e₁ e₂ p q = same p q

@@ -15,6 +15,7 @@ use Rattle.core.specs.Plan.{refuseOf, beginOf, answerOf, verdictBy}
 use Rattle.core.specs.Reply.{requestBytes, messageAfter, replyOf}
 use Rattle.core.specs.declared.plan.Value.the-variants as value
 use Rattle.core.specs.declared.reply.Reply.the-variants as reply
+use Rattle.exchange.specs.State.{pcmsOf}
 use Rattle.exchange.specs.Tables.{lookOf, pendingLook, soundAfter}
 use Rattle.exchange.specs.Types.{Written, QueueFailed, BadLength, PcmInfo, Track, Call, Value, Say, Send, Done, Refused, Plan, Reply, Sound, StreamList, Step}
 
@@ -46,7 +47,7 @@ stepOf p s page =
     record {
       sound = soundAfter (p .effect) (p .core) s page;
       reply = replyOf (p .say);
-      streams = listOf (p .say) (p .core .read .streams) (s .pcms);
+      streams = listOf (p .say) (p .core .read .streams) (pcmsOf s);
     }
 
 -- document 01's number and values of a step, and of what a plan says: a request of n bytes to send is 256 + n, as at the C boundary; a list of streams is its ids
@@ -72,7 +73,7 @@ saysSay (Refused r) n pcms = saysRefusal r
 -- what a call or a feed returns, document 01's number and values of it, and what it leaves in the message buffer: m before, n after
 pub record Stepped (p : Plan) (s : Sound) (page m n : List ℕ) (r : Step) : Type 0 where
   pub step : r ≡ stepOf p s page
-  pub said : saysStep r ≡ saysSay (p .say) (p .core .read .streams) (s .pcms)
+  pub said : saysStep r ≡ saysSay (p .say) (p .core .read .streams) (pcmsOf s)
   pub message : n ≡ messageAfter (p .say) m
 
 -- A CALL, with a ring that tells whether a transfer runs or a slot is in flight, and a message buffer of n bytes

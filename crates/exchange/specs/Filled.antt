@@ -6,11 +6,14 @@ use mathlib.Core.List.{List, []}
 use mathlib.Core.Logic.{_⊎_, inl, inr}
 use Prim.Native.Nat.{ℕ, _+_, _*_, _<_}
 use native.Mathlib.Omega.{arith}
+use lib.ListN.{length, getD}
 use Rattle.codes.specs.Says.{pick}
-use Rattle.tables.specs.Tables.{judged, isGood, pcmAt}
+use Rattle.tables.specs.Tables.{judged, isGood, fits, filled, pcmAt, tablesBytes}
+use Rattle.codes.specs.SaysLaws.{picks}
 use Rattle.tables.specs.TablesLaws.{good-fits}
-use Rattle.tables.specs.TableLengthLaws.{streams-at}
-use Rattle.exchange.specs.State.{pcmOf}
+use Rattle.tables.specs.FillLaws.{jacks-leave-pcms, pcms-filled, maps-leave-pcms, filled-at}
+use Rattle.records.specs.Records.{pcmInfoOf}
+use Rattle.exchange.specs.State.{pcmsOf, pcmOf}
 use Rattle.core.specs.Plan.{effectOf, verdictBy}
 use Rattle.exchange.specs.Tables.{soundAfter}
 use Rattle.exchange.specs.PlanLaws.{Answered, short, idle, asks-streams, asks-maps, cuts, finishes, ends, fails, fed}
@@ -22,7 +25,7 @@ use Rattle.exchange.specs.Feed.{Feed, paged, failed, pageOf, planOf, fed
 use Rattle.exchange.specs.StayLaws.{called-stays, called-quiet, fed-stays}
 use Rattle.exchange.specs.Xfer.{startOf, xferOf}
 use Rattle.exchange.specs.XferLaws.{start-by, script-by}
-use Rattle.exchange.specs.Types.{Written, Verdict, Track, Ring, Counts, Call, SetParams, Command, Remap, Streams, Supported, Xfer, Stage, StreamsAsked, Core, Sound, Effect, Nothing, FillJacks, FillStreams, FillMaps, Store, Move, Look, Plan}
+use Rattle.exchange.specs.Types.{PcmInfo, Written, Verdict, Track, Ring, Counts, Call, SetParams, Command, Remap, Streams, Supported, Xfer, Stage, StreamsAsked, Core, Sound, Effect, Nothing, FillJacks, FillStreams, FillMaps, Store, Move, Look, Plan}
 
 -- the stream table is that of a page
 abbrev pub Filled : Sound → List ℕ → Type 0
@@ -39,15 +42,17 @@ fills (Move stream life) = false
 
 kept-table : (x : Effect) (c : Core) (s : Sound) (page old : List ℕ) → fills x ≡ false → c .counts .streams ≡ s .core .counts .streams → Filled s old → Filled (soundAfter x c s page) old
 kept-table Nothing c s page old e n f i h = f i (omega arith)
-kept-table (FillJacks m) c s page old e n f i h = f i (omega arith)
+kept-table (FillJacks m) c s page old e n f i h = ap (λ (l : List PcmInfo). getD l i (pcmInfoOf [])) (jacks-leave-pcms m page (s .tables)) ∙ f i (omega arith)
 kept-table (FillStreams m) c s page old e n f i h = absurd (false≢true (sym e))
-kept-table (FillMaps m) c s page old e n f i h = f i (omega arith)
+kept-table (FillMaps m) c s page old e n f i h = ap (λ (l : List PcmInfo). getD l i (pcmInfoOf [])) (maps-leave-pcms m page (s .tables)) ∙ f i (omega arith)
 kept-table (Store stream to) c s page old e n f i h = f i (omega arith)
 kept-table (Move stream life) c s page old e n f i h = f i (omega arith)
 
-new-table : (x : Effect) (c : Core) (s : Sound) (w : Written) (page : List ℕ) → x ≡ FillStreams (c .counts .streams) → isGood (judged w page (c .counts .streams) 32) ≡ true → Filled (soundAfter x c s page) page
-new-table x c s w page e g =
-    subst (λ (y : Effect). Filled (soundAfter y c s page) page) (sym e) (λ i h. streams-at page (c .counts .streams) (s .pcms) i _ (good-fits w page (c .counts .streams) 32 g) h)
+new-table : (x : Effect) (c : Core) (s : Sound) (w : Written) (page : List ℕ) → length (s .tables) ≡ tablesBytes → x ≡ FillStreams (c .counts .streams) → isGood (judged w page (c .counts .streams) 32) ≡ true → Filled (soundAfter x c s page) page
+new-table x c s w page l e g =
+    let n = c .counts .streams in
+    subst (λ (y : Effect). Filled (soundAfter y c s page) page) (sym e)
+    (λ i h. ap (λ (t : List PcmInfo). getD t i (pcmInfoOf [])) (pcms-filled n page (s .tables) l ∙ picks (fits page n 32) _ _ (good-fits w page n 32 g)) ∙ filled-at pcmAt 32 page n (pcmsOf s) i (pcmInfoOf []) h)
 
 -- whether an answer fills the table
 data Touch (c : Core) (v : Verdict) (x : Effect) : Type 0 where
@@ -89,10 +94,10 @@ pub record Refilled (s : Sound) (f : Feed) : Type 0 where
   pub good : isGood (verdictOf s f) ≡ true
   pub new : Filled (fedOf s f .sound) (pageOf f)
 
-touched : (s : Sound) (f : Feed) (old : List ℕ) → planOf s f .core .counts ≡ s .core .counts → Filled s old → Touch (s .core) (verdictOf s f) (planOf s f .effect)
+touched : (s : Sound) (f : Feed) (old : List ℕ) → length (s .tables) ≡ tablesBytes → planOf s f .core .counts ≡ s .core .counts → Filled s old → Touch (s .core) (verdictOf s f) (planOf s f .effect)
     → Filled (fedOf s f .sound) old ⊎ Refilled s f
-touched s f old a h (leaves e) = inl (kept-table (planOf s f .effect) (planOf s f .core) s (pageOf f) old e (ap (λ (m : Counts). m .streams) a) h)
-touched s f old a h (writes {call} g v e) = inr (record { waits-for = call; asked-streams = g; good = v; new = new-table (planOf s f .effect) (planOf s f .core) s (writtenOf f) (pageOf f) (e ∙ ap (λ (m : Counts). FillStreams (m .streams)) (sym a)) (good-page s f (planOf s f .core .counts) a g v) })
+touched s f old l a h (leaves e) = inl (kept-table (planOf s f .effect) (planOf s f .core) s (pageOf f) old e (ap (λ (m : Counts). m .streams) a) h)
+touched s f old l a h (writes {call} g v e) = inr (record { waits-for = call; asked-streams = g; good = v; new = new-table (planOf s f .effect) (planOf s f .core) s (writtenOf f) (pageOf f) l (e ∙ ap (λ (m : Counts). FillStreams (m .streams)) (sym a)) (good-page s f (planOf s f .core .counts) a g v) })
 
 -- the answer to the query of streams: set-up goes on with it only where it is good
 fed-good : {c : Core} {v : Verdict} {look : Look} {long : Bool} {p : Plan} {call : Call} → c .stage ≡ StreamsAsked call → asked (replyOf (p .say)) ≡ 1 → Answered c v look long p
@@ -108,13 +113,13 @@ fed-good g e (fails _ _ _) = absurd (wrong e)
 
 -- ---- the stream table is that of the page that answered the query of streams, until the next such page
 
-pub streams-filled : (s : Sound) (f : Feed) (call : Call) → s .core .stage ≡ StreamsAsked call → asked (fedOf s f .reply) ≡ 1 → Filled (fedOf s f .sound) (pageOf f)
-streams-filled s f call g e =
+pub streams-filled : (s : Sound) (f : Feed) (call : Call) → length (s .tables) ≡ tablesBytes → s .core .stage ≡ StreamsAsked call → asked (fedOf s f .reply) ≡ 1 → Filled (fedOf s f .sound) (pageOf f)
+streams-filled s f call l g e =
     let a = fed-good g e (fed s f) in
-    new-table (planOf s f .effect) (planOf s f .core) s (writtenOf f) (pageOf f) (a .1 ∙ ap (λ (m : Counts). FillStreams (m .streams)) (sym (fed-stays s f .counts))) (good-page s f (planOf s f .core .counts) (fed-stays s f .counts) g (a .0))
+    new-table (planOf s f .effect) (planOf s f .core) s (writtenOf f) (pageOf f) l (a .1 ∙ ap (λ (m : Counts). FillStreams (m .streams)) (sym (fed-stays s f .counts))) (good-page s f (planOf s f .core .counts) (fed-stays s f .counts) g (a .0))
 
-pub filled-feed : (s : Sound) (f : Feed) (old : List ℕ) → Filled s old → Filled (fedOf s f .sound) old ⊎ Refilled s f
-filled-feed s f old h = touched s f old (fed-stays s f .counts) h (touch (fed s f))
+pub filled-feed : (s : Sound) (f : Feed) (old : List ℕ) → length (s .tables) ≡ tablesBytes → Filled s old → Filled (fedOf s f .sound) old ⊎ Refilled s f
+filled-feed s f old l h = touched s f old l (fed-stays s f .counts) h (touch (fed s f))
 
 pub filled-call : (s : Sound) (old : List ℕ) (t : Track) (call : Call) (n : ℕ) → Filled s old → Filled (stepOf (callOf s t call n) s [] .sound) old
 filled-call s old t call n f =

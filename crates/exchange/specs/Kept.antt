@@ -4,6 +4,7 @@ use mathlib.Core.Path.{_≡_}
 use mathlib.Core.Bool.{true, false}
 use Prim.Native.Nat.{ℕ, _≤_}
 use lib.ListN.{length}
+use Rattle.tables.specs.Tables.{tablesBytes}
 use Rattle.turns.specs.Consistent as ring
 use Rattle.codes.specs.Life.{takesOf}
 use Rattle.pending.specs.Table.{noneIn}
@@ -15,9 +16,7 @@ pub record Kept (s : Sound) : Type 0 where
   -- it passes the consistency test
   pub consistent : consistentOf (s .core) ≡ true
   -- the arrays have their lengths
-  pub jacks : length (s .jacks) ≡ 170
-  pub pcms : length (s .pcms) ≡ 127
-  pub maps : length (s .maps) ≡ 170
+  pub tables : length (s .tables) ≡ tablesBytes
   pub params : length (s .params) ≡ 127
   pub lives : length (s .lives) ≡ 127
   pub pending : length (s .pending .tokens) ≡ 32

@@ -5,9 +5,10 @@ use mathlib.Core.Bool.{Bool, true, false, false≢true}
 use mathlib.Core.List.{List, [], _∷_}
 use Prim.Native.Nat.{ℕ, suc, zero, _≤_, _<_}
 use native.Mathlib.Omega.{arith}
-use lib.ListN.{length, getD, set, replicate, length-set}
+use lib.ListN.{length, getD, set, replicate, length-set, length-replicate}
 use lib.Seq.{getD-set-other}
-use Rattle.tables.specs.TableLengthLaws.{jacks-length, streams-length, maps-length}
+use Rattle.tables.specs.Tables.{jacksPlace, pcmsPlace, mapsPlace, tablesBytes}
+use Rattle.tables.specs.FillLaws.{copied-length}
 use Rattle.core.specs.State.{unset}
 use Rattle.exchange.specs.State.{newSound, paramsOf, lifeOf}
 use Rattle.core.specs.Consistent.{consistentOf, paramsOk}
@@ -17,7 +18,7 @@ use Rattle.exchange.specs.Kept.{Kept}
 use Rattle.exchange.specs.FineLaws.{Allowed, Fine, called-fine, fed-fine}
 use Rattle.exchange.specs.Feed.{Feed, pageOf, planOf, fedOf}
 use Rattle.exchange.specs.StayLaws.{Stays, called-stays, fed-stays}
-use Rattle.exchange.specs.Types.{Track, JackInfo, PcmInfo, ChannelMap, Counts, Params, Call, Core, Sound, Effect, Nothing, FillJacks, FillStreams, FillMaps, Store, Move, Plan}
+use Rattle.exchange.specs.Types.{Track, Counts, Params, Call, Core, Sound, Effect, Nothing, FillJacks, FillStreams, FillMaps, Store, Move, Plan}
 
 unset-known : (n i : ℕ) → getD (replicate n unset) i unset ≡ unset
 unset-known zero i = refl
@@ -49,9 +50,7 @@ new-kept guard jacks streams maps =
     let p : (i : ℕ) → paramsOf (newSound guard jacks streams maps) i ≡ unset = unset-known 127 in
     record {
       consistent = refl;
-      jacks = refl;
-      pcms = refl;
-      maps = refl;
+      tables = length-replicate {A = ℕ} tablesBytes 0;
       params = refl;
       lives = refl;
       pending = refl;
@@ -71,15 +70,12 @@ module _ (s : Sound) (k : Kept s) (d : Core) (e : consistentOf d ≡ true) (n : 
   out : (i : ℕ) → d .counts .streams ≤ i → s .core .counts .streams ≤ i
   out i h = subst (λ (m : Counts). m .streams ≤ i) n h
 
-  -- the tables may be others of their lengths
-  tables-kept : (js : List JackInfo) (ps : List PcmInfo) (ms : List ChannelMap) → length js ≡ 170 → length ps ≡ 127 → length ms ≡ 170
-      → Kept (record { core = d; jacks = js; pcms = ps; maps = ms; params = s .params; lives = s .lives; pending = s .pending })
-  tables-kept js ps ms a b c =
+  -- the tables may be others of their length
+  tables-kept : (t : List ℕ) → length t ≡ tablesBytes → Kept (record { core = d; tables = t; params = s .params; lives = s .lives; pending = s .pending })
+  tables-kept t a =
       record {
         consistent = e;
-        jacks = a;
-        pcms = b;
-        maps = c;
+        tables = a;
         params = k .params;
         lives = k .lives;
         pending = k .pending;
@@ -91,13 +87,11 @@ module _ (s : Sound) (k : Kept s) (d : Core) (e : consistentOf d ≡ true) (n : 
 
   -- one stream's parameters are stored
   store-kept : (stream : ℕ) (to : Params) → paramsOk to ≡ true → s .core .ready ≡ true → stream < s .core .counts .streams
-      → Kept (record { core = d; jacks = s .jacks; pcms = s .pcms; maps = s .maps; params = set (s .params) stream to; lives = moved (d .guard) (s .lives) stream 0; pending = s .pending })
+      → Kept (record { core = d; tables = s .tables; params = set (s .params) stream to; lives = moved (d .guard) (s .lives) stream 0; pending = s .pending })
   store-kept stream to ok done h =
       record {
         consistent = e;
-        jacks = k .jacks;
-        pcms = k .pcms;
-        maps = k .maps;
+        tables = k .tables;
         params = length-set (s .params) stream to ∙ k .params;
         lives = moved-length (d .guard) (s .lives) stream 0 ∙ k .lives;
         pending = k .pending;
@@ -109,13 +103,11 @@ module _ (s : Sound) (k : Kept s) (d : Core) (e : consistentOf d ≡ true) (n : 
 
   -- one stream is moved
   move-kept : (stream life : ℕ) → s .core .ready ≡ true
-      → Kept (record { core = d; jacks = s .jacks; pcms = s .pcms; maps = s .maps; params = s .params; lives = moved (d .guard) (s .lives) stream life; pending = s .pending })
+      → Kept (record { core = d; tables = s .tables; params = s .params; lives = moved (d .guard) (s .lives) stream life; pending = s .pending })
   move-kept stream life done =
       record {
         consistent = e;
-        jacks = k .jacks;
-        pcms = k .pcms;
-        maps = k .maps;
+        tables = k .tables;
         params = k .params;
         lives = moved-length (d .guard) (s .lives) stream life ∙ k .lives;
         pending = k .pending;
@@ -126,10 +118,10 @@ module _ (s : Sound) (k : Kept s) (d : Core) (e : consistentOf d ≡ true) (n : 
       }
 
   effect-kept : (x : Effect) (page : List ℕ) → Allowed (s .core) x → Kept (soundAfter x d s page)
-  effect-kept Nothing page a = tables-kept (s .jacks) (s .pcms) (s .maps) (k .jacks) (k .pcms) (k .maps)
-  effect-kept (FillJacks n) page a = tables-kept _ (s .pcms) (s .maps) (jacks-length page n (s .jacks) (k .jacks)) (k .pcms) (k .maps)
-  effect-kept (FillStreams n) page a = tables-kept (s .jacks) _ (s .maps) (k .jacks) (streams-length page n (s .pcms) (k .pcms)) (k .maps)
-  effect-kept (FillMaps n) page a = tables-kept (s .jacks) (s .pcms) _ (k .jacks) (k .pcms) (maps-length page n (s .maps) (k .maps))
+  effect-kept Nothing page a = tables-kept (s .tables) (k .tables)
+  effect-kept (FillJacks n) page a = tables-kept _ (copied-length jacksPlace 24 n page (s .tables) ∙ k .tables)
+  effect-kept (FillStreams n) page a = tables-kept _ (copied-length pcmsPlace 32 n page (s .tables) ∙ k .tables)
+  effect-kept (FillMaps n) page a = tables-kept _ (copied-length mapsPlace 24 n page (s .tables) ∙ k .tables)
   effect-kept (Store stream to) page a = store-kept stream to (a .0) (a .1) (a .2)
   effect-kept (Move stream life) page a = move-kept stream life a
 

@@ -16,6 +16,7 @@ pub mod Stored
 pub mod Remaps
 pub mod Unrun
 pub mod Filled
+pub mod Decoded
 pub mod Strict
 pub mod Fields
 pub mod Lists

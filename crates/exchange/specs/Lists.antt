@@ -13,6 +13,7 @@ use borrow.Author.Tests.{eqb-true, eq-eqb}
 use Rattle.codes.specs.Says.{pick}
 use Rattle.records.specs.Records.{pcmInfoOf}
 use Rattle.exchange.specs.ConsistentLaws.{full, ready-tables}
+use Rattle.exchange.specs.State.{pcmsOf}
 use Rattle.exchange.specs.Exchange.{idsFrom, listed, listOf, stepOf, callOf}
 use Rattle.exchange.specs.OwnLaws.{Own, lists, refuses}
 use Rattle.exchange.specs.PlanLaws.{begun, fed}
@@ -101,11 +102,11 @@ ids-ascending d i (p ∷ ps) j k h l = pick-ascending (eqb (p .direction) d) i (
 -- ---- what a call answers is that list, of as many records as are configured
 
 list-by : (s : Sound) (p : Plan) (d : ℕ) → Stays (s .core) p → Fine (s .core) p → (p .say ≡ Done (value.Streams d)) × (p .core .ready ≡ true) → (page : List ℕ)
-    → stepOf p s page .streams ≡ listed (idsFrom d 0 (take (s .core .counts .streams) (s .pcms)))
+    → stepOf p s page .streams ≡ listed (idsFrom d 0 (take (s .core .counts .streams) (pcmsOf s)))
 list-by s p d b f a page =
     let e = full (p .core .read) (p .core .counts) (ready-tables (p .core) (f .consistent) (a .1)) .streams in
     let n : p .core .read .streams ≡ s .core .counts .streams = e ∙ ap (λ (m : Counts). m .streams) (b .counts) in
-    ap₂ (λ (x : Say) (k : ℕ). listOf x k (s .pcms)) (a .0) n
+    ap₂ (λ (x : Say) (k : ℕ). listOf x k (pcmsOf s)) (a .0) n
 
 own-lists : {c : Core} {look : Look} {d : ℕ} {p : Plan} (x : Value) → c .ready ≡ true → p .say ≡ Done x → Own c look (Streams d) p → (p .say ≡ Done (value.Streams d)) × (p .core .ready ≡ true)
 own-lists x r e lists = (refl, r)
@@ -118,10 +119,10 @@ finished-lists x g e f =
     (f .say ∙ a .0, ap (λ (k : Core). k .ready) (f .core) ∙ a .1)
 
 pub list-is : (s : Sound) (t : Track) (d n : ℕ) (x : Value) → Kept s → callOf s t (Streams d) n .say ≡ Done x
-    → stepOf (callOf s t (Streams d) n) s [] .streams ≡ listed (idsFrom d 0 (take (s .core .counts .streams) (s .pcms)))
+    → stepOf (callOf s t (Streams d) n) s [] .streams ≡ listed (idsFrom d 0 (take (s .core .counts .streams) (pcmsOf s)))
 list-is s t d n x k e = list-by s (callOf s t (Streams d) n) d (called-stays s t (Streams d) n) (called-fine s t (Streams d) n (k .consistent)) (let b = begun-own (ap own? e) (begun s t (Streams d) n) in own-lists x (b .0) e (b .1)) []
 
 -- at the feed that ends set-up
 pub list-is-feed : (s : Sound) (f : Feed) (d : ℕ) (x : Value) → Kept s → s .core .stage ≡ MapsAsked (Streams d) → planOf s f .say ≡ Done x
-    → fedOf s f .streams ≡ listed (idsFrom d 0 (take (s .core .counts .streams) (s .pcms)))
+    → fedOf s f .streams ≡ listed (idsFrom d 0 (take (s .core .counts .streams) (pcmsOf s)))
 list-is-feed s f d x k g e = list-by s (planOf s f) d (fed-stays s f) (fed-fine s f (k .consistent)) (finished-lists x g e (answered-own (ap own? e) (λ _ h _. omega (arith, ap waits (sym g ∙ h))) (fed s f))) (pageOf f)

@@ -9,7 +9,9 @@ use lib.Dec.{eqb}
 use Rattle.codes.specs.Says.{pick}
 use Rattle.codes.specs.SaysLaws.{guarded-by}
 use Rattle.codes.specs.Answers.{saysRefusal}
-use Rattle.tables.specs.Tables.{judged, isGood, refusedBy, saysVerdict, mapsRead}
+use Rattle.tables.specs.Tables.{judged, isGood, refusedBy, saysVerdict, mapsPlace, jacksIn, pcmsIn, copiedIn}
+use Rattle.tables.specs.FillLaws.{maps-leave-jacks, maps-leave-pcms}
+use Rattle.exchange.specs.State.{jacksOf, pcmsOf}
 use Rattle.tables.specs.declared.verdict.Verdict.the-variants as verdict
 use Rattle.core.specs.State.{none, withStage}
 use Rattle.core.specs.Plan.{causeOf, refusalOf, statusRefusal, verdictBy, readTo}
@@ -20,7 +22,7 @@ use Rattle.core.specs.Reply.{messageAfter, replyOf}
 use Rattle.exchange.specs.Exchange.{stepOf, callOf}
 use Rattle.exchange.specs.Feed.{Feed, paged, failed, pageOf, planOf, fedOf, verdictOf, longOf, One, ownRefusals, asking}
 use Rattle.exchange.specs.StayLaws.{own-stays}
-use Rattle.exchange.specs.Types.{Written, Cause, Refusal, IoError, ChannelMap, Verdict, Track, Call, SetParams, Command, Remap, Streams, Supported, Xfer, Stage, Idle, MapsAsked, Sent, Core, Sound, Say, Send, Done, Refused, Effect, Nothing, FillMaps, Look, Plan}
+use Rattle.exchange.specs.Types.{Written, Cause, Refusal, IoError, Verdict, Track, Call, SetParams, Command, Remap, Streams, Supported, Xfer, Stage, Idle, MapsAsked, Sent, Core, Sound, Say, Send, Done, Refused, Effect, Nothing, FillMaps, Look, Plan}
 use Rattle.core.specs.declared.reply.Reply.the-variants as reply
 
 -- `refusalOf` has the verdict's own number and values (of a remap, a status that is not ok says 3 instead)
@@ -78,13 +80,13 @@ pub data Left (s : Sound) (r : Refusal) : Sound → Type 0 where
   same : One (saysRefusal r .number) (1 ∷ 10 ∷ []) → Left s r s
   -- 2 "control: old parameters", 3 "unchanged", 7 "as for a status not ok": the exchange is closed, and nothing else changed
   closed : {call : Call} → One (saysRefusal r .number) (2 ∷ 3 ∷ 7 ∷ 11 ∷ []) → s .core .stage ≡ Sent call
-      → Left s r (record { core = withStage (s .core) Idle; jacks = s .jacks; pcms = s .pcms; maps = s .maps; params = s .params; lives = s .lives; pending = s .pending })
+      → Left s r (record { core = withStage (s .core) Idle; tables = s .tables; params = s .params; lives = s .lives; pending = s .pending })
   -- 2, 7 and 5 "set-up not done": "leaves all three tables empty, and the next call begins it again"
   cut : One (saysRefusal r .number) (2 ∷ 5 ∷ 7 ∷ 11 ∷ []) → asking (s .core .stage) ≡ true
-      → Left s r (record { core = record { counts = s .core .counts; guard = s .core .guard; read = none; ready = false; stage = Idle }; jacks = s .jacks; pcms = s .pcms; maps = s .maps; params = s .params; lives = s .lives; pending = s .pending })
-  -- 1 "unchanged, but set-up stays done", 2 of a transfer, 3, 4: set-up is done, and the exchange is closed; which channel maps it then has, the feed's equation says
-  done : {call : Call} (n : ℕ) (maps : List ChannelMap) → One (saysRefusal r .number) (ownRefusals call) → s .core .stage ≡ MapsAsked call
-      → Left s r (record { core = withStage (readTo (s .core) (s .core .read .jacks) (s .core .read .streams) n true) Idle; jacks = s .jacks; pcms = s .pcms; maps = maps; params = s .params; lives = s .lives; pending = s .pending })
+      → Left s r (record { core = record { counts = s .core .counts; guard = s .core .guard; read = none; ready = false; stage = Idle }; tables = s .tables; params = s .params; lives = s .lives; pending = s .pending })
+  -- 1 "unchanged, but set-up stays done", 2 of a transfer, 3, 4: set-up is done, and the exchange is closed; which channel maps its tables then have, the feed's equation says
+  done : {call : Call} (n : ℕ) (tables : List ℕ) → jacksIn tables ≡ jacksOf s → pcmsIn tables ≡ pcmsOf s → One (saysRefusal r .number) (ownRefusals call) → s .core .stage ≡ MapsAsked call
+      → Left s r (record { core = withStage (readTo (s .core) (s .core .read .jacks) (s .core .read .streams) n true) Idle; tables = tables; params = s .params; lives = s .lives; pending = s .pending })
 
 -- a refusal's number
 abbrev barred : Say → ℕ
@@ -123,8 +125,10 @@ sent-number call (verdict.Refused r) (inr (inr e)) b = inr (inr (inr (inl (ap (�
 done-by : (s : Sound) (r : Refusal) {call : Call} (n : ℕ) (page : List ℕ) (good : Bool) (d : Core) → One (saysRefusal r .number) (ownRefusals call)
     → s .core .stage ≡ MapsAsked call → d ≡ withStage (readTo (s .core) (s .core .read .jacks) (s .core .read .streams) n true) Idle
     → Left s r (soundAfter (pick good (FillMaps (s .core .counts .maps)) Nothing) d s page)
-done-by s r n page true d o g e = rw e (done n (mapsRead page (s .core .counts .maps) (s .maps)) o g)
-done-by s r n page false d o g e = rw e (done n (s .maps) o g)
+done-by s r n page true d o g e =
+    let m = s .core .counts .maps in
+    rw e (done n (copiedIn mapsPlace 24 m page (s .tables)) (maps-leave-jacks m page (s .tables)) (maps-leave-pcms m page (s .tables)) o g)
+done-by s r n page false d o g e = rw e (done n (s .tables) refl refl o g)
 
 module _ (s : Sound) (page : List ℕ) (r : Refusal) (v : Verdict) (long : Bool) (w : long ≡ true → Failing v) (few : (call : Call) → s .core .stage ≡ Sent call → refusedBy 5 v ≡ false) where
   left : {look : Look} {p : Plan} → p .say ≡ Refused r → Answered (s .core) v look long p → Left s r (soundAfter (p .effect) (p .core) s page)

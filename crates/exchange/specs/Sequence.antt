@@ -200,7 +200,7 @@ module _ (s : Sound) (k : ℕ) where
 pub pending-bytes : {s : Sound} {r : Ring} {store : List ℕ} (h : Lending s r store) (k : ℕ) → pendingAt (s .pending) k ≡ true → Holds store k (lastOf h k)
 unfolding lastOf
 pending-bytes (opens {s} store none) k e = absurd (false≢true (sym (none-then (s .pending) none k) ∙ e))
-pending-bytes (submits {s} {r} {store} stream m payload h) k e = nb-holds s k store (lastOf h k) (λ p. pending-bytes h k p) r stream m payload e
+pending-bytes (submits {s} {r} {store} stream m payload h) k e = nb-holds s k store (lastOf h k) (λ w. pending-bytes h k w) r stream m payload e
 pending-bytes (marks {s} reading h) k e = pending-bytes h k (mark-was s k reading e)
 pending-bytes (finishes {s} token h) k e = pending-bytes h k (finish-was s k token e)
 pending-bytes (others q h) k e = pending-bytes h k (sym (ap (λ (p : Pending). pendingAt p k) q) ∙ e)

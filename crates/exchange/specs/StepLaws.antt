@@ -16,6 +16,7 @@ use Rattle.turns.specs.Calls.{startCall, startedOf}
 use Rattle.turns.specs.Script.{transferOf}
 use Rattle.pending.specs.Table.{noneIn}
 use Rattle.core.specs.Reply.{messageAfter, replyOf}
+use Rattle.exchange.specs.State.{pcmsOf}
 use Rattle.exchange.specs.Exchange.{idsBy, listOf, stepOf, listValues, saysBeside, saysStep, saysSay, Stepped}
 use Rattle.exchange.specs.Xfer.{xferBy, refusedStep, setUpStep, startStep, doneStep, startOf, xferOf, xferMessage, saysXfer, startSays, xferSays, Transfers}
 use Rattle.exchange.specs.Types.{Refusal, Track, Ring, PcmInfo, Say, Send, Done, Refused, Sound, Plan, Step, Gate, Shut, SetUp, Open, XferStep}
@@ -30,7 +31,7 @@ says-step (Done v) n pcms = ap (λ (ids : List ℕ). says 0 (listValues v ids)) 
 says-step (Refused r) n pcms = refl
 
 pub stepped : {p : Plan} {s : Sound} {page m n : List ℕ} {r : Step} → r ≡ stepOf p s page → n ≡ messageAfter (p .say) m → Stepped p s page m n r
-stepped {p} {s} e h = record { step = e; said = ap saysStep e ∙ says-step (p .say) (p .core .read .streams) (s .pcms); message = h }
+stepped {p} {s} e h = record { step = e; said = ap saysStep e ∙ says-step (p .say) (p .core .read .streams) (pcmsOf s); message = h }
 
 -- a plan that is equal comes to the same
 pub moved : {p : Plan} (q : Plan) (s : Sound) (page l : List ℕ) {n : List ℕ} {r : Step} → p ≡ q → Stepped p s page l n r → Stepped q s page l n r

@@ -16,9 +16,9 @@ use Rattle.codes.specs.SaysLaws.{passes}
 use Rattle.codes.specs.Answers.{saysRefusal}
 use Rattle.codes.specs.declared.answers.Refusal.the-variants as refusal
 use Rattle.records.specs.Records.{jackInfo, pcmInfo, channelMap}
-use Rattle.tables.specs.Tables.{isGood, jackAt, pcmAt, mapAt, filled, fits, jacksRead, streamsRead, mapsRead}
-use Rattle.tables.specs.TablesLaws.{good-whole, jack-own, pcm-own, map-own}
-use Rattle.tables.specs.WrittenLaws.{enough, judged-alike, filled-alike}
+use Rattle.tables.specs.Tables.{isGood, jacksPlace, pcmsPlace, mapsPlace}
+use Rattle.tables.specs.TablesLaws.{good-whole}
+use Rattle.tables.specs.WrittenLaws.{enough, judged-alike, copied-alike}
 use Rattle.tables.specs.declared.verdict.Verdict.the-variants as verdict
 use Rattle.tables.specs.declared.verdict.Written.the-variants.{Bytes}
 use Rattle.core.specs.Consistent.{consistentOf}
@@ -124,16 +124,11 @@ module _ (w : ℕ) (p q : List ℕ) (l : length p ≡ length q) (e : bytesAt 0 w
       λ i. guard ((eqb (l i) pageSize && leb w pageSize) && leb messageSize n) (refuseOf (s .core) BadLength)
       (answerOf (s .core) (verdict-alike (s .core .stage) (s .core .counts) i) (pendingLook (s .core .stage) s))
 
-  table-alike : {A : Type 0} (f : ℕ → List ℕ → A) (bytes n : ℕ) (old : List A) → ((o : ℕ) (s : List ℕ) → f o s ≡ f 0 (bytesAt o bytes s)) → 4 + n * bytes ≤ w
-      → pick (fits p n bytes) (filled f bytes p n old) old ≡ pick (fits q n bytes) (filled f bytes q n old) old
-  table-alike f bytes n old own h = λ i. pick (eqb (l i) pageSize && leb (4 + n * bytes) pageSize) (filled-alike w p q l e f bytes n old own h i) old
-
   sound-alike : (x : Effect) (c : Core) (s : Sound) → Reads w x → soundAfter x c s p ≡ soundAfter x c s q
-  unfolding jacksRead streamsRead mapsRead
   sound-alike Nothing c s h = refl
-  sound-alike (FillJacks n) c s h = λ i. record { core = c; jacks = table-alike jackAt (size jackInfo) n (s .jacks) jack-own h i; pcms = s .pcms; maps = s .maps; params = s .params; lives = s .lives; pending = s .pending }
-  sound-alike (FillStreams n) c s h = λ i. record { core = c; jacks = s .jacks; pcms = table-alike pcmAt (size pcmInfo) n (s .pcms) pcm-own h i; maps = s .maps; params = s .params; lives = s .lives; pending = s .pending }
-  sound-alike (FillMaps n) c s h = λ i. record { core = c; jacks = s .jacks; pcms = s .pcms; maps = table-alike mapAt (size channelMap) n (s .maps) map-own h i; params = s .params; lives = s .lives; pending = s .pending }
+  sound-alike (FillJacks n) c s h = λ i. record { core = c; tables = copied-alike w p q l e jacksPlace (size jackInfo) n (s .tables) h i; params = s .params; lives = s .lives; pending = s .pending }
+  sound-alike (FillStreams n) c s h = λ i. record { core = c; tables = copied-alike w p q l e pcmsPlace (size pcmInfo) n (s .tables) h i; params = s .params; lives = s .lives; pending = s .pending }
+  sound-alike (FillMaps n) c s h = λ i. record { core = c; tables = copied-alike w p q l e mapsPlace (size channelMap) n (s .tables) h i; params = s .params; lives = s .lives; pending = s .pending }
   sound-alike (Store stream to) c s h = refl
   sound-alike (Move stream life) c s h = refl
 

@@ -198,9 +198,7 @@ with-kept : (s : Sound) (p : Pending) → Kept s → length (p .tokens) ≡ 32 �
 with-kept s p k e =
     record {
       consistent = k .consistent;
-      jacks = k .jacks;
-      pcms = k .pcms;
-      maps = k .maps;
+      tables = k .tables;
       params = k .params;
       lives = k .lives;
       pending = e;

@@ -56,11 +56,12 @@ fn finish(p: Plan, s: Sound, page: &[u8], message: &mut [u8]) -> Step
     let core = p.core;
     let say = p.say;
     let effect = p.effect;
-    let pcms = s.pcms;
+    let tables = s.tables;
+    let streams = list_of(say, core.read.streams, &tables);
     Step {
         sound: apply(effect, core, s, page),
         reply: tell(say, message),
-        streams: list_of(say, core.read.streams, pcms),
+        streams,
     }
 }
 
@@ -82,7 +83,9 @@ fn call(s: Sound, ring: Ring, asked: Call, message: &mut [u8]) -> Step
     if message.len() < MESSAGE {
         return bad_length(s);
     }
-    let found = look(s, asked);
+    let tables = s.tables;
+    let lives = s.lives;
+    let found = look(&tables, &lives, asked);
     let plan = begin(s.core, ring.track, asked, found);
     finish(plan, s, &[], message)
 }
@@ -215,7 +218,9 @@ fn feed_by(w: Written, s: Sound, page: &[u8], message: &mut [u8]) -> Step
     let core = s.core;
     let stage = core.stage;
     let verdict = verdict_by(w, stage, core.counts, page);
-    let found = pending_look(stage, s);
+    let tables = s.tables;
+    let lives = s.lives;
+    let found = pending_look(&tables, &lives, stage);
     let plan = answer(core, verdict, found);
     finish(plan, s, page, message)
 }
@@ -243,7 +248,9 @@ pub fn feed_failure(s: Sound, message: &mut [u8]) -> Step
     }
     let core = s.core;
     let stage = core.stage;
-    let found = pending_look(stage, s);
+    let tables = s.tables;
+    let lives = s.lives;
+    let found = pending_look(&tables, &lives, stage);
     let plan = answer(core, Verdict::Refused(Refusal::QueueFailed), found);
     finish(plan, s, &[], message)
 }

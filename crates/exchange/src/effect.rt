@@ -1,11 +1,15 @@
 // Looks into the tables, and the one effect of a plan on them.
 ghost use mathlib.Core.Path.{_≡_};
 ghost use mathlib.Core.List.{[]};
+ghost use Prim.Native.Nat.{_+_, _*_, _<_, _≤_};
 ghost use lib.ListN.{getD, set};
-ghost use Rattle.records.specs.Records.{jackInfoOf, pcmInfoOf};
+ghost use Rattle.layout.specs.Layout.{size};
+ghost use Rattle.records.specs.Records.{jackInfoOf, pcmInfo, pcmInfoOf};
+ghost use Rattle.tables.specs.Tables.{pcmsPlace, jacksIn, pcmsIn, copiedIn};
 ghost use Rattle.core.specs.State.{unset};
-ghost use Rattle.exchange.specs.State.{jackOf, pcmOf, paramsOf, lifeOf};
-ghost use Rattle.exchange.specs.Tables.{fieldOf, lookOf, pendingLook, moved, soundAfter};
+ghost use Rattle.exchange.specs.State.{paramsOf, lifeOf};
+ghost use Rattle.exchange.specs.Tables.{fieldOf, lookBy, pendingBy, moved, soundAfter};
+use crate::fields;
 use crate::state::Sound;
 use codes::life;
 use core::Call;
@@ -16,51 +20,127 @@ use core::Look;
 use core::Params;
 use core::Stage;
 use core::Value;
+use records::ChannelMap;
 use records::JackInfo;
 use records::PcmInfo;
-use tables::read_jacks;
-use tables::read_maps;
-use tables::read_streams;
+use tables::JACKS;
+use tables::MAPS;
+use tables::STREAMS;
+use tables::fill;
 
-// ---- looks: past the end of a table there is 0
+// ---- looks: a field is read by place, and no table is decoded. The end of a table is tested: behind
+// the last jack stands the first stream. Past it there is 0
 
-fn jack_at(jacks: [JackInfo; 170], jack: u32) -> JackInfo
-    ensures { λ r. ⌜ r ≡ getD jacks jack (jackInfoOf []) ⌝ }
+fn jack_features(tables: &[u8], jack: u32) -> u32
+    ensures { λ r. ⌜ r ≡ getD (jacksIn (now (tables .entry))) jack (jackInfoOf []) .features ⌝ }
 {
     let i = jack as usize;
     if 170 <= i {
-        return JackInfo {
-            node: 0,
-            features: 0,
-            defconf: 0,
-            caps: 0,
-            connected: 0,
-            padding: 0,
-            padding4: 0,
-            padding6: 0,
-        };
+        return 0;
     }
-    jacks[i]
+    layout::get_u32(tables, JACKS + i * JackInfo::SIZE + fields::JACK_FEATURES)
 }
 
-fn pcm_at(pcms: [PcmInfo; 127], stream: u32) -> PcmInfo
-    ensures { λ r. ⌜ r ≡ getD pcms stream (pcmInfoOf []) ⌝ }
+// The field of the record of a stream, which stands at a place.
+fn field_at(tables: &[u8], stream: u32, at: usize, field: Field) -> Value
+    requires { ⌜ (stream < 127) × (at ≡ pcmsPlace + stream * (size pcmInfo)) ⌝ }
+    ensures { λ r. ⌜ r ≡ fieldOf field (getD (pcmsIn (now (tables .entry))) stream (pcmInfoOf [])) ⌝ }
+{
+    match field {
+        Field::Rates => Value::Number(layout::get_u64(tables, at + fields::STREAM_RATES)),
+        Field::Formats => Value::Number(layout::get_u64(tables, at + fields::STREAM_FORMATS)),
+        Field::Channels => Value::Range {
+            min: layout::get_u8(tables, at + fields::STREAM_MIN),
+            max: layout::get_u8(tables, at + fields::STREAM_MAX),
+        },
+        Field::Features => Value::Number(
+            layout::get_u32(tables, at + fields::STREAM_FEATURES) as u64,
+        ),
+    }
+}
+
+// Past the last stream every field is 0.
+fn nothing(field: Field) -> Value
+    ensures { λ r. ⌜ r ≡ fieldOf field (pcmInfoOf []) ⌝ }
+{
+    match field {
+        Field::Rates => Value::Number(0),
+        Field::Formats => Value::Number(0),
+        Field::Channels => Value::Range { min: 0, max: 0 },
+        Field::Features => Value::Number(0),
+    }
+}
+
+fn stream_field(tables: &[u8], stream: u32, field: Field) -> Value
+    ensures { λ r. ⌜ r ≡ fieldOf field (getD (pcmsIn (now (tables .entry))) stream (pcmInfoOf [])) ⌝ }
 {
     let i = stream as usize;
     if 127 <= i {
-        return PcmInfo {
-            node: 0,
-            features: 0,
-            formats: 0,
-            rates: 0,
-            direction: 0,
-            min: 0,
-            max: 0,
-            padding: 0,
-            padding4: 0,
-        };
+        return nothing(field);
     }
-    pcms[i]
+    field_at(tables, stream, STREAMS + i * PcmInfo::SIZE, field)
+}
+
+// The direction of a stream.
+pub fn direction_at(tables: &[u8], stream: u32) -> u8
+    ensures { λ r. ⌜ r ≡ getD (pcmsIn (now (tables .entry))) stream (pcmInfoOf []) .direction ⌝ }
+{
+    let i = stream as usize;
+    if 127 <= i {
+        return 0;
+    }
+    layout::get_u8(
+        tables,
+        STREAMS + i * PcmInfo::SIZE + fields::STREAM_DIRECTION,
+    )
+}
+
+// Where a stream is in its lifecycle, in the bytes of all of them.
+pub fn life_at(lives: &[u8], stream: u32) -> u8
+    ensures { λ r. ⌜ r ≡ getD (now (lives .entry)) stream 0 ⌝ }
+{
+    layout::get_u8(lives, stream as usize)
+}
+
+// What a call looks up in the tables, or in the lifecycles: of a state by value, or of a lent store.
+pub fn look(tables: &[u8], lives: &[u8], call: Call) -> Look
+    ensures { λ r. ⌜ r ≡ lookBy (jacksIn (now (tables .entry))) (pcmsIn (now (tables .entry))) (now (lives .entry)) call ⌝ }
+{
+    match call {
+        Call::SetParams { stream, to: _ } => Look::Life(life_at(lives, stream)),
+        Call::Command { kind: _, stream } => Look::Life(life_at(lives, stream)),
+        Call::Remap {
+            jack,
+            association: _,
+            sequence: _,
+        } => Look::Jack {
+            features: jack_features(tables, jack),
+        },
+        Call::Streams { direction: _ } => Look::Nothing,
+        Call::Supported { field, stream } => Look::Stream(stream_field(tables, stream, field)),
+        Call::Xfer { stream } => Look::Life(life_at(lives, stream)),
+    }
+}
+
+// The look of the call that waits, once its answer lets it go on.
+pub fn pending_look(tables: &[u8], lives: &[u8], stage: Stage) -> Look
+    ensures { λ r. ⌜ r ≡ pendingBy (jacksIn (now (tables .entry))) (pcmsIn (now (tables .entry))) (now (lives .entry)) stage ⌝ }
+{
+    match stage {
+        Stage::Idle => Look::Nothing,
+        Stage::JacksAsked(_) => Look::Nothing,
+        Stage::StreamsAsked(_) => Look::Nothing,
+        Stage::MapsAsked(call) => look(tables, lives, call),
+        Stage::Sent(_) => Look::Nothing,
+    }
+}
+
+// Where a stream is in its lifecycle.
+pub(crate) fn life_of(s: Sound, stream: u32) -> u8
+    ensures { λ r. ⌜ r ≡ lifeOf s stream ⌝ }
+{
+    let lives = s.lives;
+    life_at(&lives, stream)
 }
 
 fn params_at(params: [Params; 127], stream: u32) -> Params
@@ -81,94 +161,11 @@ fn params_at(params: [Params; 127], stream: u32) -> Params
     params[i]
 }
 
-fn jack_of(s: Sound, jack: u32) -> JackInfo
-    ensures { λ r. ⌜ r ≡ jackOf s jack ⌝ }
-{
-    let jacks = s.jacks;
-    jack_at(jacks, jack)
-}
-
-fn pcm_of(s: Sound, stream: u32) -> PcmInfo
-    ensures { λ r. ⌜ r ≡ pcmOf s stream ⌝ }
-{
-    let pcms = s.pcms;
-    pcm_at(pcms, stream)
-}
-
 pub(crate) fn params_of(s: Sound, stream: u32) -> Params
     ensures { λ r. ⌜ r ≡ paramsOf s stream ⌝ }
 {
     let params = s.params;
     params_at(params, stream)
-}
-
-fn life_at(lives: [u8; 127], stream: u32) -> u8
-    ensures { λ r. ⌜ r ≡ getD lives stream 0 ⌝ }
-{
-    let i = stream as usize;
-    if 127 <= i {
-        return life::SET_PARAMETERS;
-    }
-    lives[i]
-}
-
-// Where a stream is in its lifecycle.
-pub(crate) fn life_of(s: Sound, stream: u32) -> u8
-    ensures { λ r. ⌜ r ≡ lifeOf s stream ⌝ }
-{
-    let lives = s.lives;
-    life_at(lives, stream)
-}
-
-// The field of a stream's record that is asked for.
-fn field_of(field: Field, p: PcmInfo) -> Value
-    ensures { λ r. ⌜ r ≡ fieldOf field p ⌝ }
-{
-    match field {
-        Field::Rates => Value::Number(p.rates),
-        Field::Formats => Value::Number(p.formats),
-        Field::Channels => Value::Range {
-            min: p.min,
-            max: p.max,
-        },
-        Field::Features => Value::Number(p.features as u64),
-    }
-}
-
-// What a call looks up in a table.
-pub(crate) fn look(s: Sound, call: Call) -> Look
-    ensures { λ r. ⌜ r ≡ lookOf s call ⌝ }
-{
-    match call {
-        Call::SetParams { stream, to: _ } => Look::Life(life_of(s, stream)),
-        Call::Command { kind: _, stream } => Look::Life(life_of(s, stream)),
-        Call::Remap {
-            jack,
-            association: _,
-            sequence: _,
-        } => {
-            let found = jack_of(s, jack);
-            Look::Jack {
-                features: found.features,
-            }
-        }
-        Call::Streams { direction: _ } => Look::Nothing,
-        Call::Supported { field, stream } => Look::Stream(field_of(field, pcm_of(s, stream))),
-        Call::Xfer { stream } => Look::Life(life_of(s, stream)),
-    }
-}
-
-// The look of the call that waits, once its answer lets it go on.
-pub(crate) fn pending_look(stage: Stage, s: Sound) -> Look
-    ensures { λ r. ⌜ r ≡ pendingLook stage s ⌝ }
-{
-    match stage {
-        Stage::Idle => Look::Nothing,
-        Stage::JacksAsked(_) => Look::Nothing,
-        Stage::StreamsAsked(_) => Look::Nothing,
-        Stage::MapsAsked(call) => look(s, call),
-        Stage::Sent(_) => Look::Nothing,
-    }
 }
 
 // ---- the effect
@@ -202,6 +199,15 @@ fn move_to(guard: bool, old: [u8; 127], stream: u32, life: u8) -> [u8; 127]
     lives
 }
 
+// The tables with one of them filled from the page.
+fn filled(old: [u8; 12224], at: usize, size: u32, count: u32, page: &[u8]) -> [u8; 12224]
+    ensures { λ r. ⌜ r ≡ copiedIn at size count (now (page .entry)) old ⌝ }
+{
+    let mut tables = old;
+    fill(&mut tables, at, size, count, page);
+    tables
+}
+
 // A table is read from the page, parameters are stored, or a stream is moved.
 pub(crate) fn apply(effect: Effect, c: Core, s: Sound, page: &[u8]) -> Sound
     ensures { λ r. ⌜ r ≡ soundAfter effect c s (now (page .entry)) ⌝ }
@@ -209,23 +215,31 @@ pub(crate) fn apply(effect: Effect, c: Core, s: Sound, page: &[u8]) -> Sound
     match effect {
         Effect::Nothing => Sound { core: c, ..s },
         Effect::FillJacks(count) => {
-            let old = s.jacks;
-            let jacks = read_jacks(page, count, old);
+            let old = s.tables;
+            let tables = filled(old, JACKS, JackInfo::SIZE as u32, count, page);
             Sound {
                 core: c,
-                jacks,
+                tables,
                 ..s
             }
         }
         Effect::FillStreams(count) => {
-            let old = s.pcms;
-            let pcms = read_streams(page, count, old);
-            Sound { core: c, pcms, ..s }
+            let old = s.tables;
+            let tables = filled(old, STREAMS, PcmInfo::SIZE as u32, count, page);
+            Sound {
+                core: c,
+                tables,
+                ..s
+            }
         }
         Effect::FillMaps(count) => {
-            let old = s.maps;
-            let maps = read_maps(page, count, old);
-            Sound { core: c, maps, ..s }
+            let old = s.tables;
+            let tables = filled(old, MAPS, ChannelMap::SIZE as u32, count, page);
+            Sound {
+                core: c,
+                tables,
+                ..s
+            }
         }
         Effect::Store { stream, to } => {
             let old = s.params;

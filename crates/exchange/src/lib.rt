@@ -1,6 +1,7 @@
 // The state by value: every call, the feeds of an answer, the start of a transfer, submissions that do not wait.
 mod calls;
 mod effect;
+mod fields;
 mod listing;
 mod nonblocking;
 mod state;
@@ -23,6 +24,10 @@ pub use calls::pcm_set_params;
 pub use calls::pcm_start;
 pub use calls::pcm_stop;
 pub use calls::rates_supported;
+pub use effect::direction_at;
+pub use effect::life_at;
+pub use effect::look;
+pub use effect::pending_look;
 pub use nonblocking::NbEnd;
 pub use nonblocking::NbReply;
 pub use nonblocking::NbStep;

@@ -4,12 +4,13 @@ ghost use mathlib.Core.List.{[]};
 ghost use Prim.Native.Nat.{_≤_, _<_};
 ghost use lib.ListN.{take};
 ghost use Rattle.codes.specs.Says.{pick};
+ghost use Rattle.tables.specs.Tables.{pcmsIn};
 ghost use Rattle.exchange.specs.Exchange.{idsFrom, listed, idsBy, listOf};
 ghost use Rattle.exchange.specs.Steps.{pushed};
 use crate::calls::StreamList;
+use crate::effect::direction_at;
 use core::Say;
 use core::Value;
-use records::PcmInfo;
 
 pub(crate) fn no_ids() -> StreamList
     ensures { λ r. ⌜ r ≡ listed [] ⌝ }
@@ -36,47 +37,48 @@ fn with_id(list: StreamList, wanted: bool, id: u32) -> StreamList
 }
 
 // The streams of a direction among the first `n`.
-fn ids_of(direction: u8, n: usize, pcms: [PcmInfo; 127]) -> StreamList
+fn ids_of(direction: u8, n: usize, tables: &[u8]) -> StreamList
     requires { ⌜ n ≤ 127 ⌝ }
-    ensures { λ r. ⌜ r ≡ listed (idsFrom direction 0 (take n pcms)) ⌝ }
+    ensures { λ r. ⌜ r ≡ listed (idsFrom direction 0 (take n (pcmsIn (now (tables .entry))))) ⌝ }
 {
     let mut list = no_ids();
     let mut i: usize = 0;
     while i < n {
-        list = with_id(list, pcms[i].direction == direction, i as u32);
+        let found = direction_at(tables, i as u32);
+        list = with_id(list, found == direction, i as u32);
         i += 1;
     }
     list
 }
 
 // The same, where a table of more than 127 counts as one of 127.
-fn all_ids(direction: u8, n: u32, pcms: [PcmInfo; 127]) -> StreamList
-    ensures { λ r. ⌜ r ≡ listed (idsFrom direction 0 (take n pcms)) ⌝ }
+fn all_ids(direction: u8, n: u32, tables: &[u8]) -> StreamList
+    ensures { λ r. ⌜ r ≡ listed (idsFrom direction 0 (take n (pcmsIn (now (tables .entry))))) ⌝ }
 {
     if 127 < n {
-        return ids_of(direction, 127, pcms);
+        return ids_of(direction, 127, tables);
     }
-    ids_of(direction, n as usize, pcms)
+    ids_of(direction, n as usize, tables)
 }
 
-fn list_by(v: Value, n: u32, pcms: [PcmInfo; 127]) -> StreamList
-    ensures { λ r. ⌜ r ≡ listed (idsBy v n pcms) ⌝ }
+fn list_by(v: Value, n: u32, tables: &[u8]) -> StreamList
+    ensures { λ r. ⌜ r ≡ listed (idsBy v n (pcmsIn (now (tables .entry)))) ⌝ }
 {
     match v {
         Value::Nothing => no_ids(),
         Value::Number(_) => no_ids(),
         Value::Range { min: _, max: _ } => no_ids(),
-        Value::Streams { direction } => all_ids(direction, n, pcms),
+        Value::Streams { direction } => all_ids(direction, n, tables),
     }
 }
 
 // The list that goes with what is said: empty but for a list of streams.
-pub(crate) fn list_of(say: Say, n: u32, pcms: [PcmInfo; 127]) -> StreamList
-    ensures { λ r. ⌜ r ≡ listOf say n pcms ⌝ }
+pub(crate) fn list_of(say: Say, n: u32, tables: &[u8]) -> StreamList
+    ensures { λ r. ⌜ r ≡ listOf say n (pcmsIn (now (tables .entry))) ⌝ }
 {
     match say {
         Say::Send(_) => no_ids(),
-        Say::Done(v) => list_by(v, n, pcms),
+        Say::Done(v) => list_by(v, n, tables),
         Say::Refused(_) => no_ids(),
     }
 }

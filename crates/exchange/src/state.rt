@@ -1,5 +1,5 @@
-// The state: a core on which every decision is made, three tables, of each stream its parameters
-// and where it is in its lifecycle, and what was submitted without waiting.
+// The state: a core on which every decision is made, three tables as the received records, of each
+// stream its parameters and where it is in its lifecycle, and what was submitted without waiting.
 ghost use mathlib.Core.Path.{_≡_};
 ghost use mathlib.Core.Bool.{true, false};
 ghost use lib.ListN.{replicate};
@@ -10,18 +10,11 @@ use core::Core;
 use core::Params;
 use core::consistent;
 use pending::Pending;
-use records::ChannelMap;
-use records::JackInfo;
-use records::PcmInfo;
-use tables::no_jacks;
-use tables::no_maps;
-use tables::no_streams;
 
 pub struct Sound {
     pub core: Core,
-    pub jacks: [JackInfo; 170],
-    pub pcms: [PcmInfo; 127],
-    pub maps: [ChannelMap; 170],
+    // 170 jacks, 127 streams, 170 channel maps, where `tables` has them.
+    pub tables: [u8; 12224],
     pub params: [Params; 127],
     pub lives: [u8; 127],
     pub pending: Pending,
@@ -63,9 +56,7 @@ fn made(guard: bool, jacks: u32, streams: u32, chmaps: u32) -> Sound
 {
     Sound {
         core: Core::new(guard, jacks, streams, chmaps),
-        jacks: no_jacks(),
-        pcms: no_streams(),
-        maps: no_maps(),
+        tables: [0; 12224],
         params: no_params(),
         lives: [life::SET_PARAMETERS; 127],
         pending: Pending::new(),

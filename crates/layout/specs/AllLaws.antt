@@ -1,8 +1,8 @@
--- What holds of every record of a table, and of those that are left, set, or read from bytes.
+-- What holds of every record of a table, and of those that are set, or read from bytes.
 -- Assumes nothing.
 use mathlib.Core.List.{List, [], _∷_, _++_}
 use Prim.Native.Nat.{ℕ, zero, suc, _+_}
-use lib.ListN.{set, drop, replicate}
+use lib.ListN.{set, replicate}
 use Rattle.layout.specs.All.{All}
 use Rattle.layout.specs.Bytes.{Bytes}
 use Rattle.layout.specs.Rows.{rowsAt}
@@ -11,11 +11,6 @@ module _ {A : Type 0} (Ok : A → Type 0) where
   pub append-ok : (xs ys : List A) → All Ok xs → All Ok ys → All Ok (xs ++ ys)
   append-ok [] ys p q = q
   append-ok (x ∷ xs) ys p q = (p .0, append-ok xs ys (p .1) q)
-
-  pub drop-ok : (n : ℕ) (xs : List A) → All Ok xs → All Ok (drop n xs)
-  drop-ok zero xs p = p
-  drop-ok (suc n) [] p = tt
-  drop-ok (suc n) (x ∷ xs) p = drop-ok n xs (p .1)
 
   pub set-ok : (xs : List A) (i : ℕ) (y : A) → All Ok xs → Ok y → All Ok (set xs i y)
   set-ok [] i y p q = tt

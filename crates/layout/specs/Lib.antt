@@ -2,6 +2,7 @@
 pub mod Bytes
 pub mod Layout
 pub mod Rows
+pub mod Table
 pub mod All
 pub mod Lent
 -- laws
@@ -11,4 +12,5 @@ pub mod LayoutLaws
 pub mod ChainLaws
 pub mod AllLaws
 pub mod RowsLaws
+pub mod TableLaws
 pub mod WrittenLaws

@@ -7,7 +7,7 @@ use native.Mathlib.Nat.{add-zero, add-assoc, add-comm, suc-mul, zero-mul, zero-a
 use native.Mathlib.Numerals.{add-one}
 use native.Mathlib.Omega.{arith}
 use lib.ListN.{length, getD, set, take, drop, length-append}
-use lib.Seq.{sets, take-at, drop-at, take-suc, take-suc-set, length-take-le, set-split, split-at}
+use lib.Seq.{sets, take-at, drop-at, take-suc, length-take-le, set-split, split-at}
 use Rattle.layout.specs.Bytes.{bytesAt, Bytes}
 use Rattle.layout.specs.Rows.{rowsAt, rowsBytes}
 use Rattle.layout.specs.BytesLaws.{bytesAt-append, bytesAt-front, bytesAt-add, bytesAt-own}
@@ -34,22 +34,6 @@ module _ {A : Type 0} (f : ℕ → List ℕ → A) (size : ℕ) where
   rows-at o zero i s d h = absurd (omega arith)
   rows-at o (suc n) zero s d h = ap (λ (k : ℕ). f k s) (here o size)
   rows-at o (suc n) (suc i) s d h = rows-at (o + size) n i s d (omega arith) ∙ ap (λ (k : ℕ). f k s) (further o i size)
-
-  rows-snoc : (o n : ℕ) (s : List ℕ) → rowsAt f size o (suc n) s ≡ rowsAt f size o n s ++ (f (o + n * size) s ∷ [])
-  unfolding rowsAt
-  rows-snoc o zero s = ap (λ (k : ℕ). f k s ∷ []) (here o size)
-  rows-snoc o (suc n) s =
-      ap (λ (l : List A). f o s ∷ l)
-      (rows-snoc (o + size) n s ∙ ap (λ (k : ℕ). rowsAt f size (o + size) n s ++ (f k s ∷ [])) (further o n size))
-
-  -- a turn of the loop that fills a table
-  pub rows-more : (o n : ℕ) (s : List ℕ) (a : List A) (v : A) → n < length a → take n a ≡ rowsAt f size o n s → v ≡ f (o + n * size) s → take (n + 1) (set a n v) ≡ rowsAt f size o (n + 1) s
-  rows-more o n s a v h e p =
-      ap (λ (k : ℕ). take k (set a n v)) (add-one n)
-      ∙ take-suc-set a n v h
-      ∙ (λ i. e i ++ (p i ∷ []))
-      ∙ sym (rows-snoc o n s)
-      ∙ ap (λ (k : ℕ). rowsAt f size o k s) (sym (add-one n))
 
   -- cut in two
   rows-add : (o n m : ℕ) (s : List ℕ) → rowsAt f size o (n + m) s ≡ rowsAt f size o n s ++ rowsAt f size (o + n * size) m s

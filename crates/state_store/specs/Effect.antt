@@ -7,16 +7,11 @@ use lib.Dec.{ltb}
 use lib.Seq.{sets}
 use Rattle.records.specs.Records.{jackInfo, pcmInfo, channelMap}
 use Rattle.layout.specs.Layout.{size}
-use Rattle.layout.specs.Bytes.{bytesAt}
 use Rattle.codes.specs.Says.{pick}
-use Rattle.tables.specs.Tables.{fits}
+use Rattle.tables.specs.Tables.{jacksPlace, pcmsPlace, mapsPlace, copiedIn}
 use Rattle.state_store.specs.Types.{Effect, Nothing, FillJacks, FillStreams, FillMaps, Store, Move}
-use Rattle.state_store.specs.Places.{headSize, pcmsPlace, mapsPlace, paramsPlace, livesPlace}
+use Rattle.state_store.specs.Places.{headSize, paramsPlace, livesPlace}
 use Rattle.state_store.specs.Store.{paramsBytes, lifeBytes}
-
--- n records of a size, from a page that holds them to place o; another page changes nothing
-unfoldable pub copiedIn : ℕ → ℕ → ℕ → List ℕ → List ℕ → List ℕ
-copiedIn o size n page s = pick (fits page n size) (sets s o (bytesAt 4 (n * size) page)) s
 
 -- an ok command is its stream's state, under the guard
 abbrev pub livedIn : Bool → ℕ → ℕ → List ℕ → List ℕ
@@ -24,8 +19,8 @@ livedIn guard stream life s = pick guard (pick (ltb stream 127) (sets s (livesPl
 
 abbrev pub effectIn : Bool → Effect → List ℕ → List ℕ → List ℕ
 effectIn guard Nothing page s = s
-effectIn guard (FillJacks n) page s = copiedIn headSize (size jackInfo) n page s
-effectIn guard (FillStreams n) page s = copiedIn pcmsPlace (size pcmInfo) n page s
-effectIn guard (FillMaps n) page s = copiedIn mapsPlace (size channelMap) n page s
+effectIn guard (FillJacks n) page s = copiedIn (headSize + jacksPlace) (size jackInfo) n page s
+effectIn guard (FillStreams n) page s = copiedIn (headSize + pcmsPlace) (size pcmInfo) n page s
+effectIn guard (FillMaps n) page s = copiedIn (headSize + mapsPlace) (size channelMap) n page s
 effectIn guard (Store stream to) page s = livedIn guard stream 0 (pick (ltb stream 127) (sets s (paramsPlace + stream * 16) (paramsBytes to)) s)
 effectIn guard (Move stream life) page s = livedIn guard stream life s

@@ -1,45 +1,34 @@
 -- The effect on the bytes, after the core was stored, leaves the state that the effect by value leaves.
 -- Assumes nothing.
 use mathlib.Core.Path.{_≡_, refl, sym, ap, _∙_}
-use mathlib.Core.Bool.{Bool, true, false}
+use mathlib.Core.Bool.{Bool, true, false, _&&_}
 use mathlib.Core.List.{List, [], _∷_, append-nil}
 use Prim.Native.Nat.{ℕ, _+_, _*_, _<_, _≤_}
 use native.Mathlib.Numerals.{towards-numerals}
 use native.Mathlib.Omega.{arith}
 use native.Mathlib.Nat.{mul-le-mul-right, mul-one}
-use lib.Dec.{ltb}
+use lib.Dec.{ltb, leb}
 use lib.ListN.{length, set, length-set}
-use lib.Seq.{sets, set-out}
-use borrow.Author.Tests.{ltb-true, ltb-false, lt-ltb, le-ltb}
+use lib.Seq.{sets, set-out, length-sets}
+use borrow.Author.Tests.{ltb-true, ltb-false, lt-ltb, le-ltb, le-leb}
 use Rattle.layout.specs.Bytes.{le, bytesAt, Bytes}
 use Rattle.layout.specs.Layout.{write}
-use Rattle.layout.specs.Rows.{rowsAt, rowsBytes}
+use Rattle.layout.specs.Rows.{rowsBytes}
 use Rattle.layout.specs.BytesLaws.{length-bytesAt}
 use Rattle.layout.specs.RowsLaws.{length-rows}
 use Rattle.layout.specs.ChainLaws.{Stored, stored}
 use Rattle.codes.specs.Says.{pick}
 use Rattle.codes.specs.SaysLaws.{picks, skips}
-use Rattle.tables.specs.Tables.{fits, filled, jackAt, pcmAt, mapAt, jacksRead, streamsRead, mapsRead}
+use Rattle.tables.specs.Tables.{fits, jacksPlace, pcmsPlace, mapsPlace, tablesBytes, copiedIn}
 use Rattle.tables.specs.TablesLaws.{fits-facts}
-use Rattle.tables.specs.TableLengthLaws.{jacks-length, streams-length, maps-length}
+use Rattle.tables.specs.FillLaws.{copied-length, copied-after}
 use Rattle.exchange.specs.Tables.{moved, soundAfter}
-use Rattle.state_store.specs.Types.{Core, Params, Effect, Nothing, FillJacks, FillStreams, FillMaps, Store, Move}
-use Rattle.state_store.specs.Places.{headSize, pcmsPlace, mapsPlace, paramsPlace, livesPlace, tokensPlace}
+use Rattle.state_store.specs.Types.{Core, Params, Sound, Effect, Nothing, FillJacks, FillStreams, FillMaps, Store, Move}
+use Rattle.state_store.specs.Places.{headSize, paramsPlace, livesPlace, tokensPlace, stateSize}
 use Rattle.state_store.specs.Store.{headRow, headValues, headOf, paramsRow, paramsBytes, paramsAt, lifeBytes, lifeAt, soundOf, soundBytes}
-use Rattle.records.specs.Records.{jackBytes, pcmBytes, mapBytes}
-use Rattle.state_store.specs.TableLaws.{Alike, alike-on, alike-after, table-kept, table-filled, table-set}
-use Rattle.state_store.specs.OverLaws.{headBytes, head-alike, Sized, sized-of, tables-apart, jacksIn, pcmsIn, mapsIn, paramsIn, livesIn, tokensIn, ends, jack-same, pcm-same, map-same, params-same, life-same, params-sized, life-sized, jacks-kept, pcms-kept, maps-kept, params-kept, lives-kept, tokens-kept, kept-from-params, kept-from-maps, kept-from-pcms, core-over}
-use Rattle.state_store.specs.Effect.{copiedIn, livedIn, effectIn}
-
--- ---- a page that holds its records, or not
-
-pub copied-held : (o size n : ℕ) (page s x : List ℕ) → fits page n size ≡ true → x ≡ sets s o (bytesAt 4 (n * size) page) → x ≡ copiedIn o size n page s
-unfolding copiedIn
-copied-held o size n page s x g e = e ∙ sym (picks _ _ _ g)
-
-pub copied-not : (o size n : ℕ) (page s : List ℕ) → fits page n size ≡ false → s ≡ copiedIn o size n page s
-unfolding copiedIn
-copied-not o size n page s g = sym (skips _ _ _ g)
+use Rattle.state_store.specs.TableLaws.{Alike, alike-on, alike-after, kept, part-stored, table-set}
+use Rattle.state_store.specs.OverLaws.{headBytes, head-alike, Sized, sized-of, tables-apart, paramsIn, livesIn, tokensIn, ends, params-same, life-same, params-sized, life-sized, tables-kept, params-kept, lives-kept, tokens-kept, kept-from-params, core-over}
+use Rattle.state_store.specs.Effect.{livedIn, effectIn}
 
 -- ---- parameters, stored field by field
 
@@ -56,28 +45,32 @@ params-stored s s₁ s₂ s₃ s₄ s₅ s₆ s₇ o p e₁ e₂ e₃ e₄ e₅ 
     (Stored.put {m = s₆} (simp towards-numerals e₆)
     (Stored.put {m = s₇} (simp towards-numerals e₇) Stored.end)))))))
 
--- ---- a table that is read from a page, or not, over place, size, reader and writer
+-- ---- a table that is filled from a page, over its place and its records' size
 
--- past the table the store is as it was
-copied-alike : (size o n k : ℕ) (u s page : List ℕ) → Alike o u s → (fits page k size ≡ true → k ≤ n) → Alike (o + n * size) (copiedIn o size k page u) s
-unfolding copiedIn
-copied-alike size o n k u s page a few = by (fits page k size) few
-  where
-    by : (t : Bool) → (t ≡ true → k ≤ n) → Alike (o + n * size) (pick t (sets u o (bytesAt 4 (k * size) page)) u) s
-    by true h =
-        alike-after o o (o + n * size) u s (bytesAt 4 (k * size) page) a (omega arith)
-        (omega (arith, length-bytesAt 4 (k * size) page, mul-le-mul-right size (h refl)))
-    by false h = alike-on o (o + n * size) u s a (omega arith)
-
-module _ {A : Type 0} (f : ℕ → List ℕ → A) (g : A → List ℕ) (size : ℕ) (same : (o : ℕ) (s : List ℕ) → Bytes s → g (f o s) ≡ bytesAt o size s)
-    (o n k : ℕ) (u s page : List ℕ) (b : Bytes s) (p : Bytes page) (a : Alike o u s) (few : fits page k size ≡ true → k ≤ n) where
-  table-read : sets u o (rowsBytes g (pick (fits page k size) (filled f size page k (rowsAt f size o n s)) (rowsAt f size o n s))) ≡ copiedIn o size k page u
+module _ (o bytes m n : ℕ) (page u s : List ℕ) (a : Alike headSize u s) (long : stateSize ≤ length u) (room : o + m * bytes ≤ tablesBytes) (few : fits page n bytes ≡ true → n ≤ m) where
+  -- in the tables of the store, or in the store itself
+  tables-filled : sets u headSize (copiedIn o bytes n page (bytesAt headSize tablesBytes s)) ≡ copiedIn (headSize + o) bytes n page u
   unfolding copiedIn
-  table-read = by (fits page k size) few
+  tables-filled = by (fits page n bytes) few
     where
-      by : (t : Bool) → (t ≡ true → k ≤ n) → sets u o (rowsBytes g (pick t (filled f size page k (rowsAt f size o n s)) (rowsAt f size o n s))) ≡ pick t (sets u o (bytesAt 4 (k * size) page)) u
-      by true h = table-filled f g size same o n u s b a k page p (h refl)
-      by false h = table-kept f g size same o n u s b a
+      t : List ℕ
+      t = bytesAt headSize tablesBytes s
+
+      v : List ℕ
+      v = bytesAt 4 (n * bytes) page
+
+      by : (g : Bool) → (g ≡ true → n ≤ m)
+          → sets u headSize (pick (g && leb (o + n * bytes) (length t)) (sets t o v) t) ≡ pick (g && leb (headSize + o + n * bytes) (length u)) (sets u (headSize + o) v) u
+      by true h =
+          let q : o + n * bytes ≤ tablesBytes = omega (arith, mul-le-mul-right bytes (h refl)) in
+          ap (λ (b : Bool). sets u headSize (pick b (sets t o v) t)) (le-leb (o + n * bytes) (length t) (omega (arith, length-bytesAt headSize tablesBytes s)))
+          ∙ part-stored headSize tablesBytes o u s v a (omega (arith, length-bytesAt 4 (n * bytes) page))
+          ∙ ap (λ (b : Bool). pick b (sets u (headSize + o) v) u) (sym (le-leb (headSize + o + n * bytes) (length u) (omega arith)))
+      by false h = kept headSize tablesBytes u s a
+
+  -- past the tables the store is as it was
+  filled-alike : Alike paramsPlace (copiedIn (headSize + o) bytes n page u) s
+  filled-alike p c h = copied-after (headSize + o) bytes n page u m few p c (omega arith) ∙ a p c (omega arith)
 
 -- ---- where a stream is in its lifecycle: one that there is, under the guard
 
@@ -139,49 +132,21 @@ module _ (s page : List ℕ) (c : Core) (b : Bytes s) (p : Bytes page) where
   few-32 : (n : ℕ) → fits page n 32 ≡ true → n ≤ 127
   few-32 n g = omega (arith, fits-facts page n 32 g)
 
-  -- the tables before the one that changes
-  before-pcms : (m : List ℕ) → sets (sets store headSize (jacksIn s)) pcmsPlace m ≡ sets store pcmsPlace m
-  before-pcms m = ap (λ (l : List ℕ). sets l pcmsPlace m) (jacks-kept s b store (head-alike s c))
+  -- the tables before what changes
+  before-params : (m : List ℕ) → sets (sets store headSize (soundOf s .tables)) paramsPlace m ≡ sets store paramsPlace m
+  before-params m = ap (λ (l : List ℕ). sets l paramsPlace m) (tables-kept s b store (head-alike s c))
 
-  before-maps : (m : List ℕ) → sets (sets (sets store headSize (jacksIn s)) pcmsPlace (pcmsIn s)) mapsPlace m ≡ sets store mapsPlace m
-  before-maps m =
-      ap (λ (l : List ℕ). sets l mapsPlace m)
-      (before-pcms (pcmsIn s) ∙ pcms-kept s b store (alike-on headSize pcmsPlace store s (head-alike s c) (omega arith)))
-
-  before-params : (m : List ℕ)
-      → sets (sets (sets (sets store headSize (jacksIn s)) pcmsPlace (pcmsIn s)) mapsPlace (mapsIn s)) paramsPlace m ≡ sets store paramsPlace m
-  before-params m =
-      ap (λ (l : List ℕ). sets l paramsPlace m)
-      (before-maps (mapsIn s) ∙ maps-kept s b store (alike-on headSize mapsPlace store s (head-alike s c) (omega arith)))
-
-  jacks-over : (n : ℕ) → sets s 0 (soundBytes (soundAfter (FillJacks n) c (soundOf s) page)) ≡ effectIn (c .guard) (FillJacks n) page store
-  unfolding jacksRead soundOf
-  jacks-over n =
+  fill-over : (o bytes m n : ℕ) → stateSize ≤ length s → o + m * bytes ≤ tablesBytes → (fits page n bytes ≡ true → n ≤ m)
+      → sets s 0 (soundBytes (record { core = c; tables = copiedIn o bytes n page (soundOf s .tables); params = soundOf s .params; lives = soundOf s .lives; pending = soundOf s .pending }))
+      ≡ copiedIn (headSize + o) bytes n page store
+  unfolding soundOf
+  fill-over o bytes m n long room few =
       let z = sized-of s c in
-      tables-apart s (soundAfter (FillJacks n) c (soundOf s) page) (record { jacks = jacks-length page n (soundOf s .jacks) (z .jacks); pcms = z .pcms; maps = z .maps; params = z .params; lives = z .lives })
-      ∙ ap (λ (l : List ℕ). ends s (sets (sets (sets l pcmsPlace (pcmsIn s)) mapsPlace (mapsIn s)) paramsPlace (paramsIn s)))
-      (table-read jackAt jackBytes 24 jack-same headSize 170 n store s page b p (head-alike s c) (few-24 n))
-      ∙ kept-from-pcms s b (copiedIn headSize 24 n page store) (copied-alike 24 headSize 170 n store s page (head-alike s c) (few-24 n))
-
-  streams-over : (n : ℕ) → sets s 0 (soundBytes (soundAfter (FillStreams n) c (soundOf s) page)) ≡ effectIn (c .guard) (FillStreams n) page store
-  unfolding streamsRead soundOf
-  streams-over n =
-      let z = sized-of s c in
-      let a : Alike pcmsPlace store s = alike-on headSize pcmsPlace store s (head-alike s c) (omega arith) in
-      tables-apart s (soundAfter (FillStreams n) c (soundOf s) page) (record { jacks = z .jacks; pcms = streams-length page n (soundOf s .pcms) (z .pcms); maps = z .maps; params = z .params; lives = z .lives })
-      ∙ ap (λ (l : List ℕ). ends s (sets (sets l mapsPlace (mapsIn s)) paramsPlace (paramsIn s)))
-      (before-pcms (rowsBytes pcmBytes (streamsRead page n (soundOf s .pcms))) ∙ table-read pcmAt pcmBytes 32 pcm-same pcmsPlace 127 n store s page b p a (few-32 n))
-      ∙ kept-from-maps s b (copiedIn pcmsPlace 32 n page store) (copied-alike 32 pcmsPlace 127 n store s page a (few-32 n))
-
-  maps-over : (n : ℕ) → sets s 0 (soundBytes (soundAfter (FillMaps n) c (soundOf s) page)) ≡ effectIn (c .guard) (FillMaps n) page store
-  unfolding mapsRead soundOf
-  maps-over n =
-      let z = sized-of s c in
-      let a : Alike mapsPlace store s = alike-on headSize mapsPlace store s (head-alike s c) (omega arith) in
-      tables-apart s (soundAfter (FillMaps n) c (soundOf s) page) (record { jacks = z .jacks; pcms = z .pcms; maps = maps-length page n (soundOf s .maps) (z .maps); params = z .params; lives = z .lives })
-      ∙ ap (λ (l : List ℕ). ends s (sets l paramsPlace (paramsIn s)))
-      (before-maps (rowsBytes mapBytes (mapsRead page n (soundOf s .maps))) ∙ table-read mapAt mapBytes 24 map-same mapsPlace 170 n store s page b p a (few-24 n))
-      ∙ kept-from-params s b (copiedIn mapsPlace 24 n page store) (copied-alike 24 mapsPlace 170 n store s page a (few-24 n))
+      let k : stateSize ≤ length store = omega (arith, length-sets s 0 (headBytes c)) in
+      let x : Sound = record { core = c; tables = copiedIn o bytes n page (soundOf s .tables); params = soundOf s .params; lives = soundOf s .lives; pending = soundOf s .pending } in
+      tables-apart s x (record { tables = copied-length o bytes n page (soundOf s .tables) ∙ z .tables; params = z .params; lives = z .lives })
+      ∙ ap (λ (l : List ℕ). ends s (sets l paramsPlace (paramsIn s))) (tables-filled o bytes m n page store s (head-alike s c) k room few)
+      ∙ kept-from-params s b (copiedIn (headSize + o) bytes n page store) (filled-alike o bytes m n page store s (head-alike s c) k room few)
 
   params-over : (stream : ℕ) (to : Params) → sets s 0 (soundBytes (soundAfter (Store stream to) c (soundOf s) page)) ≡ effectIn (c .guard) (Store stream to) page store
   unfolding soundOf
@@ -192,7 +157,7 @@ module _ (s page : List ℕ) (c : Core) (b : Bytes s) (p : Bytes page) where
       ∙ lives-over (pick (ltb stream 127) (sets store (paramsPlace + stream * 16) (paramsBytes to)) store) s b (past (ltb stream 127) (ltb-true stream 127)) (c .guard) stream 0
     where
       sized-params : Sized (soundAfter Nothing c (soundOf s) []) → Sized (soundAfter (Store stream to) c (soundOf s) page)
-      sized-params z = record { jacks = z .jacks; pcms = z .pcms; maps = z .maps; params = length-set (soundOf s .params) stream to ∙ z .params; lives = moved-length (c .guard) (soundOf s .lives) stream 0 ∙ z .lives }
+      sized-params z = record { tables = z .tables; params = length-set (soundOf s .params) stream to ∙ z .params; lives = moved-length (c .guard) (soundOf s .lives) stream 0 ∙ z .lives }
 
       a : Alike paramsPlace store s
       a = alike-on headSize paramsPlace store s (head-alike s c) (omega arith)
@@ -216,16 +181,16 @@ module _ (s page : List ℕ) (c : Core) (b : Bytes s) (p : Bytes page) where
       let z = sized-of s c in
       let a : Alike paramsPlace u s = alike-on headSize paramsPlace u s (head-alike s c) (omega arith) in
       let v = rowsBytes lifeBytes (moved (c .guard) (soundOf s .lives) stream life) in
-      tables-apart s (soundAfter (Move stream life) c (soundOf s) page) (record { jacks = z .jacks; pcms = z .pcms; maps = z .maps; params = z .params; lives = moved-length (c .guard) (soundOf s .lives) stream life ∙ z .lives })
+      tables-apart s (soundAfter (Move stream life) c (soundOf s) page) (record { tables = z .tables; params = z .params; lives = moved-length (c .guard) (soundOf s .lives) stream life ∙ z .lives })
       ∙ ap (λ (l : List ℕ). sets (sets l livesPlace v) tokensPlace (tokensIn s)) (before-params s page c b p (paramsIn s) ∙ params-kept s b u a)
       ∙ lives-over u s b (alike-on paramsPlace livesPlace u s a (omega arith)) (c .guard) stream life
 
 -- THE EFFECT ON THE BYTES is the effect by value: on a store with the plan's core, it leaves the state that `soundAfter` says
-pub effect-over : (s page : List ℕ) (c : Core) (e : Effect) → Bytes s → Bytes page
+pub effect-over : (s page : List ℕ) (c : Core) (e : Effect) → Bytes s → Bytes page → stateSize ≤ length s
     → effectIn (c .guard) e page (sets s 0 (write headRow (headValues (headOf c)))) ≡ sets s 0 (soundBytes (soundAfter e c (soundOf s) page))
-effect-over s page c Nothing b p = core-over s c b
-effect-over s page c (FillJacks n) b p = sym (jacks-over s page c b p n)
-effect-over s page c (FillStreams n) b p = sym (streams-over s page c b p n)
-effect-over s page c (FillMaps n) b p = sym (maps-over s page c b p n)
-effect-over s page c (Store stream to) b p = sym (params-over s page c b p stream to)
-effect-over s page c (Move stream life) b p = sym (move-over s page c b p stream life)
+effect-over s page c Nothing b p l = core-over s c b
+effect-over s page c (FillJacks n) b p l = sym (fill-over s page c b p jacksPlace 24 170 n l (omega arith) (few-24 s page c b p n))
+effect-over s page c (FillStreams n) b p l = sym (fill-over s page c b p pcmsPlace 32 127 n l (omega arith) (few-32 s page c b p n))
+effect-over s page c (FillMaps n) b p l = sym (fill-over s page c b p mapsPlace 24 170 n l (omega arith) (few-24 s page c b p n))
+effect-over s page c (Store stream to) b p l = sym (params-over s page c b p stream to)
+effect-over s page c (Move stream life) b p l = sym (move-over s page c b p stream life)

@@ -3,26 +3,24 @@
 use mathlib.Core.Path.{_≡_, refl, sym, ap, _∙_, subst}
 use mathlib.Core.Bool.{Bool, true, false, _&&_, false≢true}
 use mathlib.Core.List.{List, []}
-use Prim.Native.Nat.{ℕ, _+_, _≤_, _<_, _^_}
+use Prim.Native.Nat.{ℕ, zero, suc, _+_, _*_, _≤_, _<_, _^_}
 use native.Mathlib.Omega.{arith}
 use lib.Dec.{lit<, leb}
-use lib.ListN.{length, set, drop, length-set}
+use lib.ListN.{length, set, replicate, length-set, length-replicate}
 use lib.Seq.{sets}
 use borrow.Author.Tests.{le-leb}
 use Rattle.layout.specs.Bytes.{un, bytesAt, numAt, Bytes}
 use Rattle.layout.specs.Layout.{Fit, write}
-use Rattle.layout.specs.BytesLaws.{numAt-below}
-use Rattle.layout.specs.LayoutLaws.{read-fits}
-use Rattle.layout.specs.Rows.{rowsAt, rowsBytes}
+use Rattle.layout.specs.BytesLaws.{numAt-below, length-bytesAt, bytes-bytesAt}
+use Rattle.layout.specs.Rows.{rowsBytes}
 use Rattle.layout.specs.RowsLaws.{length-rows}
-use Rattle.layout.specs.WrittenLaws.{bytes-append, bytes-write, bytes-rows, Again, over-again}
+use Rattle.layout.specs.WrittenLaws.{bytes-append, bytes-write, bytes-rows, bytes-sets, Again, over-again}
 use Rattle.layout.specs.All.{All}
-use Rattle.layout.specs.AllLaws.{append-ok, drop-ok, set-ok, replicate-ok, rows-ok}
+use Rattle.layout.specs.AllLaws.{set-ok, replicate-ok, rows-ok}
 use Rattle.codes.specs.Says.{pick, guard}
 use Rattle.codes.specs.SaysLaws.{guarded-by}
-use Rattle.records.specs.Records.{jackInfo, jackInfoValues, pcmInfo, pcmInfoValues, channelMap, channelMapValues, jackBytes, pcmBytes, mapBytes, jackInfoOf, pcmInfoOf, channelMapOf}
-use Rattle.tables.specs.Tables.{fits, isGood, filled, jackAt, pcmAt, mapAt, jacksRead, streamsRead, mapsRead}
-use Rattle.tables.specs.TableLengthLaws.{jacks-length, streams-length, maps-length}
+use Rattle.tables.specs.Tables.{fits, isGood, jacksPlace, pcmsPlace, mapsPlace, tablesBytes, copiedIn}
+use Rattle.tables.specs.FillLaws.{copied-length}
 use Rattle.turns.specs.Consistent as ring
 use Rattle.turns.specs.ConsistentLaws.{both}
 use Rattle.pending.specs.Table.{freeToken, noneIn}
@@ -38,8 +36,8 @@ use Rattle.exchange.specs.OwnLaws.{picked-by}
 use Rattle.exchange.specs.PlanLaws.{begun, Answered, short, idle, asks-streams, asks-maps, cuts, finishes, ends, fails, fed}
 use Rattle.exchange.specs.StayLaws.{called-quiet}
 use Rattle.exchange.specs.StepLaws.{startBy, started-by}
-use Rattle.state_store.specs.Types.{Written, Refusal, JackInfo, PcmInfo, ChannelMap, Verdict, Track, Ring, Params, Kind, Prepare, Release, Start, Stop, Call, SetParams, Command, Remap, Streams, Supported, Xfer, Sent, Core, Sound, Token, Effect, Nothing, FillJacks, FillStreams, FillMaps, Store, Move, Look, Plan, Gate, Shut, SetUp, Open, XferStep}
-use Rattle.state_store.specs.Places.{headSize, pcmsPlace, mapsPlace, paramsPlace, livesPlace, tokensPlace, stateSize}
+use Rattle.state_store.specs.Types.{Written, Refusal, Verdict, Track, Ring, Params, Kind, Prepare, Release, Start, Stop, Call, SetParams, Command, Remap, Streams, Supported, Xfer, Sent, Core, Sound, Token, Effect, Nothing, FillJacks, FillStreams, FillMaps, Store, Move, Look, Plan, Gate, Shut, SetUp, Open, XferStep}
+use Rattle.state_store.specs.Places.{headSize, paramsPlace, livesPlace, tokensPlace, stateSize}
 use Rattle.state_store.specs.Store.{whole, lifeRow, lifeAt, lifeBytes, tokenRow, tokenIn, tokenBytes, paramsRow, paramsAt, soundOf, soundBytes, stateAfter, headRow, headValues, headOf, paramsBytes}
 use Rattle.layout.specs.Lent.{Made, messageSize}
 use Rattle.state_store.specs.Calls.{Told, told, tooShort, lengths, callIn, feedIn, failIn, Opened, openIn, newIn}
@@ -49,40 +47,13 @@ use Rattle.state_store.specs.WholeLaws.{FitCall, FitCore, head-fits, sto
 use Rattle.state_store.specs.RefusedLaws.{Barred, begun-barred, answered-barred, not-whole}
 use Rattle.state_store.specs.FinishLaws.{long-state}
 
--- ---- tables of records that fit
-
--- a table that is read from a page, or not
-read-ok : {A : Type 0} (Ok : A → Type 0) (f : ℕ → List ℕ → A) (size : ℕ) → ((o : ℕ) (s : List ℕ) → Bytes s → Ok (f o s))
-    → (t : Bool) (page : List ℕ) (n : ℕ) (old : List A) → Bytes page → All Ok old → All Ok (pick t (filled f size page n old) old)
-read-ok Ok f size reads true page n old b p = append-ok Ok (rowsAt f size 4 n page) (drop n old) (rows-ok Ok f size reads 4 n page b) (drop-ok Ok n old p)
-read-ok Ok f size reads false page n old b p = p
-
-abbrev JackFits : JackInfo → Type 0
-JackFits x = Fit jackInfo (jackInfoValues x)
-
-abbrev PcmFits : PcmInfo → Type 0
-PcmFits x = Fit pcmInfo (pcmInfoValues x)
-
-abbrev MapFits : ChannelMap → Type 0
-MapFits x = Fit channelMap (channelMapValues x)
+-- ---- rows that fit
 
 abbrev ParamsFit : Params → Type 0
 ParamsFit x = Fit paramsRow (paramsValues x)
 
 abbrev LifeFits : ℕ → Type 0
 LifeFits x = Fit lifeRow (lifeValues x)
-
-jack-fits : (o : ℕ) (s : List ℕ) → Bytes s → JackFits (jackAt o s)
-unfolding jackAt
-jack-fits o s b = read-fits o jackInfo s b
-
-pcm-fits : (o : ℕ) (s : List ℕ) → Bytes s → PcmFits (pcmAt o s)
-unfolding pcmAt
-pcm-fits o s b = read-fits o pcmInfo s b
-
-map-fits : (o : ℕ) (s : List ℕ) → Bytes s → MapFits (mapAt o s)
-unfolding mapAt
-map-fits o s b = read-fits o channelMap s b
 
 params-fit : (o : ℕ) (s : List ℕ) → Bytes s → ParamsFit (paramsAt o s)
 unfolding paramsAt
@@ -106,15 +77,10 @@ unfolding soundOf
 sound-fits s b w =
     record {
       core = head-fits (soundOf s .core) (store-fits s b w);
-      jacks = rows-ok JackFits jackAt 24 jack-fits headSize 170 s b;
-      pcms = rows-ok PcmFits pcmAt 32 pcm-fits pcmsPlace 127 s b;
-      maps = rows-ok MapFits mapAt 24 map-fits mapsPlace 170 s b;
       params = rows-ok ParamsFit paramsAt 16 params-fit paramsPlace 127 s b;
       lives = rows-ok LifeFits lifeAt 1 life-fits livesPlace 127 s b;
       tokens = rows-ok TokenFits tokenIn 8 token-fits tokensPlace 32 s b;
-      jacks-170 = length-rows jackAt 24 headSize 170 s;
-      pcms-127 = length-rows pcmAt 32 pcmsPlace 127 s;
-      maps-170 = length-rows mapAt 24 mapsPlace 170 s;
+      tables-12224 = length-bytesAt headSize tablesBytes s;
       params-127 = length-rows paramsAt 16 paramsPlace 127 s;
       lives-127 = length-rows lifeAt 1 livesPlace 127 s;
       tokens-32 = length-rows tokenIn 8 tokensPlace 32 s;
@@ -138,33 +104,18 @@ module _ (c : Core) (k : FitCore c) (x : Sound) (f : Fits x) (page : List ℕ) (
   abbrev Table : {A : Type 0} → (A → Type 0) → ℕ → List A → Type 0
   Table Ok n xs = All Ok xs × (length xs ≡ n)
 
-  tables-fit : (js : List JackInfo) (ps : List PcmInfo) (ms : List ChannelMap) (qs : List Params) (vs : List ℕ) → Table JackFits 170 js → Table PcmFits 127 ps → Table MapFits 170 ms → Table ParamsFit 127 qs → Table LifeFits 127 vs
-      → Fits (record { core = c; jacks = js; pcms = ps; maps = ms; params = qs; lives = vs; pending = x .pending })
-  tables-fit js ps ms qs vs j p m q v =
+  parts-fit : (t : List ℕ) (qs : List Params) (vs : List ℕ) → length t ≡ tablesBytes → Table ParamsFit 127 qs → Table LifeFits 127 vs → Fits (record { core = c; tables = t; params = qs; lives = vs; pending = x .pending })
+  parts-fit t qs vs l q v =
       record {
         core = head-fits c k;
-        jacks = j .0;
-        pcms = p .0;
-        maps = m .0;
         params = q .0;
         lives = v .0;
         tokens = f .tokens;
-        jacks-170 = j .1;
-        pcms-127 = p .1;
-        maps-170 = m .1;
+        tables-12224 = l;
         params-127 = q .1;
         lives-127 = v .1;
         tokens-32 = f .tokens-32;
       }
-
-  jacks : Table JackFits 170 (x .jacks)
-  jacks = (f .jacks, f .jacks-170)
-
-  pcms : Table PcmFits 127 (x .pcms)
-  pcms = (f .pcms, f .pcms-127)
-
-  maps : Table MapFits 170 (x .maps)
-  maps = (f .maps, f .maps-170)
 
   params : Table ParamsFit 127 (x .params)
   params = (f .params, f .params-127)
@@ -176,22 +127,18 @@ module _ (c : Core) (k : FitCore c) (x : Sound) (f : Fits x) (page : List ℕ) (
   moved-fits true stream life h = (set-ok LifeFits (x .lives) stream life (f .lives) h, length-set (x .lives) stream life ∙ f .lives-127)
   moved-fits false stream life h = lives
 
+  filled-fits : (o bytes n : ℕ) → Fits (record { core = c; tables = copiedIn o bytes n page (x .tables); params = x .params; lives = x .lives; pending = x .pending })
+  filled-fits o bytes n = parts-fit _ (x .params) (x .lives) (copied-length o bytes n page (x .tables) ∙ f .tables-12224) params lives
+
   after-fits : (e : Effect) → EffectFits e → Fits (soundAfter e c x page)
-  unfolding jacksRead streamsRead mapsRead
-  after-fits Nothing h = tables-fit (x .jacks) (x .pcms) (x .maps) (x .params) (x .lives) jacks pcms maps params lives
-  after-fits (FillJacks n) h =
-      tables-fit _ (x .pcms) (x .maps) (x .params) (x .lives)
-      (read-ok JackFits jackAt 24 jack-fits (fits page n 24) page n (x .jacks) b (f .jacks), jacks-length page n (x .jacks) (f .jacks-170)) pcms maps params lives
-  after-fits (FillStreams n) h =
-      tables-fit (x .jacks) _ (x .maps) (x .params) (x .lives)
-      jacks (read-ok PcmFits pcmAt 32 pcm-fits (fits page n 32) page n (x .pcms) b (f .pcms), streams-length page n (x .pcms) (f .pcms-127)) maps params lives
-  after-fits (FillMaps n) h =
-      tables-fit (x .jacks) (x .pcms) _ (x .params) (x .lives)
-      jacks pcms (read-ok MapFits mapAt 24 map-fits (fits page n 24) page n (x .maps) b (f .maps), maps-length page n (x .maps) (f .maps-170)) params lives
+  after-fits Nothing h = parts-fit (x .tables) (x .params) (x .lives) (f .tables-12224) params lives
+  after-fits (FillJacks n) h = filled-fits jacksPlace 24 n
+  after-fits (FillStreams n) h = filled-fits pcmsPlace 32 n
+  after-fits (FillMaps n) h = filled-fits mapsPlace 24 n
   after-fits (Store stream to) h =
-      tables-fit (x .jacks) (x .pcms) (x .maps) (set (x .params) stream to) (moved (c .guard) (x .lives) stream 0)
-      jacks pcms maps (set-ok ParamsFit (x .params) stream to (f .params) h, length-set (x .params) stream to ∙ f .params-127) (moved-fits (c .guard) stream 0 (lit< tt, tt))
-  after-fits (Move stream life) h = tables-fit (x .jacks) (x .pcms) (x .maps) (x .params) (moved (c .guard) (x .lives) stream life) jacks pcms maps params (moved-fits (c .guard) stream life h)
+      parts-fit (x .tables) (set (x .params) stream to) (moved (c .guard) (x .lives) stream 0)
+      (f .tables-12224) (set-ok ParamsFit (x .params) stream to (f .params) h, length-set (x .params) stream to ∙ f .params-127) (moved-fits (c .guard) stream 0 (lit< tt, tt))
+  after-fits (Move stream life) h = parts-fit (x .tables) (x .params) (moved (c .guard) (x .lives) stream life) (f .tables-12224) params (moved-fits (c .guard) stream life h)
 
 -- ---- the plans of a call and of an answer fit
 
@@ -312,7 +259,7 @@ module _ (s m : List ℕ) (b : Bytes s) (h : stateSize ≤ length s) (r : Ring) 
 -- ---- a new state: its tables are of what is read where no byte stands
 
 pub new-holds : (on : Bool) (s : List ℕ) (jacks streams maps : ℕ) → stateSize ≤ length s → jacks < 256 ^ 4 → streams < 256 ^ 4 → maps < 256 ^ 4 → soundOf (newIn on s jacks streams maps .store) ≡ newSound on jacks streams maps
-unfolding jackAt pcmAt mapAt paramsAt lifeAt numAt un bytesAt
+unfolding paramsAt lifeAt numAt un bytesAt
 new-holds on s jacks streams maps h j k m =
     guarded-by (λ (x : Made). soundOf (x .store) ≡ newSound on jacks streams maps) _ _ _
     (λ _. store-back s (newSound on jacks streams maps) fits h) (λ e. absurd (false≢true (sym e ∙ le-leb stateSize (length s) h)))
@@ -321,15 +268,10 @@ new-holds on s jacks streams maps h j k m =
     fits =
         record {
           core = head-fits (newCore on jacks streams maps) (new-fits on jacks streams maps j k m);
-          jacks = replicate-ok JackFits 170 (jackInfoOf []) (jack-fits 0 [] no-page);
-          pcms = replicate-ok PcmFits 127 (pcmInfoOf []) (pcm-fits 0 [] no-page);
-          maps = replicate-ok MapFits 170 (channelMapOf []) (map-fits 0 [] no-page);
           params = replicate-ok ParamsFit 127 unset (params-fit 0 [] no-page);
           lives = replicate-ok LifeFits 127 0 (lit< tt, tt);
           tokens = replicate-ok TokenFits 32 freeToken (lit< tt, (lit< tt, tt));
-          jacks-170 = refl;
-          pcms-127 = refl;
-          maps-170 = refl;
+          tables-12224 = length-replicate {A = ℕ} tablesBytes 0;
           params-127 = refl;
           lives-127 = refl;
           tokens-32 = refl;
@@ -337,45 +279,72 @@ new-holds on s jacks streams maps h j k m =
 
 -- ---- what a call leaves is a store again
 
-bytes-sound : (x : Sound) → Bytes (soundBytes x)
+bytes-sound : (x : Sound) → Bytes (x .tables) → Bytes (soundBytes x)
 unfolding soundBytes
-bytes-sound x =
+bytes-sound x t =
     bytes-append (write headRow (headValues (headOf (x .core)))) _ (bytes-write headRow (headValues (headOf (x .core))))
-    (bytes-append (rowsBytes jackBytes (x .jacks)) _ (bytes-rows jackBytes (λ r. bytes-write jackInfo (jackInfoValues r)) (x .jacks))
-    (bytes-append (rowsBytes pcmBytes (x .pcms)) _ (bytes-rows pcmBytes (λ r. bytes-write pcmInfo (pcmInfoValues r)) (x .pcms))
-    (bytes-append (rowsBytes mapBytes (x .maps)) _ (bytes-rows mapBytes (λ r. bytes-write channelMap (channelMapValues r)) (x .maps))
+    (bytes-append (x .tables) _ t
     (bytes-append (rowsBytes paramsBytes (x .params)) _ (bytes-rows paramsBytes (λ p. bytes-write paramsRow (paramsValues p)) (x .params))
     (bytes-append (rowsBytes lifeBytes (x .lives)) _ (bytes-rows lifeBytes (λ l. bytes-write lifeRow (lifeValues l)) (x .lives))
-    (bytes-rows tokenBytes (λ t. bytes-write tokenRow (tokenValues t)) (x .pending .tokens)))))))
+    (bytes-rows tokenBytes (λ t. bytes-write tokenRow (tokenValues t)) (x .pending .tokens)))))
+
+-- tables that were filled from a page are bytes
+bytes-copied : (o bytes n : ℕ) (page t : List ℕ) → Bytes page → Bytes t → Bytes (copiedIn o bytes n page t)
+unfolding copiedIn
+bytes-copied o bytes n page t p b = by (fits page n bytes && leb (o + n * bytes) (length t))
+  where
+    by : (g : Bool) → Bytes (pick g (sets t o (bytesAt 4 (n * bytes) page)) t)
+    by true = bytes-sets (bytesAt 4 (n * bytes) page) t o b (bytes-bytesAt 4 (n * bytes) page p)
+    by false = b
+
+bytes-after : (e : Effect) (c : Core) (x : Sound) (page : List ℕ) → Bytes page → Bytes (x .tables) → Bytes (soundAfter e c x page .tables)
+bytes-after Nothing c x page p b = b
+bytes-after (FillJacks n) c x page p b = bytes-copied jacksPlace 24 n page (x .tables) p b
+bytes-after (FillStreams n) c x page p b = bytes-copied pcmsPlace 32 n page (x .tables) p b
+bytes-after (FillMaps n) c x page p b = bytes-copied mapsPlace 24 n page (x .tables) p b
+bytes-after (Store stream to) c x page p b = b
+bytes-after (Move stream life) c x page p b = b
+
+bytes-tables : (s : List ℕ) → Bytes s → Bytes (soundOf s .tables)
+unfolding soundOf
+bytes-tables s b = bytes-bytesAt headSize tablesBytes s b
 
 module _ (s m r : List ℕ) (b : Bytes s) where
-  after-again : (x : Sound) → Again s (stateAfter s x)
-  after-again x = by (whole s)
+  after-again : (q : Plan) (page : List ℕ) → Bytes page → Again s (stateAfter s (soundAfter (q .effect) (q .core) (soundOf s) page))
+  after-again q page p = by (whole s)
     where
+      x : Sound
+      x = soundAfter (q .effect) (q .core) (soundOf s) page
+
       by : (w : Bool) → Again s (pick w (sets s 0 (soundBytes x)) s)
-      by true = over-again s (soundBytes x) b (bytes-sound x)
+      by true = over-again s (soundBytes x) b (bytes-sound x (bytes-after (q .effect) (q .core) (soundOf s) page p (bytes-tables s b)))
       by false = (b, refl)
 
   pub call-again : (t : Track) (call : Call) → Again s (callIn s t call m r .state)
   unfolding callIn
-  call-again t call = guarded-by (λ (x : Told). Again s (x .state)) _ _ _ (λ _. after-again _) (λ _. (b, refl))
+  call-again t call = guarded-by (λ (x : Told). Again s (x .state)) _ _ _ (λ _. after-again (callOf (soundOf s) t call (length m)) [] no-page) (λ _. (b, refl))
 
-  pub feed-again : (w : Written) (page : List ℕ) → Again s (feedIn w s page m r .state)
+  pub feed-again : (w : Written) (page : List ℕ) → Bytes page → Again s (feedIn w s page m r .state)
   unfolding feedIn
-  feed-again w page = guarded-by (λ (x : Told). Again s (x .state)) _ _ _ (λ _. after-again _) (λ _. (b, refl))
+  feed-again w page p = guarded-by (λ (x : Told). Again s (x .state)) _ _ _ (λ _. after-again (feedOf w (soundOf s) page (length m)) page p) (λ _. (b, refl))
 
   pub fail-again : Again s (failIn s m r .state)
   unfolding failIn
-  fail-again = guarded-by (λ (x : Told). Again s (x .state)) _ _ _ (λ _. after-again _) (λ _. (b, refl))
+  fail-again = guarded-by (λ (x : Told). Again s (x .state)) _ _ _ (λ _. after-again (failOf (soundOf s) (length m)) [] no-page) (λ _. (b, refl))
 
   pub open-again : (t : Track) (stream : ℕ) → Again s (openIn s t stream m .state)
   open-again t stream = opened-by s m t stream (λ (o : Opened). Again s (o .state)) by
     where
       by : (g : Gate) → g ≡ gateIn s m t stream → Again s (openBy s m t stream g .state)
       by (Shut x) e = (b, refl)
-      by SetUp e = after-again _
+      by SetUp e = after-again (setUpPlan (soundOf s) stream) [] no-page
       by (Open period) e = (b, refl)
+
+bytes-zeros : (n : ℕ) → Bytes (replicate n 0)
+bytes-zeros zero k = lit< tt
+bytes-zeros (suc n) zero = lit< tt
+bytes-zeros (suc n) (suc k) = bytes-zeros n k
 
 pub new-again : (on : Bool) (s : List ℕ) → Bytes s → (jacks streams maps : ℕ) → Again s (newIn on s jacks streams maps .store)
 new-again on s b jacks streams maps =
-    guarded-by (λ (x : Made). Again s (x .store)) _ _ _ (λ _. over-again s (soundBytes (newSound on jacks streams maps)) b (bytes-sound (newSound on jacks streams maps))) (λ _. (b, refl))
+    guarded-by (λ (x : Made). Again s (x .store)) _ _ _ (λ _. over-again s (soundBytes (newSound on jacks streams maps)) b (bytes-sound (newSound on jacks streams maps) (bytes-zeros tablesBytes))) (λ _. (b, refl))

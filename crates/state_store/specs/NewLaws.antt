@@ -12,8 +12,7 @@ use Rattle.layout.specs.Bytes.{le, zeros}
 use Rattle.layout.specs.Rows.{rowsBytes}
 use Rattle.layout.specs.StoreLaws.{sets-then}
 use Rattle.codes.specs.SaysLaws.{passes, stops}
-use Rattle.records.specs.Records.{jackInfoOf, pcmInfoOf, channelMapOf, jackBytes, pcmBytes, mapBytes}
-use Rattle.tables.specs.Tables.{noJacks, noStreams, noMaps}
+use Rattle.tables.specs.Tables.{tablesBytes}
 use Rattle.pending.specs.Table.{freeToken}
 use Rattle.core.specs.State.{unset, newCore}
 use Rattle.state_store.specs.Types.{Counts, Core}
@@ -56,18 +55,6 @@ rows-zero g size z e (suc n) =
     ∙ zeros-add size (n * size)
     ∙ ap zeros (add-comm size (n * size) ∙ sym (suc-mul n size))
 
-no-jack : jackBytes (jackInfoOf []) ≡ zeros 24
-unfolding le zeros
-no-jack = refl
-
-no-stream : pcmBytes (pcmInfoOf []) ≡ zeros 32
-unfolding le zeros
-no-stream = refl
-
-no-map : mapBytes (channelMapOf []) ≡ zeros 24
-unfolding le zeros
-no-map = refl
-
 no-params : paramsBytes unset ≡ zeros 16
 unfolding le zeros
 no-params = refl
@@ -80,15 +67,13 @@ no-token : tokenBytes freeToken ≡ zeros 8
 unfolding le zeros
 no-token = refl
 
-no-tables : rowsBytes jackBytes noJacks ++ (rowsBytes pcmBytes noStreams ++ (rowsBytes mapBytes noMaps ++ (rowsBytes paramsBytes (replicate 127 unset) ++ (rowsBytes lifeBytes (replicate 127 0) ++ rowsBytes tokenBytes (replicate 32 freeToken))))) ≡ zeros tablesSize
+no-tables : replicate tablesBytes 0 ++ (rowsBytes paramsBytes (replicate 127 unset) ++ (rowsBytes lifeBytes (replicate 127 0) ++ rowsBytes tokenBytes (replicate 32 freeToken))) ≡ zeros tablesSize
+unfolding zeros
 no-tables =
-    (λ i. rows-zero jackBytes 24 (jackInfoOf []) no-jack 170 i ++ (rows-zero pcmBytes 32 (pcmInfoOf []) no-stream 127 i
-    ++ (rows-zero mapBytes 24 (channelMapOf []) no-map 170 i ++ (rows-zero paramsBytes 16 unset no-params 127 i ++ (rows-zero lifeBytes 1 0 no-life 127 i ++ rows-zero tokenBytes 8 freeToken no-token 32 i)))))
-    ∙ ap (λ (l : List ℕ). zeros 4080 ++ (zeros 4064 ++ (zeros 4080 ++ (zeros 2032 ++ l)))) (zeros-add 127 256)
-    ∙ ap (λ (l : List ℕ). zeros 4080 ++ (zeros 4064 ++ (zeros 4080 ++ l))) (zeros-add 2032 383)
-    ∙ ap (λ (l : List ℕ). zeros 4080 ++ (zeros 4064 ++ l)) (zeros-add 4080 2415)
-    ∙ ap (λ (l : List ℕ). zeros 4080 ++ l) (zeros-add 4064 6495)
-    ∙ zeros-add 4080 10559
+    (λ i. zeros tablesBytes ++ (rows-zero paramsBytes 16 unset no-params 127 i ++ (rows-zero lifeBytes 1 0 no-life 127 i ++ rows-zero tokenBytes 8 freeToken no-token 32 i)))
+    ∙ ap (λ (l : List ℕ). zeros tablesBytes ++ (zeros 2032 ++ l)) (zeros-add 127 256)
+    ∙ ap (λ (l : List ℕ). zeros tablesBytes ++ l) (zeros-add 2032 383)
+    ∙ zeros-add tablesBytes 2415
 
 module _ (on : Bool) (s : List ℕ) (jacks streams maps : ℕ) where
   pub new-short : length s < stateSize → made 10 s ≡ newIn on s jacks streams maps

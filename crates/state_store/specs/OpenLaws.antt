@@ -39,8 +39,11 @@ module _ (s m : List ℕ) (t : Track) (stream : ℕ) where
   pub shut-short : long ≡ false → Shut BadLength ≡ gateIn
   shut-short e = stops _ _ _ e refl
 
+  pub long-open : long ≡ true → stateSize ≤ length s
+  long-open e = leb-true stateSize (length s) (both (leb stateSize (length s)) (leb messageSize (length m)) e .0)
+
   pub long-head : long ≡ true → headSize ≤ length s
-  long-head e = omega (arith, leb-true stateSize (length s) (both (leb stateSize (length s)) (leb messageSize (length m)) e .0))
+  long-head e = omega (arith, long-open e)
 
   -- set-up is begun only where the lengths are right
   pub set-up-long : SetUp ≡ gateIn → (stateSize ≤ length s) × (messageSize ≤ length m)

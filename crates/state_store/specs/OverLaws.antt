@@ -10,27 +10,18 @@ use lib.Seq.{sets}
 use Rattle.layout.specs.Bytes.{bytesAt, Bytes}
 use Rattle.layout.specs.Layout.{write}
 use Rattle.layout.specs.Rows.{rowsBytes}
+use Rattle.layout.specs.BytesLaws.{length-bytesAt}
 use Rattle.layout.specs.LayoutLaws.{length-write, write-read}
 use Rattle.layout.specs.StoreLaws.{sets-then}
 use Rattle.layout.specs.RowsLaws.{length-rows, length-rowsBytes}
-use Rattle.records.specs.Records.{jackInfo, jackInfoValues, pcmInfo, pcmInfoValues, channelMap, channelMapValues, jackBytes, pcmBytes, mapBytes}
-use Rattle.tables.specs.Tables.{jackAt, pcmAt, mapAt}
+use Rattle.tables.specs.Tables.{tablesBytes}
 use Rattle.exchange.specs.Tables.{soundAfter}
-use Rattle.state_store.specs.Types.{JackInfo, PcmInfo, ChannelMap, Params, Core, Sound, Token, Nothing}
-use Rattle.state_store.specs.Places.{headSize, pcmsPlace, mapsPlace, paramsPlace, livesPlace, tokensPlace}
+use Rattle.state_store.specs.Types.{Params, Core, Sound, Token, Nothing}
+use Rattle.state_store.specs.Places.{headSize, paramsPlace, livesPlace, tokensPlace}
 use Rattle.state_store.specs.Store.{headRow, headValues, headOf, paramsRow, paramsBytes, paramsAt, lifeRow, lifeBytes, lifeAt, tokenRow, tokenBytes, tokenIn, soundOf, soundBytes}
-use Rattle.state_store.specs.TableLaws.{Alike, alike-self, alike-on, alike-after, table-kept}
+use Rattle.state_store.specs.TableLaws.{Alike, alike-self, alike-on, alike-after, kept, table-kept}
 
 -- ---- of each record: its size, and that what was read, written again, is the bytes that stand there
-
-pub jack-sized : (r : JackInfo) → length (jackBytes r) ≡ 24
-jack-sized r = length-write jackInfo (jackInfoValues r)
-
-pub pcm-sized : (r : PcmInfo) → length (pcmBytes r) ≡ 32
-pcm-sized r = length-write pcmInfo (pcmInfoValues r)
-
-pub map-sized : (r : ChannelMap) → length (mapBytes r) ≡ 24
-map-sized r = length-write channelMap (channelMapValues r)
 
 pub params-sized : (p : Params) → length (paramsBytes p) ≡ 16
 params-sized p = length-write paramsRow (p .known ∷ p .channels ∷ p .format ∷ p .rate ∷ p .buffer ∷ p .period ∷ p .features ∷ [])
@@ -40,18 +31,6 @@ life-sized l = length-write lifeRow (l ∷ [])
 
 pub token-sized : (t : Token) → length (tokenBytes t) ≡ 8
 token-sized t = length-write tokenRow (t .state ∷ t .status ∷ [])
-
-pub jack-same : (o : ℕ) (s : List ℕ) → Bytes s → jackBytes (jackAt o s) ≡ bytesAt o 24 s
-unfolding jackAt
-jack-same o s b = write-read o jackInfo s b
-
-pub pcm-same : (o : ℕ) (s : List ℕ) → Bytes s → pcmBytes (pcmAt o s) ≡ bytesAt o 32 s
-unfolding pcmAt
-pcm-same o s b = write-read o pcmInfo s b
-
-pub map-same : (o : ℕ) (s : List ℕ) → Bytes s → mapBytes (mapAt o s) ≡ bytesAt o 24 s
-unfolding mapAt
-map-same o s b = write-read o channelMap s b
 
 pub params-same : (o : ℕ) (s : List ℕ) → Bytes s → paramsBytes (paramsAt o s) ≡ bytesAt o 16 s
 unfolding paramsAt
@@ -77,54 +56,36 @@ head-sized c = length-write headRow (headValues (headOf c))
 pub head-alike : (s : List ℕ) (c : Core) → Alike headSize (sets s 0 (headBytes c)) s
 head-alike s c = alike-after 0 0 headSize s s (headBytes c) (alike-self 0 s) (omega arith) (omega (arith, head-sized c))
 
--- ---- a state with tables of the right lengths is written core first, then each table at its place
+-- ---- a state with parts of the right lengths is written core first, then each part at its place
 
 pub record Sized (x : Sound) : Type 0 where
-  pub jacks : length (x .jacks) ≡ 170
-  pub pcms : length (x .pcms) ≡ 127
-  pub maps : length (x .maps) ≡ 170
+  pub tables : length (x .tables) ≡ tablesBytes
   pub params : length (x .params) ≡ 127
   pub lives : length (x .lives) ≡ 127
 
 pub tables-apart : (s : List ℕ) (x : Sound) → Sized x
-    → sets s 0 (soundBytes x) ≡ sets (sets (sets (sets (sets (sets (sets s 0 (headBytes (x .core))) headSize (rowsBytes jackBytes (x .jacks))) pcmsPlace (rowsBytes pcmBytes (x .pcms))) mapsPlace (rowsBytes mapBytes (x .maps))) paramsPlace (rowsBytes paramsBytes (x .params))) livesPlace (rowsBytes lifeBytes (x .lives))) tokensPlace (rowsBytes tokenBytes (x .pending .tokens))
+    → sets s 0 (soundBytes x) ≡ sets (sets (sets (sets (sets s 0 (headBytes (x .core))) headSize (x .tables)) paramsPlace (rowsBytes paramsBytes (x .params))) livesPlace (rowsBytes lifeBytes (x .lives))) tokensPlace (rowsBytes tokenBytes (x .pending .tokens))
 unfolding soundBytes
 tables-apart s x z =
     let h = headBytes (x .core) in
-    let j = rowsBytes jackBytes (x .jacks) in
-    let p = rowsBytes pcmBytes (x .pcms) in
-    let m = rowsBytes mapBytes (x .maps) in
+    let t = x .tables in
     let q = rowsBytes paramsBytes (x .params) in
     let v = rowsBytes lifeBytes (x .lives) in
     let w = rowsBytes tokenBytes (x .pending .tokens) in
-    let lj : length j ≡ 4080 = length-rowsBytes jackBytes 24 jack-sized (x .jacks) ∙ ap (λ (k : ℕ). k * 24) (z .jacks) in
-    let lp : length p ≡ 4064 = length-rowsBytes pcmBytes 32 pcm-sized (x .pcms) ∙ ap (λ (k : ℕ). k * 32) (z .pcms) in
-    let lm : length m ≡ 4080 = length-rowsBytes mapBytes 24 map-sized (x .maps) ∙ ap (λ (k : ℕ). k * 24) (z .maps) in
     let lq : length q ≡ 2032 = length-rowsBytes paramsBytes 16 params-sized (x .params) ∙ ap (λ (k : ℕ). k * 16) (z .params) in
     let lv : length v ≡ 127 = length-rowsBytes lifeBytes 1 life-sized (x .lives) ∙ ap (λ (k : ℕ). k * 1) (z .lives) in
-    let t = sets s 0 h in
+    let u = sets s 0 h in
     sym
-    (sets-then (sets (sets (sets (sets t headSize j) pcmsPlace p) mapsPlace m) paramsPlace q) livesPlace tokensPlace v w (sym (ap (λ (k : ℕ). livesPlace + k) lv))
-    ∙ sets-then (sets (sets (sets t headSize j) pcmsPlace p) mapsPlace m) paramsPlace livesPlace q (v ++ w) (sym (ap (λ (k : ℕ). paramsPlace + k) lq))
-    ∙ sets-then (sets (sets t headSize j) pcmsPlace p) mapsPlace paramsPlace m (q ++ (v ++ w)) (sym (ap (λ (k : ℕ). mapsPlace + k) lm))
-    ∙ sets-then (sets t headSize j) pcmsPlace mapsPlace p (m ++ (q ++ (v ++ w))) (sym (ap (λ (k : ℕ). pcmsPlace + k) lp))
-    ∙ sets-then t headSize pcmsPlace j (p ++ (m ++ (q ++ (v ++ w)))) (sym (ap (λ (k : ℕ). headSize + k) lj))
-    ∙ sets-then s 0 headSize h (j ++ (p ++ (m ++ (q ++ (v ++ w))))) (sym (ap (λ (k : ℕ). 0 + k) (head-sized (x .core)))))
+    (sets-then (sets (sets u headSize t) paramsPlace q) livesPlace tokensPlace v w (sym (ap (λ (k : ℕ). livesPlace + k) lv))
+    ∙ sets-then (sets u headSize t) paramsPlace livesPlace q (v ++ w) (sym (ap (λ (k : ℕ). paramsPlace + k) lq))
+    ∙ sets-then u headSize paramsPlace t (q ++ (v ++ w)) (sym (ap (λ (k : ℕ). headSize + k) (z .tables)))
+    ∙ sets-then s 0 headSize h (t ++ (q ++ (v ++ w))) (sym (ap (λ (k : ℕ). 0 + k) (head-sized (x .core)))))
 
 pub sized-of : (s : List ℕ) (c : Core) → Sized (soundAfter Nothing c (soundOf s) [])
 unfolding soundOf
-sized-of s c = record { jacks = length-rows jackAt 24 headSize 170 s; pcms = length-rows pcmAt 32 pcmsPlace 127 s; maps = length-rows mapAt 24 mapsPlace 170 s; params = length-rows paramsAt 16 paramsPlace 127 s; lives = length-rows lifeAt 1 livesPlace 127 s }
+sized-of s c = record { tables = length-bytesAt headSize tablesBytes s; params = length-rows paramsAt 16 paramsPlace 127 s; lives = length-rows lifeAt 1 livesPlace 127 s }
 
--- ---- each table of the store as it was, and all from one place on
-
-abbrev pub jacksIn : List ℕ → List ℕ
-jacksIn s = rowsBytes jackBytes (soundOf s .jacks)
-
-abbrev pub pcmsIn : List ℕ → List ℕ
-pcmsIn s = rowsBytes pcmBytes (soundOf s .pcms)
-
-abbrev pub mapsIn : List ℕ → List ℕ
-mapsIn s = rowsBytes mapBytes (soundOf s .maps)
+-- ---- each part of the store as it was, and all from one place on
 
 abbrev pub paramsIn : List ℕ → List ℕ
 paramsIn s = rowsBytes paramsBytes (soundOf s .params)
@@ -140,17 +101,9 @@ abbrev pub ends : List ℕ → List ℕ → List ℕ
 ends s u = sets (sets u livesPlace (livesIn s)) tokensPlace (tokensIn s)
 
 module _ (s : List ℕ) (b : Bytes s) (u : List ℕ) where
-  pub jacks-kept : Alike headSize u s → sets u headSize (jacksIn s) ≡ u
+  pub tables-kept : Alike headSize u s → sets u headSize (soundOf s .tables) ≡ u
   unfolding soundOf
-  jacks-kept = table-kept jackAt jackBytes 24 jack-same headSize 170 u s b
-
-  pub pcms-kept : Alike pcmsPlace u s → sets u pcmsPlace (pcmsIn s) ≡ u
-  unfolding soundOf
-  pcms-kept = table-kept pcmAt pcmBytes 32 pcm-same pcmsPlace 127 u s b
-
-  pub maps-kept : Alike mapsPlace u s → sets u mapsPlace (mapsIn s) ≡ u
-  unfolding soundOf
-  maps-kept = table-kept mapAt mapBytes 24 map-same mapsPlace 170 u s b
+  tables-kept = kept headSize tablesBytes u s
 
   pub params-kept : Alike paramsPlace u s → sets u paramsPlace (paramsIn s) ≡ u
   unfolding soundOf
@@ -174,23 +127,11 @@ module _ (s : List ℕ) (b : Bytes s) (u : List ℕ) where
       ap (ends s) (params-kept a)
       ∙ kept-from-lives (alike-on paramsPlace livesPlace u s a (omega arith))
 
-  pub kept-from-maps : Alike mapsPlace u s → ends s (sets (sets u mapsPlace (mapsIn s)) paramsPlace (paramsIn s)) ≡ u
-  kept-from-maps a =
-      ap (λ (l : List ℕ). ends s (sets l paramsPlace (paramsIn s))) (maps-kept a)
-      ∙ kept-from-params (alike-on mapsPlace paramsPlace u s a (omega arith))
-
-  pub kept-from-pcms : Alike pcmsPlace u s
-      → ends s (sets (sets (sets u pcmsPlace (pcmsIn s)) mapsPlace (mapsIn s)) paramsPlace (paramsIn s)) ≡ u
-  kept-from-pcms a =
-      ap (λ (l : List ℕ). ends s (sets (sets l mapsPlace (mapsIn s)) paramsPlace (paramsIn s))) (pcms-kept a)
-      ∙ kept-from-maps (alike-on pcmsPlace mapsPlace u s a (omega arith))
-
-  pub kept-from-jacks : Alike headSize u s
-      → ends s (sets (sets (sets (sets u headSize (jacksIn s)) pcmsPlace (pcmsIn s)) mapsPlace (mapsIn s)) paramsPlace (paramsIn s)) ≡ u
-  kept-from-jacks a =
-      ap (λ (l : List ℕ). ends s (sets (sets (sets l pcmsPlace (pcmsIn s)) mapsPlace (mapsIn s)) paramsPlace (paramsIn s))) (jacks-kept a)
-      ∙ kept-from-pcms (alike-on headSize pcmsPlace u s a (omega arith))
+  pub kept-from-tables : Alike headSize u s → ends s (sets (sets u headSize (soundOf s .tables)) paramsPlace (paramsIn s)) ≡ u
+  kept-from-tables a =
+      ap (λ (l : List ℕ). ends s (sets l paramsPlace (paramsIn s))) (tables-kept a)
+      ∙ kept-from-params (alike-on headSize paramsPlace u s a (omega arith))
 
 -- THE CORE ALONE: its 64 bytes, stored, leave the state with that core and with the tables as they were
 pub core-over : (s : List ℕ) (c : Core) → Bytes s → sets s 0 (write headRow (headValues (headOf c))) ≡ sets s 0 (soundBytes (soundAfter Nothing c (soundOf s) []))
-core-over s c b = sym (tables-apart s (soundAfter Nothing c (soundOf s) []) (sized-of s c) ∙ kept-from-jacks s b (sets s 0 (headBytes c)) (head-alike s c))
+core-over s c b = sym (tables-apart s (soundAfter Nothing c (soundOf s) []) (sized-of s c) ∙ kept-from-tables s b (sets s 0 (headBytes c)) (head-alike s c))

@@ -1,4 +1,4 @@
--- Where the parts of a state stand in its store, and what they take: the head, jacks, streams, channel maps, parameters, lifecycles, tokens.
+-- Where the parts of a state stand in its store, and what they take: the head, the three tables, parameters, lifecycles, tokens.
 -- Assumes nothing.
 use Prim.Native.Nat.{ℕ}
 
@@ -9,19 +9,11 @@ flatPlace = 24
 abbrev pub guardPlace : ℕ
 guardPlace = 48
 
--- the jacks follow
+-- the tables follow, at their own places
 abbrev pub headSize : ℕ
 headSize = 64
 
--- after 170 jacks of 24 bytes
-abbrev pub pcmsPlace : ℕ
-pcmsPlace = 4144
-
--- after 127 streams of 32
-abbrev pub mapsPlace : ℕ
-mapsPlace = 8208
-
--- after 170 channel maps of 24
+-- after 12,224 bytes of them
 abbrev pub paramsPlace : ℕ
 paramsPlace = 12288
 

@@ -83,7 +83,7 @@ ten-left : (x : Sound) (r : Refusal) {y : Sound} → saysRefusal r .number ≡ 1
 ten-left x r e (same o) = refl
 ten-left x r e (closed o g) = absurd (lacks (saysRefusal r .number) (2 ∷ 3 ∷ 7 ∷ 11 ∷ []) (refl, (refl, (refl, (refl, tt)))) e o)
 ten-left x r e (cut o a) = absurd (lacks (saysRefusal r .number) (2 ∷ 5 ∷ 7 ∷ 11 ∷ []) (refl, (refl, (refl, (refl, tt)))) e o)
-ten-left x r e (done {call} n maps o g) = absurd (lacks (saysRefusal r .number) (ownRefusals call) (own-others call) e o)
+ten-left x r e (done {call} n tables j p o g) = absurd (lacks (saysRefusal r .number) (ownRefusals call) (own-others call) e o)
 
 -- ---- of a state that fails the consistency test, every plan is a refusal that keeps it
 

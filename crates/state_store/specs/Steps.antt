@@ -11,6 +11,8 @@ use Rattle.state_store.specs.Calls.{Told, left, resultBytes, Opened, ope
 use mathlib.Core.Path.{_≡_}
 use lib.ListN.{length, take}
 use Rattle.layout.specs.Rows.{rowsBytes}
+use Rattle.tables.specs.Tables.{pcmsIn}
+use Rattle.exchange.specs.State.{pcmsOf}
 use Rattle.exchange.specs.Exchange.{idsFrom, listOf}
 use Rattle.core.specs.Reply.{replyWord, messageAfter, replyOf}
 use Rattle.state_store.specs.Store.{soundOf, soundBytes}
@@ -32,8 +34,9 @@ abbrev pub countBy : Core → ℕ → List ℕ → Shown
 countBy c n r = guard (consistentOf c) (shown 1 r)
     (shown 0 (sets r 0 (le 8 n)))
 
+-- the ids of a direction among the first n streams of the tables
 abbrev pub idsIn : List ℕ → ℕ → ℕ → List ℕ
-idsIn s d n = idsFrom d 0 (take n (soundOf s .pcms))
+idsIn t d n = idsFrom d 0 (take n (pcmsIn t))
 
 pub record Listed (r ids : List ℕ) (count : ℕ) (now : List ℕ) : Type 0 where
   pub counted : count ≡ length ids
@@ -51,7 +54,7 @@ changed w s e c page = pick w (sets s 0 (soundBytes (soundAfter e c (soundOf s) 
 abbrev pub finished : Bool → List ℕ → Plan → List ℕ → List ℕ → List ℕ → Told
 finished w s p page m r =
     left (replyWord (replyOf (p .say))) (changed w s (p .effect) (p .core) page) (messageAfter (p .say) m)
-    (sets r 0 (resultBytes (replyOf (p .say)) (listOf (p .say) (p .core .read .streams) (soundOf s .pcms))))
+    (sets r 0 (resultBytes (replyOf (p .say)) (listOf (p .say) (p .core .read .streams) (pcmsOf (soundOf s)))))
 
 -- a transfer that waits for set-up, by the core at hand
 abbrev pub settingUpBy : Bool → Core → List ℕ → ℕ → List ℕ → Opened

@@ -1,4 +1,4 @@
--- The state as bytes in its owner's storage: 64 bytes of core, then jacks, streams, maps, parameters, lifecycles and tokens, a row for each.
+-- The state as bytes in its owner's storage: 64 bytes of core, then the tables as they are, then parameters, lifecycles and tokens, a row for each.
 -- Assumes nothing.
 use mathlib.Core.Bool.{Bool, true, false, not, _&&_}
 use mathlib.Core.List.{List, [], _∷_, _++_}
@@ -6,13 +6,12 @@ use Prim.Native.Nat.{ℕ, _+_}
 use lib.Dec.{leb, eqb}
 use lib.ListN.{getD}
 use lib.Seq.{sets}
-use Rattle.layout.specs.Bytes.{numAt}
-use Rattle.layout.specs.Layout.{write, readAt, size}
+use Rattle.layout.specs.Bytes.{bytesAt, numAt}
+use Rattle.layout.specs.Layout.{write, readAt}
 use Rattle.layout.specs.Rows.{rowsAt, rowsBytes}
 use Rattle.codes.specs.Says.{pick}
-use Rattle.records.specs.Records.{jackBytes, pcmBytes, mapBytes, jackInfo, pcmInfo, channelMap}
-use Rattle.tables.specs.Tables.{jackAt, pcmAt, mapAt}
-use Rattle.state_store.specs.Places.{headSize, pcmsPlace, mapsPlace, paramsPlace, livesPlace, tokensPlace}
+use Rattle.tables.specs.Tables.{tablesBytes}
+use Rattle.state_store.specs.Places.{headSize, paramsPlace, livesPlace, tokensPlace}
 use Rattle.state_store.specs.Flat.{flatRow, flatValues, flatOf, flatStage, flatReady, wholeFlat}
 use Rattle.state_store.specs.Types.{Params, Core, Sound, Token, Streams, JacksAsked, Head}
 
@@ -123,9 +122,7 @@ unfoldable pub soundOf : List ℕ → Sound
 soundOf s =
     record {
       core = coreOf (headAt s);
-      jacks = rowsAt jackAt (size jackInfo) headSize 170 s;
-      pcms = rowsAt pcmAt (size pcmInfo) pcmsPlace 127 s;
-      maps = rowsAt mapAt (size channelMap) mapsPlace 170 s;
+      tables = bytesAt headSize tablesBytes s;
       params = rowsAt paramsAt 16 paramsPlace 127 s;
       lives = rowsAt lifeAt 1 livesPlace 127 s;
       pending = record { tokens = rowsAt tokenIn 8 tokensPlace 32 s };
@@ -134,7 +131,7 @@ soundOf s =
 unfoldable pub soundBytes : Sound → List ℕ
 soundBytes x =
     write headRow (headValues (headOf (x .core)))
-    ++ (rowsBytes jackBytes (x .jacks) ++ (rowsBytes pcmBytes (x .pcms) ++ (rowsBytes mapBytes (x .maps) ++ (rowsBytes paramsBytes (x .params) ++ (rowsBytes lifeBytes (x .lives) ++ rowsBytes tokenBytes (x .pending .tokens))))))
+    ++ (x .tables ++ (rowsBytes paramsBytes (x .params) ++ (rowsBytes lifeBytes (x .lives) ++ rowsBytes tokenBytes (x .pending .tokens))))
 
 -- what a store holds once its state is x: a store that is not whole holds no state, and stays
 abbrev pub stateAfter : List ℕ → Sound → List ℕ

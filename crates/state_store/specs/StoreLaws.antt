@@ -4,23 +4,23 @@ use mathlib.Core.Path.{_≡_, refl, sym, ap, _∙_}
 use mathlib.Core.Bool.{true}
 use mathlib.Core.List.{List, [], _∷_, _++_, append-assoc, append-nil}
 use Prim.Native.Nat.{ℕ, _+_, _*_, _≤_}
-use native.Mathlib.Nat.{zero-add}
+use native.Mathlib.Nat.{zero-add, add-zero}
 use native.Mathlib.Numerals.{towards-numerals}
 use lib.ListN.{length, getD, drop, length-append}
 use lib.Seq.{sets, sets-eq}
 use Rattle.layout.specs.Bytes.{bytesAt, Bytes}
 use Rattle.layout.specs.Layout.{size, write, readAt, Fit}
+use Rattle.layout.specs.BytesLaws.{bytesAt-append, bytesAt-front}
 use Rattle.layout.specs.LayoutLaws.{length-write, read-write, write-read, read-own}
 use Rattle.layout.specs.Rows.{rowsAt, rowsBytes}
 use Rattle.layout.specs.RowsLaws.{length-rowsBytes, table-back}
 use Rattle.layout.specs.All.{All}
 use Rattle.layout.specs.StoreLaws.{sets-same}
-use Rattle.records.specs.Records.{jackInfo, jackInfoValues, pcmInfo, pcmInfoValues, channelMap, channelMapValues, jackInfoOf, pcmInfoOf, channelMapOf, jackBytes, pcmBytes, mapBytes}
-use Rattle.tables.specs.Tables.{jackAt, pcmAt, mapAt}
-use Rattle.state_store.specs.Places.{headSize, pcmsPlace, mapsPlace, paramsPlace, livesPlace, tokensPlace, stateSize}
+use Rattle.tables.specs.Tables.{tablesBytes}
+use Rattle.state_store.specs.Places.{headSize, paramsPlace, livesPlace, tokensPlace, stateSize}
 use Rattle.state_store.specs.Store.{headRow, headValues, headFrom, headAt, headOf, coreOf, whole, paramsRow, paramsAt, paramsBytes, lifeRow, lifeAt, lifeBytes, tokenRow, tokenIn, tokenBytes, soundOf, soundBytes}
 use Rattle.state_store.specs.FlatLaws.{core-back, core-same}
-use Rattle.state_store.specs.OverLaws.{jack-sized, pcm-sized, map-sized, params-sized, life-sized, token-sized, headBytes, head-sized, core-over}
+use Rattle.state_store.specs.OverLaws.{params-sized, life-sized, token-sized, headBytes, head-sized, core-over}
 use Rattle.state_store.specs.Types.{Params, Sound, Token, Head}
 
 -- ---- WHAT WAS READ, WRITTEN AGAIN, leaves a store that is whole
@@ -68,19 +68,7 @@ module _ {A : Type 0} (ws : List ℕ) (values : A → List ℕ) (of : List ℕ �
   table-of : (a c : List ℕ) (xs : List A) (o n : ℕ) → length a ≡ o → length xs ≡ n → AllFit ws values xs → rowsAt f (size ws) o n (a ++ (rowsBytes g xs ++ c)) ≡ xs
   table-of = table-back f g (size ws) own sized (λ (x : A). Fit ws (values x)) back
 
--- ---- the tables
-
-jack-reads : (o : ℕ) (s : List ℕ) → jackAt o s ≡ jackInfoOf (readAt o jackInfo s)
-unfolding jackAt
-jack-reads o s = refl
-
-pcm-reads : (o : ℕ) (s : List ℕ) → pcmAt o s ≡ pcmInfoOf (readAt o pcmInfo s)
-unfolding pcmAt
-pcm-reads o s = refl
-
-map-reads : (o : ℕ) (s : List ℕ) → mapAt o s ≡ channelMapOf (readAt o channelMap s)
-unfolding mapAt
-map-reads o s = refl
+-- ---- the three tables of rows
 
 abbrev pub paramsValues : Params → List ℕ
 paramsValues p = p .known ∷ p .channels ∷ p .format ∷ p .rate ∷ p .buffer ∷ p .period ∷ p .features ∷ []
@@ -109,45 +97,34 @@ token-reads : (o : ℕ) (s : List ℕ) → tokenIn o s ≡ tokenFrom (readAt o t
 unfolding tokenIn
 token-reads o s = refl
 
--- seven runs and what follows, cut before each
-module _ (h j p m q v w : List ℕ) where
-  abbrev seven : List ℕ
-  seven = h ++ (j ++ (p ++ (m ++ (q ++ (v ++ w)))))
+-- five runs and what follows, cut before each
+module _ (h t q v w : List ℕ) where
+  abbrev five : List ℕ
+  five = h ++ (t ++ (q ++ (v ++ w)))
 
-  whole-cut : seven ≡ (((((h ++ j) ++ p) ++ m) ++ q) ++ v) ++ w
+  whole-cut : five ≡ (((h ++ t) ++ q) ++ v) ++ w
   whole-cut = simp append-assoc
 
   module _ (c : List ℕ) where
-    first-cut : seven ++ c ≡ h ++ (j ++ (p ++ (m ++ (q ++ (v ++ (w ++ c))))))
+    first-cut : five ++ c ≡ h ++ (t ++ (q ++ (v ++ (w ++ c))))
     first-cut = simp append-assoc
 
-    second-cut : seven ++ c ≡ (h ++ j) ++ (p ++ (m ++ (q ++ (v ++ (w ++ c)))))
+    second-cut : five ++ c ≡ (h ++ t) ++ (q ++ (v ++ (w ++ c)))
     second-cut = simp append-assoc
 
-    third-cut : seven ++ c ≡ ((h ++ j) ++ p) ++ (m ++ (q ++ (v ++ (w ++ c))))
+    third-cut : five ++ c ≡ ((h ++ t) ++ q) ++ (v ++ (w ++ c))
     third-cut = simp append-assoc
 
-    fourth-cut : seven ++ c ≡ (((h ++ j) ++ p) ++ m) ++ (q ++ (v ++ (w ++ c)))
+    fourth-cut : five ++ c ≡ (((h ++ t) ++ q) ++ v) ++ (w ++ c)
     fourth-cut = simp append-assoc
 
-    fifth-cut : seven ++ c ≡ ((((h ++ j) ++ p) ++ m) ++ q) ++ (v ++ (w ++ c))
-    fifth-cut = simp append-assoc
-
-    sixth-cut : seven ++ c ≡ (((((h ++ j) ++ p) ++ m) ++ q) ++ v) ++ (w ++ c)
-    sixth-cut = simp append-assoc
-
--- a state with tables of the right lengths, each number of which fits its width
+-- a state with parts of the right lengths, each number of which fits its width
 pub record Fits (x : Sound) : Type 0 where
   pub core : Fit headRow (headValues (headOf (x .core)))
-  pub jacks : AllFit jackInfo jackInfoValues (x .jacks)
-  pub pcms : AllFit pcmInfo pcmInfoValues (x .pcms)
-  pub maps : AllFit channelMap channelMapValues (x .maps)
   pub params : AllFit paramsRow paramsValues (x .params)
   pub lives : AllFit lifeRow lifeValues (x .lives)
   pub tokens : AllFit tokenRow tokenValues (x .pending .tokens)
-  pub jacks-170 : length (x .jacks) ≡ 170
-  pub pcms-127 : length (x .pcms) ≡ 127
-  pub maps-170 : length (x .maps) ≡ 170
+  pub tables-12224 : length (x .tables) ≡ tablesBytes
   pub params-127 : length (x .params) ≡ 127
   pub lives-127 : length (x .lives) ≡ 127
   pub tokens-32 : length (x .pending .tokens) ≡ 32
@@ -156,14 +133,8 @@ module _ (x : Sound) (f : Fits x) where
   abbrev h : List ℕ
   h = headBytes (x .core)
 
-  abbrev j : List ℕ
-  j = rowsBytes jackBytes (x .jacks)
-
-  abbrev p : List ℕ
-  p = rowsBytes pcmBytes (x .pcms)
-
-  abbrev m : List ℕ
-  m = rowsBytes mapBytes (x .maps)
+  abbrev t : List ℕ
+  t = x .tables
 
   abbrev q : List ℕ
   q = rowsBytes paramsBytes (x .params)
@@ -174,15 +145,6 @@ module _ (x : Sound) (f : Fits x) where
   abbrev w : List ℕ
   w = rowsBytes tokenBytes (x .pending .tokens)
 
-  lj : length j ≡ 4080
-  lj = length-rowsBytes jackBytes 24 jack-sized (x .jacks) ∙ ap (λ (k : ℕ). k * 24) (f .jacks-170)
-
-  lp : length p ≡ 4064
-  lp = length-rowsBytes pcmBytes 32 pcm-sized (x .pcms) ∙ ap (λ (k : ℕ). k * 32) (f .pcms-127)
-
-  lm : length m ≡ 4080
-  lm = length-rowsBytes mapBytes 24 map-sized (x .maps) ∙ ap (λ (k : ℕ). k * 24) (f .maps-170)
-
   lq : length q ≡ 2032
   lq = length-rowsBytes paramsBytes 16 params-sized (x .params) ∙ ap (λ (k : ℕ). k * 16) (f .params-127)
 
@@ -192,72 +154,57 @@ module _ (x : Sound) (f : Fits x) where
   lw : length w ≡ 256
   lw = length-rowsBytes tokenBytes 8 token-sized (x .pending .tokens) ∙ ap (λ (k : ℕ). k * 8) (f .tokens-32)
 
-  to-pcms : length (h ++ j) ≡ pcmsPlace
-  to-pcms = length-append h j ∙ (λ i. head-sized (x .core) i + lj i)
+  to-params : length (h ++ t) ≡ paramsPlace
+  to-params = length-append h t ∙ (λ i. head-sized (x .core) i + f .tables-12224 i)
 
-  to-maps : length ((h ++ j) ++ p) ≡ mapsPlace
-  to-maps = length-append (h ++ j) p ∙ (λ i. to-pcms i + lp i)
+  to-lives : length ((h ++ t) ++ q) ≡ livesPlace
+  to-lives = length-append (h ++ t) q ∙ (λ i. to-params i + lq i)
 
-  to-params : length (((h ++ j) ++ p) ++ m) ≡ paramsPlace
-  to-params = length-append ((h ++ j) ++ p) m ∙ (λ i. to-maps i + lm i)
-
-  to-lives : length ((((h ++ j) ++ p) ++ m) ++ q) ≡ livesPlace
-  to-lives = length-append (((h ++ j) ++ p) ++ m) q ∙ (λ i. to-params i + lq i)
-
-  to-tokens : length (((((h ++ j) ++ p) ++ m) ++ q) ++ v) ≡ tokensPlace
-  to-tokens = length-append ((((h ++ j) ++ p) ++ m) ++ q) v ∙ (λ i. to-lives i + lv i)
+  to-tokens : length (((h ++ t) ++ q) ++ v) ≡ tokensPlace
+  to-tokens = length-append ((h ++ t) ++ q) v ∙ (λ i. to-lives i + lv i)
 
   to-end : length (soundBytes x) ≡ stateSize
   unfolding soundBytes
-  to-end = ap length (whole-cut h j p m q v w) ∙ length-append (((((h ++ j) ++ p) ++ m) ++ q) ++ v) w ∙ (λ i. to-tokens i + lw i)
+  to-end = ap length (whole-cut h t q v w) ∙ length-append (((h ++ t) ++ q) ++ v) w ∙ (λ i. to-tokens i + lw i)
 
   module _ (c : List ℕ) where
     core-in : coreOf (headAt (soundBytes x ++ c)) ≡ x .core
     unfolding soundBytes
     core-in =
-        ap (λ (l : List ℕ). coreOf (headAt l)) (first-cut h j p m q v w c)
-        ∙ ap coreOf (head-back (headOf (x .core)) (j ++ (p ++ (m ++ (q ++ (v ++ (w ++ c)))))) (f .core))
+        ap (λ (l : List ℕ). coreOf (headAt l)) (first-cut h t q v w c)
+        ∙ ap coreOf (head-back (headOf (x .core)) (t ++ (q ++ (v ++ (w ++ c)))) (f .core))
         ∙ core-back (x .core)
 
-    jacks-in : rowsAt jackAt 24 headSize 170 (soundBytes x ++ c) ≡ x .jacks
+    tables-in : bytesAt headSize tablesBytes (soundBytes x ++ c) ≡ x .tables
     unfolding soundBytes
-    jacks-in =
-        ap (rowsAt jackAt 24 headSize 170) (first-cut h j p m q v w c)
-        ∙ table-of jackInfo jackInfoValues jackInfoOf (λ r. refl) jackAt jack-reads h (p ++ (m ++ (q ++ (v ++ (w ++ c))))) (x .jacks) headSize 170 (head-sized (x .core)) (f .jacks-170) (f .jacks)
-
-    pcms-in : rowsAt pcmAt 32 pcmsPlace 127 (soundBytes x ++ c) ≡ x .pcms
-    unfolding soundBytes
-    pcms-in =
-        ap (rowsAt pcmAt 32 pcmsPlace 127) (second-cut h j p m q v w c)
-        ∙ table-of pcmInfo pcmInfoValues pcmInfoOf (λ r. refl) pcmAt pcm-reads (h ++ j) (m ++ (q ++ (v ++ (w ++ c)))) (x .pcms) pcmsPlace 127 to-pcms (f .pcms-127) (f .pcms)
-
-    maps-in : rowsAt mapAt 24 mapsPlace 170 (soundBytes x ++ c) ≡ x .maps
-    unfolding soundBytes
-    maps-in =
-        ap (rowsAt mapAt 24 mapsPlace 170) (third-cut h j p m q v w c)
-        ∙ table-of channelMap channelMapValues channelMapOf (λ r. refl) mapAt map-reads ((h ++ j) ++ p) (q ++ (v ++ (w ++ c))) (x .maps) mapsPlace 170 to-maps (f .maps-170) (f .maps)
+    tables-in =
+        let r = q ++ (v ++ (w ++ c)) in
+        ap (bytesAt headSize tablesBytes) (first-cut h t q v w c)
+        ∙ (λ i. bytesAt (sym (add-zero (length h) ∙ head-sized (x .core)) i) (sym (f .tables-12224) i) (h ++ (t ++ r)))
+        ∙ bytesAt-append h (t ++ r) 0 (length t)
+        ∙ bytesAt-front t r
 
     params-in : rowsAt paramsAt 16 paramsPlace 127 (soundBytes x ++ c) ≡ x .params
     unfolding soundBytes
     params-in =
-        ap (rowsAt paramsAt 16 paramsPlace 127) (fourth-cut h j p m q v w c)
-        ∙ table-of paramsRow paramsValues paramsFrom (λ r. refl) paramsAt params-reads (((h ++ j) ++ p) ++ m) (v ++ (w ++ c)) (x .params) paramsPlace 127 to-params (f .params-127) (f .params)
+        ap (rowsAt paramsAt 16 paramsPlace 127) (second-cut h t q v w c)
+        ∙ table-of paramsRow paramsValues paramsFrom (λ r. refl) paramsAt params-reads (h ++ t) (v ++ (w ++ c)) (x .params) paramsPlace 127 to-params (f .params-127) (f .params)
 
     lives-in : rowsAt lifeAt 1 livesPlace 127 (soundBytes x ++ c) ≡ x .lives
     unfolding soundBytes
     lives-in =
-        ap (rowsAt lifeAt 1 livesPlace 127) (fifth-cut h j p m q v w c)
-        ∙ table-of lifeRow lifeValues (λ vs. getD vs 0 0) (λ r. refl) lifeAt life-reads ((((h ++ j) ++ p) ++ m) ++ q) (w ++ c) (x .lives) livesPlace 127 to-lives (f .lives-127) (f .lives)
+        ap (rowsAt lifeAt 1 livesPlace 127) (third-cut h t q v w c)
+        ∙ table-of lifeRow lifeValues (λ vs. getD vs 0 0) (λ r. refl) lifeAt life-reads ((h ++ t) ++ q) (w ++ c) (x .lives) livesPlace 127 to-lives (f .lives-127) (f .lives)
 
     tokens-in : rowsAt tokenIn 8 tokensPlace 32 (soundBytes x ++ c) ≡ x .pending .tokens
     unfolding soundBytes
     tokens-in =
-        ap (rowsAt tokenIn 8 tokensPlace 32) (sixth-cut h j p m q v w c)
-        ∙ table-of tokenRow tokenValues tokenFrom (λ r. refl) tokenIn token-reads (((((h ++ j) ++ p) ++ m) ++ q) ++ v) c (x .pending .tokens) tokensPlace 32 to-tokens (f .tokens-32) (f .tokens)
+        ap (rowsAt tokenIn 8 tokensPlace 32) (fourth-cut h t q v w c)
+        ∙ table-of tokenRow tokenValues tokenFrom (λ r. refl) tokenIn token-reads (((h ++ t) ++ q) ++ v) c (x .pending .tokens) tokensPlace 32 to-tokens (f .tokens-32) (f .tokens)
 
     sound-back : soundOf (soundBytes x ++ c) ≡ x
     unfolding soundOf
-    sound-back = λ i. record { core = core-in i; jacks = jacks-in i; pcms = pcms-in i; maps = maps-in i; params = params-in i; lives = lives-in i; pending = record { tokens = tokens-in i } }
+    sound-back = λ i. record { core = core-in i; tables = tables-in i; params = params-in i; lives = lives-in i; pending = record { tokens = tokens-in i } }
 
 pub store-back : (s : List ℕ) (x : Sound) → Fits x → stateSize ≤ length s → soundOf (sets s 0 (soundBytes x)) ≡ x
 store-back s x f l =

@@ -1,19 +1,18 @@
--- A table in a store, written again with one part of it new: only that part is stored. Over the table's place, its records' size, what reads one and
--- what writes one.
+-- A part of a store, written again with something in it new: only that is stored. Over the part's place; of rows, over their size, what reads one and what
+-- writes one.
 -- Assumes nothing.
 use mathlib.Core.Path.{_≡_, refl, sym, ap, _∙_}
-use mathlib.Core.List.{List, _++_}
+use mathlib.Core.List.{List, _++_, append-assoc}
 use Prim.Native.Nat.{ℕ, suc, _+_, _-_, _*_, _<_, _≤_}
 use native.Mathlib.Nat.{suc-mul, le-refl}
 use native.Mathlib.Omega.{arith}
-use lib.ListN.{length, set, drop}
-use lib.Seq.{sets}
+use lib.ListN.{length, set, take, drop}
+use lib.Seq.{sets, sets-eq, take-at, drop-at}
 use Rattle.layout.specs.Bytes.{bytesAt, Bytes}
 use Rattle.layout.specs.Rows.{rowsAt, rowsBytes}
-use Rattle.layout.specs.BytesLaws.{length-bytesAt}
+use Rattle.layout.specs.BytesLaws.{length-bytesAt, bytesAt-add}
 use Rattle.layout.specs.StoreLaws.{sets-then, sets-same, bytesAt-after}
-use Rattle.layout.specs.RowsLaws.{length-rows, rows-take, rows-drop, rows-same, rowsBytes-append, rows-with}
-use Rattle.tables.specs.Tables.{filled}
+use Rattle.layout.specs.RowsLaws.{length-rows, rows-take, rows-drop, rows-same, rows-with}
 
 -- from place o on, u holds what s held
 abbrev pub Alike : ℕ → List ℕ → List ℕ → Type 0
@@ -30,28 +29,41 @@ pub alike-after : (o i j : ℕ) (u s v : List ℕ) → Alike o u s → o ≤ j �
 alike-after o i j u s v a h k p m q = bytesAt-after v u i p m (omega arith) ∙ a p m (omega arith)
 
 -- what stands there already, stored again
-kept : (o m : ℕ) (u s : List ℕ) → Alike o u s → sets u o (bytesAt o m s) ≡ u
+pub kept : (o m : ℕ) (u s : List ℕ) → Alike o u s → sets u o (bytesAt o m s) ≡ u
 kept o m u s a = ap (sets u o) (sym (a o m (le-refl o))) ∙ sets-same u o m
 
--- ---- a table
+-- ---- bytes as they are, some of them new
+
+take-bytes : (h m k : ℕ) (s : List ℕ) → k ≤ m → take k (bytesAt h m s) ≡ bytesAt h k s
+take-bytes h m k s q =
+    let e : m ≡ k + (m - k) = omega arith in
+    ap (λ (z : ℕ). take k (bytesAt h z s)) e ∙ ap (take k) (bytesAt-add h k (m - k) s) ∙ take-at (bytesAt h k s) _ k (length-bytesAt h k s)
+
+drop-bytes : (h m k : ℕ) (s : List ℕ) → k ≤ m → drop k (bytesAt h m s) ≡ bytesAt (h + k) (m - k) s
+drop-bytes h m k s q =
+    let e : m ≡ k + (m - k) = omega arith in
+    ap (λ (z : ℕ). drop k (bytesAt h z s)) e ∙ ap (drop k) (bytesAt-add h k (m - k) s) ∙ drop-at (bytesAt h k s) _ k (length-bytesAt h k s)
+
+pub part-stored : (h m o : ℕ) (u s v : List ℕ) → Alike h u s → o + length v ≤ m → sets u h (sets (bytesAt h m s) o v) ≡ sets u (h + o) v
+part-stored h m o u s v a q =
+    let k = o + length v in
+    let j = h + k in
+    let c = bytesAt j (m - k) s in
+    let l : length (bytesAt h m s) ≡ m = length-bytesAt h m s in
+    let e : j ≡ h + o + length v = omega arith in
+    ap (sets u h) (sets-eq v (bytesAt h m s) o (omega arith) ∙ (λ i. (take-bytes h m o s (omega arith) i ++ v) ++ drop-bytes h m k s q i) ∙ append-assoc (bytesAt h o s) v c)
+    ∙ sym (sets-then u h (h + o) (bytesAt h o s) (v ++ c) (ap (λ (z : ℕ). h + z) (sym (length-bytesAt h o s))))
+    ∙ ap (λ (x : List ℕ). sets x (h + o) (v ++ c)) (kept h o u s a)
+    ∙ sym (sets-then u (h + o) j v c e)
+    ∙ kept j (m - k) (sets u (h + o) v) s (alike-after h (h + o) j u s v a (omega arith) (omega arith))
+
+-- ---- rows
 
 module _ {A : Type 0} (f : ℕ → List ℕ → A) (g : A → List ℕ) (size : ℕ) (same : (o : ℕ) (s : List ℕ) → Bytes s → g (f o s) ≡ bytesAt o size s)
     (o n : ℕ) (u s : List ℕ) (b : Bytes s) (a : Alike o u s) where
   -- as it was
   pub table-kept : sets u o (rowsBytes g (rowsAt f size o n s)) ≡ u
   table-kept = ap (sets u o) (rows-same f g size same o n s b) ∙ kept o (n * size) u s a
-
-  -- its first k records from a page: the page's own bytes
-  pub table-filled : (k : ℕ) (page : List ℕ) → Bytes page → k ≤ n → sets u o (rowsBytes g (filled f size page k (rowsAt f size o n s))) ≡ sets u o (bytesAt 4 (k * size) page)
-  table-filled k page p h =
-      let v = bytesAt 4 (k * size) page in
-      let j = o + k * size in
-      let l : length v ≡ k * size = length-bytesAt 4 (k * size) page in
-      ap (sets u o)
-      (rowsBytes-append g (rowsAt f size 4 k page) (drop k (rowsAt f size o n s))
-      ∙ (λ i. rows-same f g size same 4 k page p i ++ (ap (rowsBytes g) (rows-drop f size o n k s h) ∙ rows-same f g size same j (n - k) s b) i))
-      ∙ sym (sets-then u o j v (bytesAt j ((n - k) * size) s) (ap (λ (z : ℕ). o + z) (sym l)))
-      ∙ kept j ((n - k) * size) (sets u o v) s (alike-after o o j u s v a (omega arith) (omega arith))
 
   -- its record k new: that record's bytes
   pub table-set : (k : ℕ) (y : A) → length (g y) ≡ size → k < n → sets u o (rowsBytes g (set (rowsAt f size o n s) k y)) ≡ sets u (o + k * size) (g y)

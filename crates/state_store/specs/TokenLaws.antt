@@ -28,13 +28,13 @@ use Rattle.exchange.specs.State.{configuredOf}
 use Rattle.exchange.specs.Submit.{withPending, endBy, tokenSeen}
 use Rattle.exchange.specs.SubmitLaws as step
 use Rattle.state_store.specs.Types.{Core, Token, Pending, Seen, TokenTold}
-use Rattle.state_store.specs.Places.{headSize, pcmsPlace, mapsPlace, paramsPlace, livesPlace, tokensPlace, stateSize}
+use Rattle.state_store.specs.Places.{headSize, paramsPlace, livesPlace, tokensPlace, stateSize}
 use Rattle.state_store.specs.Store.{tokenRow, tokenIn, tokenBytes, whole, headAt, coreOf, soundOf, soundBytes, stateAfter}
 use Rattle.state_store.specs.Calls.{lengths}
 use Rattle.state_store.specs.Tokens.{outcomeWord, endLeft, markIn, finishIn, pendingIn, seenIn}
 use Rattle.state_store.specs.Steps.{countBy, tokenOver, shownOf}
 use Rattle.state_store.specs.TableLaws.{alike-self, table-set}
-use Rattle.state_store.specs.OverLaws.{token-sized, token-same, sized-of, tables-apart, jacksIn, pcmsIn, mapsIn, paramsIn, livesIn, jacks-kept, pcms-kept, maps-kept, params-kept, lives-kept, tokens-kept}
+use Rattle.state_store.specs.OverLaws.{token-sized, token-same, sized-of, tables-apart, paramsIn, livesIn, tables-kept, params-kept, lives-kept, tokens-kept}
 use Rattle.state_store.specs.StoreLaws.{core-at, head-kept}
 use Rattle.state_store.specs.RefusedLaws.{state-kept, not-whole}
 
@@ -78,11 +78,9 @@ token-stored s s₁ s₂ o t e₁ e₂ = stored s₂ s o tokenRow (t .state ∷ 
 
 module _ (s : List ℕ) (b : Bytes s) where
   -- every table before the tokens, as it was
-  before-tokens : sets (sets (sets (sets (sets s headSize (jacksIn s)) pcmsPlace (pcmsIn s)) mapsPlace (mapsIn s)) paramsPlace (paramsIn s)) livesPlace (livesIn s) ≡ s
+  before-tokens : sets (sets (sets s headSize (soundOf s .tables)) paramsPlace (paramsIn s)) livesPlace (livesIn s) ≡ s
   before-tokens =
-      ap (λ (l : List ℕ). sets (sets (sets (sets l pcmsPlace (pcmsIn s)) mapsPlace (mapsIn s)) paramsPlace (paramsIn s)) livesPlace (livesIn s)) (jacks-kept s b s (alike-self headSize s))
-      ∙ ap (λ (l : List ℕ). sets (sets (sets l mapsPlace (mapsIn s)) paramsPlace (paramsIn s)) livesPlace (livesIn s)) (pcms-kept s b s (alike-self pcmsPlace s))
-      ∙ ap (λ (l : List ℕ). sets (sets l paramsPlace (paramsIn s)) livesPlace (livesIn s)) (maps-kept s b s (alike-self mapsPlace s))
+      ap (λ (l : List ℕ). sets (sets l paramsPlace (paramsIn s)) livesPlace (livesIn s)) (tables-kept s b s (alike-self headSize s))
       ∙ ap (λ (l : List ℕ). sets l livesPlace (livesIn s)) (params-kept s b s (alike-self paramsPlace s))
       ∙ lives-kept s b s (alike-self livesPlace s)
 
@@ -105,8 +103,8 @@ module _ (s : List ℕ) (b : Bytes s) where
     token-over w =
         let z = sized-of s (soundOf s .core) in
         sym
-        (tables-apart s (withPending (soundOf s) (put (soundOf s .pending) k t)) (record { jacks = z .jacks; pcms = z .pcms; maps = z .maps; params = z .params; lives = z .lives })
-        ∙ ap (λ (l : List ℕ). sets (sets (sets (sets (sets (sets l headSize (jacksIn s)) pcmsPlace (pcmsIn s)) mapsPlace (mapsIn s)) paramsPlace (paramsIn s)) livesPlace (livesIn s)) tokensPlace tokens) (head-kept s b w)
+        (tables-apart s (withPending (soundOf s) (put (soundOf s .pending) k t)) (record { tables = z .tables; params = z .params; lives = z .lives })
+        ∙ ap (λ (l : List ℕ). sets (sets (sets (sets l headSize (soundOf s .tables)) paramsPlace (paramsIn s)) livesPlace (livesIn s)) tokensPlace tokens) (head-kept s b w)
         ∙ ap (λ (l : List ℕ). sets l tokensPlace tokens) before-tokens
         ∙ one-token)
 

@@ -2,9 +2,6 @@
 -- Assumes nothing.
 pub use Rattle.codes.specs.declared.answers.Refusal.{Refusal}
 pub use Rattle.codes.specs.declared.answers.Refusal.the-variants.{BadLength, QueueFailed, InvalidParam}
-pub use Rattle.records.specs.declared.info.JackInfo.{JackInfo}
-pub use Rattle.records.specs.declared.info.PcmInfo.{PcmInfo}
-pub use Rattle.records.specs.declared.info.ChannelMap.{ChannelMap}
 pub use Rattle.tables.specs.declared.verdict.Verdict.{Verdict}
 pub use Rattle.tables.specs.declared.verdict.Verdict.the-variants.{Refused}
 pub use Rattle.tables.specs.declared.verdict.Written.{Written}

@@ -31,7 +31,6 @@ use Rattle.state_store.specs.Places.{headSize, stateSize}
 use Rattle.layout.specs.Lent.{resultSize}
 use Rattle.state_store.specs.Flat.{flatRow, flatValues, callFlat, staged, flatOf}
 use Rattle.state_store.specs.Store.{guardRow, flag, lifeBytes, tokenBytes, wholeHead, headRow, headValues, headFrom, headAt, headOf, coreOf, whole, paramsBytes, soundOf, soundBytes}
-use Rattle.records.specs.Records.{jackBytes, pcmBytes, mapBytes}
 use Rattle.layout.specs.Lent.{Made}
 use Rattle.state_store.specs.Calls.{Told, told, lengths, callIn, feedIn, failIn, Opened, settingUp, openIn, newIn}
 use Rattle.state_store.specs.FlatLaws.{core-same, head-whole}
@@ -172,7 +171,7 @@ pub left-head : (s : List ℕ) (x : Sound) → FitCore (x .core) → headSize �
 unfolding soundBytes
 left-head s x f l =
     let h = headBytes (x .core) in
-    let rest = rowsBytes jackBytes (x .jacks) ++ (rowsBytes pcmBytes (x .pcms) ++ (rowsBytes mapBytes (x .maps) ++ (rowsBytes paramsBytes (x .params) ++ (rowsBytes lifeBytes (x .lives) ++ rowsBytes tokenBytes (x .pending .tokens))))) in
+    let rest = x .tables ++ (rowsBytes paramsBytes (x .params) ++ (rowsBytes lifeBytes (x .lives) ++ rowsBytes tokenBytes (x .pending .tokens))) in
     let e : 0 + length h ≡ headSize = zero-add (length h) ∙ head-sized (x .core) in
     ap headAt (sym (sets-then s 0 headSize h rest (sym e)))
     ∙ head-before (sets s 0 h) rest

@@ -16,6 +16,8 @@ use crate::head::core_by;
 use crate::head::get_head;
 use crate::head::is_whole;
 use crate::head::put_core;
+use crate::place::HEAD;
+use crate::place::PARAMS;
 use crate::place::life_at;
 use crate::place::look;
 use crate::place::params_at;
@@ -112,7 +114,7 @@ fn finish(
     let core = plan.core;
     let say = plan.say;
     let effect = plan.effect;
-    put_result(&state[..], say, core.read.streams, &mut *result);
+    put_result(&state[HEAD..PARAMS], say, core.read.streams, &mut *result);
     change(&mut *state, whole, effect, core, page);
     word_of(tell(say, &mut *message))
 }

@@ -4,10 +4,9 @@ ghost use Prim.Native.Nat.{_+_, _*_, _≤_};
 ghost use lib.Dec.{ltb};
 ghost use lib.ListN.{length};
 ghost use lib.Seq.{sets};
-ghost use Rattle.layout.specs.Bytes.{bytesAt};
 ghost use Rattle.codes.specs.Says.{pick};
 ghost use Rattle.state_store.specs.Store.{paramsBytes};
-ghost use Rattle.state_store.specs.Effect.{copiedIn, livedIn, effectIn};
+ghost use Rattle.state_store.specs.Effect.{livedIn, effectIn};
 ghost use Rattle.state_store.specs.Places.{paramsPlace, stateSize};
 use crate::fields;
 use crate::place::JACKS;
@@ -22,30 +21,7 @@ use core::Params;
 use records::ChannelMap;
 use records::JackInfo;
 use records::PcmInfo;
-use tables::holds;
-
-// A byte at a time, which compiles to one copy of memory.
-fn copy(s: &mut [u8], at: usize, page: &[u8], from: usize, n: usize)
-    requires { ⌜ (at + n ≤ length (now s)) × (from + n ≤ length (now page)) ⌝ }
-    ensures { λ _. ⌜ now (s .exit) ≡ sets (now (s .entry)) at (bytesAt from n (now (page .entry))) ⌝ }
-{
-    let mut i: usize = 0;
-    while i < n {
-        s[at + i] = page[from + i];
-        i += 1;
-    }
-}
-
-// The records of a page are the table's own bytes. It is tested that the page holds so many, so that
-// no count runs past the page or the table.
-fn fill(s: &mut [u8], at: usize, size: u32, n: u32, page: &[u8])
-    requires { ⌜ at + 4092 ≤ length (now s) ⌝ }
-    ensures { λ _. ⌜ now (s .exit) ≡ copiedIn at size n (now (page .entry)) (now (s .entry)) ⌝ }
-{
-    if holds(page, n, size) {
-        copy(&mut *s, at, page, 4, (n as usize) * (size as usize));
-    }
-}
+use tables::fill;
 
 // Past the last stream nothing is stored.
 fn put_params(s: &mut [u8], stream: u32, to: Params)

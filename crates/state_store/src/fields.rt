@@ -1,4 +1,4 @@
-// Where the fields stand: the head's in a store, a record's in its record.
+// Where the fields stand: the head's in a store, those of parameters in their row.
 
 // How many there are, and how many were read.
 pub(crate) const JACKS_COUNT: usize = 0;
@@ -43,22 +43,6 @@ pub(crate) const GUARD: usize = 48;
 
 // What is reserved.
 pub(crate) const RESERVED: usize = 56;
-
-// A jack's record.
-pub(crate) const JACK_FEATURES: usize = 4;
-
-// A stream's record.
-pub(crate) const STREAM_FEATURES: usize = 4;
-
-pub(crate) const STREAM_FORMATS: usize = 8;
-
-pub(crate) const STREAM_RATES: usize = 16;
-
-pub(crate) const STREAM_DIRECTION: usize = 24;
-
-pub(crate) const STREAM_MIN: usize = 25;
-
-pub(crate) const STREAM_MAX: usize = 26;
 
 // What a stream was set to; whether it was stands first.
 pub(crate) const SET_CHANNELS: usize = 1;

@@ -7,14 +7,12 @@ ghost use Rattle.codes.specs.Says.{pick};
 ghost use Rattle.core.specs.Reply.{replyOf};
 ghost use Rattle.exchange.specs.Exchange.{listed, idsBy, listOf};
 ghost use Rattle.core.specs.declared.plan.Value.the-variants as value;
-ghost use Rattle.state_store.specs.Store.{soundOf};
+ghost use Rattle.tables.specs.Tables.{pcmsIn};
 ghost use Rattle.state_store.specs.Calls.{valueBytes, resultBytes};
 ghost use Rattle.state_store.specs.Steps.{idsIn, Listed};
-use crate::fields;
-use crate::place::PCMS;
 use core::Say;
 use core::Value;
-use records::PcmInfo;
+use exchange::direction_at;
 
 // One more id after `count` of them, where that is wanted; how many there are then.
 fn put_id(result: &mut [u8], count: usize, wanted: bool, id: u32) -> usize
@@ -30,14 +28,14 @@ fn put_id(result: &mut [u8], count: usize, wanted: bool, id: u32) -> usize
 }
 
 // The streams of a direction among the first `n`, from byte 4 on; how many they are.
-fn put_ids(s: &[u8], direction: u8, n: usize, result: &mut [u8]) -> usize
+fn put_ids(tables: &[u8], direction: u8, n: usize, result: &mut [u8]) -> usize
     requires { ⌜ n ≤ 127 ⌝ }
-    ensures { λ r. ⌜ Listed (now (result .entry)) (idsIn (now (s .entry)) direction n) r (now (result .exit)) ⌝ }
+    ensures { λ r. ⌜ Listed (now (result .entry)) (idsIn (now (tables .entry)) direction n) r (now (result .exit)) ⌝ }
 {
     let mut count: usize = 0;
     let mut i: usize = 0;
     while i < n {
-        let found = layout::get_u8(s, PCMS + i * PcmInfo::SIZE + fields::STREAM_DIRECTION);
+        let found = direction_at(tables, i as u32);
         count = put_id(&mut *result, count, found == direction, i as u32);
         i += 1;
     }
@@ -45,20 +43,20 @@ fn put_ids(s: &[u8], direction: u8, n: usize, result: &mut [u8]) -> usize
 }
 
 // The list of them: the count stands before the ids. A table of more than 127 counts as one of 127.
-fn put_streams(s: &[u8], direction: u8, n: u32, result: &mut [u8])
-    ensures { λ _. ⌜ now (result .exit) ≡ sets (now (result .entry)) 0 (valueBytes (value.Streams direction) (listed (idsBy (value.Streams direction) n (soundOf (now (s .entry)) .pcms)))) ⌝ }
+fn put_streams(tables: &[u8], direction: u8, n: u32, result: &mut [u8])
+    ensures { λ _. ⌜ now (result .exit) ≡ sets (now (result .entry)) 0 (valueBytes (value.Streams direction) (listed (idsBy (value.Streams direction) n (pcmsIn (now (tables .entry)))))) ⌝ }
 {
     if 127 < n {
-        let all = put_ids(s, direction, 127, &mut *result);
+        let all = put_ids(tables, direction, 127, &mut *result);
         layout::put_u32(&mut *result, 0, all as u32);
         return;
     }
-    let count = put_ids(s, direction, n as usize, &mut *result);
+    let count = put_ids(tables, direction, n as usize, &mut *result);
     layout::put_u32(&mut *result, 0, count as u32);
 }
 
-fn put_value(s: &[u8], v: Value, n: u32, result: &mut [u8])
-    ensures { λ _. ⌜ now (result .exit) ≡ sets (now (result .entry)) 0 (valueBytes v (listed (idsBy v n (soundOf (now (s .entry)) .pcms)))) ⌝ }
+fn put_value(tables: &[u8], v: Value, n: u32, result: &mut [u8])
+    ensures { λ _. ⌜ now (result .exit) ≡ sets (now (result .entry)) 0 (valueBytes v (listed (idsBy v n (pcmsIn (now (tables .entry)))))) ⌝ }
 {
     match v {
         Value::Nothing => {}
@@ -67,18 +65,18 @@ fn put_value(s: &[u8], v: Value, n: u32, result: &mut [u8])
             layout::put_u8(&mut *result, 0, min);
             layout::put_u8(&mut *result, 1, max);
         }
-        Value::Streams { direction } => put_streams(s, direction, n, &mut *result),
+        Value::Streams { direction } => put_streams(tables, direction, n, &mut *result),
     }
 }
 
-// What is said, with the streams of the store where it is a list of them. Only the result's own
+// What is said, with the streams of the tables where it is a list of them. Only the result's own
 // bytes are written; what is not a result writes none.
-pub(crate) fn put_result(s: &[u8], say: Say, n: u32, result: &mut [u8])
-    ensures { λ _. ⌜ now (result .exit) ≡ sets (now (result .entry)) 0 (resultBytes (replyOf say) (listOf say n (soundOf (now (s .entry)) .pcms))) ⌝ }
+pub(crate) fn put_result(tables: &[u8], say: Say, n: u32, result: &mut [u8])
+    ensures { λ _. ⌜ now (result .exit) ≡ sets (now (result .entry)) 0 (resultBytes (replyOf say) (listOf say n (pcmsIn (now (tables .entry))))) ⌝ }
 {
     match say {
         Say::Send(_) => {}
-        Say::Done(v) => put_value(s, v, n, &mut *result),
+        Say::Done(v) => put_value(tables, v, n, &mut *result),
         Say::Refused(_) => {}
     }
 }

@@ -2,5 +2,5 @@
 pub mod Tables
 -- laws
 pub mod TablesLaws
-pub mod TableLengthLaws
+pub mod FillLaws
 pub mod WrittenLaws

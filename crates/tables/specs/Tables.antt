@@ -4,9 +4,10 @@ use mathlib.Core.Bool.{Bool, true, false, _&&_}
 use mathlib.Core.List.{List, [], _∷_, _++_}
 use Prim.Native.Nat.{ℕ, _+_, _*_}
 use lib.Dec.{leb, eqb}
-use lib.ListN.{length, drop, replicate}
+use lib.ListN.{length, drop}
+use lib.Seq.{sets}
 use Rattle.layout.specs.Lent.{pageSize}
-use Rattle.layout.specs.Bytes.{numAt}
+use Rattle.layout.specs.Bytes.{bytesAt, numAt}
 use Rattle.layout.specs.Layout.{size, readAt}
 use Rattle.layout.specs.Rows.{rowsAt}
 use Rattle.codes.specs.Says.{Says, says, pick, guard}
@@ -83,22 +84,34 @@ filled f bytes page n old = rowsAt f bytes 4 n page ++ drop n old
 abbrev pub fits : List ℕ → ℕ → ℕ → Bool
 fits page n bytes = eqb (length page) pageSize && leb (4 + n * bytes) pageSize
 
--- n records of a page over a table; where the page does not hold them the table is as it was
-unfoldable pub jacksRead : List ℕ → ℕ → List JackInfo → List JackInfo
-jacksRead page n old = pick (fits page n (size jackInfo)) (filled jackAt (size jackInfo) page n old) old
+-- the same where the page does not hold them: the table is as it was
+abbrev pub refilled : {A : Type 0} → (ℕ → List ℕ → A) → ℕ → List ℕ → ℕ → List A → List A
+refilled f bytes page n old = pick (fits page n bytes) (filled f bytes page n old) old
 
-unfoldable pub streamsRead : List ℕ → ℕ → List PcmInfo → List PcmInfo
-streamsRead page n old = pick (fits page n (size pcmInfo)) (filled pcmAt (size pcmInfo) page n old) old
+-- ---- "Keep each as the received records in one flat byte store": 170 jacks, then 127 streams, then 170 channel maps
 
-unfoldable pub mapsRead : List ℕ → ℕ → List ChannelMap → List ChannelMap
-mapsRead page n old = pick (fits page n (size channelMap)) (filled mapAt (size channelMap) page n old) old
+abbrev pub jacksPlace : ℕ
+jacksPlace = 0
 
--- empty tables
-abbrev pub noJacks : List JackInfo
-noJacks = replicate 170 (jackInfoOf [])
+abbrev pub pcmsPlace : ℕ
+pcmsPlace = 4080
 
-abbrev pub noStreams : List PcmInfo
-noStreams = replicate 127 (pcmInfoOf [])
+abbrev pub mapsPlace : ℕ
+mapsPlace = 8144
 
-abbrev pub noMaps : List ChannelMap
-noMaps = replicate 170 (channelMapOf [])
+abbrev pub tablesBytes : ℕ
+tablesBytes = 12224
+
+-- the decoded form of each: no value of the driver holds one
+abbrev pub jacksIn : List ℕ → List JackInfo
+jacksIn t = rowsAt jackAt (size jackInfo) jacksPlace 170 t
+
+abbrev pub pcmsIn : List ℕ → List PcmInfo
+pcmsIn t = rowsAt pcmAt (size pcmInfo) pcmsPlace 127 t
+
+abbrev pub mapsIn : List ℕ → List ChannelMap
+mapsIn t = rowsAt mapAt (size channelMap) mapsPlace 170 t
+
+-- n records of so many bytes, copied from a page that holds them to place o of a store with room for them; else nothing changes
+unfoldable pub copiedIn : ℕ → ℕ → ℕ → List ℕ → List ℕ → List ℕ
+copiedIn o bytes n page t = pick (fits page n bytes && leb (o + n * bytes) (length t)) (sets t o (bytesAt 4 (n * bytes) page)) t

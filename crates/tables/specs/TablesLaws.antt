@@ -2,25 +2,22 @@
 -- Assumes nothing.
 use mathlib.Core.Path.{_≡_, refl, sym, ap, _∙_}
 use mathlib.Core.Bool.{Bool, true, false, _&&_, false≢true}
-use mathlib.Core.List.{List, [], _++_}
-use Prim.Native.Nat.{ℕ, _+_, _-_, _*_, _≤_, _<_}
+use mathlib.Core.List.{List, []}
+use Prim.Native.Nat.{ℕ, _+_, _-_, _*_, _≤_}
 use native.Mathlib.Omega.{arith}
 use lib.Dec.{leb, eqb}
-use lib.ListN.{length, set, take, drop, length-append, length-drop, take-append-drop}
-use lib.Seq.{take-at, drop-append-add, drop-set-lt, drop-drop}
+use lib.ListN.{length, take, drop}
 use borrow.Author.Tests.{eq-eqb, eqb-true, le-leb, leb-true}
 use Rattle.layout.specs.Lent.{pageSize}
 use Rattle.layout.specs.Bytes.{bytesAt, numAt}
 use Rattle.layout.specs.Layout.{size, readAt}
-use Rattle.layout.specs.Rows.{rowsAt}
 use Rattle.layout.specs.LayoutLaws.{read-own}
-use Rattle.layout.specs.RowsLaws.{length-rows, rows-more}
 use Rattle.codes.specs.Says.{Says, says, guard}
 use Rattle.records.specs.Records.{jackInfo, pcmInfo, channelMap, jackInfoOf, pcmInfoOf, channelMapOf}
 use Rattle.records.specs.Slice.{readSays}
 use Rattle.records.specs.SliceLaws.{read-inside}
 use Rattle.codes.specs.declared.answers.Refusal.the-variants.{TooMany, BadLength, Short}
-use Rattle.tables.specs.Tables.{covers, pageOk, judged, isGood, jackAt, pcmAt, mapAt, fits, filled}
+use Rattle.tables.specs.Tables.{covers, pageOk, judged, isGood, jackAt, pcmAt, mapAt, fits}
 use Rattle.tables.specs.declared.verdict.Verdict.the-variants.{Good, Status, Refused}
 use Rattle.tables.specs.declared.verdict.Written.{Written}
 use Rattle.tables.specs.declared.verdict.Written.the-variants.{InFull, Bytes}
@@ -86,34 +83,3 @@ pcm-own o s = ap pcmInfoOf (read-own o pcmInfo s)
 pub map-own : (o : ℕ) (s : List ℕ) → mapAt o s ≡ mapAt 0 (bytesAt o (size channelMap) s)
 unfolding mapAt
 map-own o s = ap channelMapOf (read-own o channelMap s)
-
--- THE LAW of the loops that fill a table
-module _ {A : Type 0} (f : ℕ → List ℕ → A) (size : ℕ) (page : List ℕ) (old : List A) where
-  pub fill-none : old ≡ filled f size page 0 old
-  unfolding rowsAt
-  fill-none = refl
-
-  take-filled : (i : ℕ) → take i (filled f size page i old) ≡ rowsAt f size 4 i page
-  take-filled i = take-at (rowsAt f size 4 i page) (drop i old) i (length-rows f size 4 i page)
-
-  drop-filled : (i : ℕ) → drop (i + 1) (filled f size page i old) ≡ drop (i + 1) old
-  drop-filled i =
-      ap (λ (k : ℕ). drop (k + 1) (filled f size page i old)) (sym (length-rows f size 4 i page))
-      ∙ drop-append-add (rowsAt f size 4 i page) (drop i old) 1
-      ∙ drop-drop 1 i old
-
-  pub length-filled : (i : ℕ) → i ≤ length old → length (filled f size page i old) ≡ length old
-  length-filled i h = simp (length-append, length-rows, length-drop) (omega arith)
-
-  pub fill-more : (i : ℕ) (v : A) → i < length old → v ≡ f (4 + i * size) page → set (filled f size page i old) i v ≡ filled f size page (i + 1) old
-  fill-more i v h e =
-      let a = filled f size page i old in
-      let n : i < length a = rw (length-filled i (omega arith)) h in
-      sym (take-append-drop (i + 1) (set a i v))
-      ∙ (λ k. rows-more f size 4 i page a v n (take-filled i) e k ++ (drop-set-lt (i + 1) a i v (omega arith) ∙ drop-filled i) k)
-
--- record i of a page over a table that has the i before it, by what the reader of `&page[4 + i * size..]` says
-pub fill-row : {A : Type 0} (ws : List ℕ) (of : List ℕ → A) (page : List ℕ) (old : List A) (i : ℕ) (vs : List ℕ) → i < length old → 4 + i * size ws + size ws ≤ length page
-    → says 0 vs ≡ readSays ws (take (length page - (4 + i * size ws)) (drop (4 + i * size ws) page))
-    → set (filled (λ (o : ℕ) (s : List ℕ). of (readAt o ws s)) (size ws) page i old) i (of vs) ≡ filled (λ (o : ℕ) (s : List ℕ). of (readAt o ws s)) (size ws) page (i + 1) old
-fill-row ws of page old i vs h k e = fill-more (λ (o : ℕ) (s : List ℕ). of (readAt o ws s)) (size ws) page old i (of vs) h (ap of (row-is ws page (4 + i * size ws) k vs e))

@@ -2,23 +2,23 @@
 -- Assumes nothing.
 use mathlib.Core.Path.{_≡_, refl, sym, ap, _∙_}
 use mathlib.Core.Bool.{Bool, true, false, _&&_, false≢true}
-use mathlib.Core.List.{List, _++_}
+use mathlib.Core.List.{List}
 use mathlib.Core.Logic.{_⊎_, inl, inr}
 use Prim.Native.Nat.{ℕ, _+_, _*_, _≤_, _<_}
 use native.Mathlib.Nat.{zero-add}
 use native.Mathlib.Omega.{arith}
 use lib.Dec.{leb, eqb}
-use lib.ListN.{length, drop}
+use lib.ListN.{length}
+use lib.Seq.{sets}
 use borrow.Author.Tests.{le-leb, lt-leb, leb-true, leb-false, eq-eqb, eqb-true}
 use Rattle.layout.specs.Lent.{pageSize}
 use Rattle.layout.specs.Bytes.{bytesAt, numAt}
 use Rattle.layout.specs.BytesLaws.{bytesAt-own, numAt-own}
-use Rattle.layout.specs.RowsLaws.{rows-alike}
-use Rattle.codes.specs.Says.{guard}
+use Rattle.codes.specs.Says.{pick, guard}
 use Rattle.codes.specs.SaysLaws.{passes, stops}
 use Rattle.codes.specs.Answers.{saysRefusal}
 use Rattle.codes.specs.declared.answers.Refusal.the-variants.{TooMany, BadLength, Short}
-use Rattle.tables.specs.Tables.{covers, pageOk, judged, filled}
+use Rattle.tables.specs.Tables.{covers, pageOk, judged, copiedIn}
 use Rattle.tables.specs.declared.verdict.Verdict.{Verdict}
 use Rattle.tables.specs.declared.verdict.Verdict.the-variants.{Good, Status, Refused}
 use Rattle.tables.specs.declared.verdict.Written.the-variants.{InFull, Bytes}
@@ -52,7 +52,7 @@ enough w page n bytes a b e =
 pub full : (page : List ℕ) (n bytes : ℕ) → judged (Bytes 4096) page n bytes ≡ judged InFull page n bytes
 full page n bytes = enough 4096 page n bytes (omega arith) (omega arith) (λ _ f. f)
 
--- TRUST ONLY WHAT WAS WRITTEN: two pages that agree in the bytes written are judged alike, and give the same records
+-- TRUST ONLY WHAT WAS WRITTEN: two pages that agree in the bytes written are judged alike, and fill a table alike
 module _ (w : ℕ) (p q : List ℕ) (l : length p ≡ length q) (e : bytesAt 0 w p ≡ bytesAt 0 w q) where
   alike : (o n : ℕ) → o + n ≤ w → bytesAt o n p ≡ bytesAt o n q
   alike o n h =
@@ -72,9 +72,10 @@ module _ (w : ℕ) (p q : List ℕ) (l : length p ≡ length q) (e : bytesAt 0 w
       ∙ ap (guard (eqb (length q) pageSize && leb w pageSize) (Refused BadLength))
       (rest-alike (leb 4 w) n bytes (numAt 0 4 p) (numAt 0 4 q) (λ a. let h : 4 ≤ w = leb-true 4 w a in sym (numAt-own 0 4 w p h) ∙ ap (numAt 0 4) e ∙ numAt-own 0 4 w q h))
 
-  pub filled-alike : {A : Type 0} (f : ℕ → List ℕ → A) (bytes n : ℕ) (old : List A) → ((o : ℕ) (s : List ℕ) → f o s ≡ f 0 (bytesAt o bytes s)) → 4 + n * bytes ≤ w
-      → filled f bytes p n old ≡ filled f bytes q n old
-  filled-alike f bytes n old own h = ap (λ (x : List _). x ++ drop n old) (rows-alike f bytes own 4 4 n p q (alike 4 (n * bytes) h))
+  pub copied-alike : (o bytes n : ℕ) (t : List ℕ) → 4 + n * bytes ≤ w → copiedIn o bytes n p t ≡ copiedIn o bytes n q t
+  unfolding copiedIn
+  copied-alike o bytes n t h =
+      λ i. pick ((eqb (l i) pageSize && leb (4 + n * bytes) pageSize) && leb (o + n * bytes) (length t)) (sets t o (alike 4 (n * bytes) h i)) t
 
 -- 11 EXACTLY WHEN: the header was not written, or it is ok, the records fit, and they were not all written
 pub record Unwritten (w : ℕ) (page : List ℕ) (n bytes : ℕ) : Type 0 where

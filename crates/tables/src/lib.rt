@@ -1,15 +1,12 @@
-// An answer page and a count: three tables.
-mod jacks;
-mod maps;
-mod streams;
+// An answer page and a count: what is known of the page, and three tables kept as its bytes.
+mod kept;
 mod verdict;
 
-pub use jacks::no_jacks;
-pub use jacks::read_jacks;
-pub use maps::no_maps;
-pub use maps::read_maps;
-pub use streams::no_streams;
-pub use streams::read_streams;
+pub use kept::JACKS;
+pub use kept::MAPS;
+pub use kept::STREAMS;
+pub use kept::TABLES;
+pub use kept::fill;
 pub use verdict::PAGE;
 pub use verdict::Verdict;
 pub use verdict::Written;

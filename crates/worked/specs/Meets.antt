@@ -21,7 +21,7 @@ use Rattle.core.specs.Plan.{kindCode, kindLife, setOf, ownOf, storedOf}
 use Rattle.core.specs.Reply.{requestBytes}
 use Rattle.core.specs.Unguarded.{off-command}
 use Rattle.core.specs.declared.plan.Request.the-variants as request
-use Rattle.exchange.specs.State.{paramsOf}
+use Rattle.exchange.specs.State.{jacksOf, pcmsOf, mapsOf, paramsOf}
 use Rattle.exchange.specs.Kept.{Playable}
 use Rattle.exchange.specs.XferLaws.{set-range, period-divides, start-is}
 use Rattle.exchange.specs.Demand.{periodOf, starting}
@@ -50,9 +50,9 @@ pub record SetUp (t : Track) (call : Call) (d : Device) (x : Talk) : Type 0 wher
   pub core : sound .core ≡ record { counts = countsOf d; guard = false; read = countsOf d; ready = true; stage = Idle }
   pub params : sound .params ≡ replicate 127 unset
   -- its records are just those of the device
-  pub jacks : take (d .counts .jacks) (sound .jacks) ≡ take (d .counts .jacks) (d .jacks)
-  pub pcms : take (d .counts .streams) (sound .pcms) ≡ take (d .counts .streams) (d .pcms)
-  pub maps : take (d .counts .maps) (sound .maps) ≡ take (d .counts .maps) (d .maps)
+  pub jacks : take (d .counts .jacks) (jacksOf sound) ≡ take (d .counts .jacks) (d .jacks)
+  pub pcms : take (d .counts .streams) (pcmsOf sound) ≡ take (d .counts .streams) (d .pcms)
+  pub maps : take (d .counts .maps) (mapsOf sound) ≡ take (d .counts .maps) (d .maps)
   -- what the call then gives is its own part, decided on that state; the device is as it was
   pub own : x .driver ≡ stepOf (ownOf (sound .core) call (lookOf sound call)) sound []
   pub device : x .device ≡ d
@@ -91,11 +91,11 @@ meets-set-up d t call page message f l fine =
 
 -- no exchange is open again, and without the guard no stream is moved
 rests : (s : Sound) (t : Track) (d : Device) (page message : List ℕ) → Settled s t d page message → (params : List Params) (stream life : ℕ)
-    → _≡_ {A = Sound} (record { core = withStage (s .core) Idle; jacks = s .jacks; pcms = s .pcms; maps = s .maps; params = params; lives = moved (s .core .guard) (s .lives) stream life; pending = s .pending })
-    (record { core = s .core; jacks = s .jacks; pcms = s .pcms; maps = s .maps; params = params; lives = s .lives; pending = s .pending })
+    → _≡_ {A = Sound} (record { core = withStage (s .core) Idle; tables = s .tables; params = params; lives = moved (s .core .guard) (s .lives) stream life; pending = s .pending })
+    (record { core = s .core; tables = s .tables; params = params; lives = s .lives; pending = s .pending })
 rests s t d page message o params stream life =
-    ap (λ (g : Bool). record { core = withStage (s .core) Idle; jacks = s .jacks; pcms = s .pcms; maps = s .maps; params = params; lives = moved g (s .lives) stream life; pending = s .pending }) (o .off)
-    ∙ ap (λ (g : Stage). record { core = withStage (s .core) g; jacks = s .jacks; pcms = s .pcms; maps = s .maps; params = params; lives = s .lives; pending = s .pending }) (sym (o .closed))
+    ap (λ (g : Bool). record { core = withStage (s .core) Idle; tables = s .tables; params = params; lives = moved g (s .lives) stream life; pending = s .pending }) (o .off)
+    ∙ ap (λ (g : Stage). record { core = withStage (s .core) g; tables = s .tables; params = params; lives = s .lives; pending = s .pending }) (sym (o .closed))
 
 -- "Status ok stores all seven values." The driver then holds them for that stream, the device holds just the 24 bytes that were sent, and both are else as they
 -- were
@@ -104,7 +104,7 @@ pub meets-set-params : (s : Sound) (t : Track) (d : Device) (stream : ℕ) (to :
     → let x = opened s t (SetParams stream to) d page message in
     let y = relay x in
     Took t 24 (write setParameters (setParametersValues (setOf stream to))) x y
-    × (y .driver .sound ≡ record { core = s .core; jacks = s .jacks; pcms = s .pcms; maps = s .maps; params = set (s .params) stream (storedOf to); lives = s .lives; pending = s .pending })
+    × (y .driver .sound ≡ record { core = s .core; tables = s .tables; params = set (s .params) stream (storedOf to); lives = s .lives; pending = s .pending })
     × (paramsOf (y .driver .sound) stream ≡ storedOf to)
     × (paramsSays (y .device) stream ≡ says 0 (setParametersValues (setOf stream to)))
     × (y .device ≡ keptBy d stream (record { known = 1; set = setOf stream to }))
@@ -117,7 +117,7 @@ meets-set-params s t d stream to page message o h period numbers fit =
     let out = setting-answer d v fit refl h in
     let y = result s t d (SetParams stream to) q page message o numbers own (omega arith) e out in
     let few = few-streams (d .counts) (o .device .within) in
-    let sound : relay (opened s t (SetParams stream to) d page message) .driver .sound ≡ record { core = s .core; jacks = s .jacks; pcms = s .pcms; maps = s .maps; params = set (s .params) stream (storedOf to); lives = s .lives; pending = s .pending } =
+    let sound : relay (opened s t (SetParams stream to) d page message) .driver .sound ≡ record { core = s .core; tables = s .tables; params = set (s .params) stream (storedOf to); lives = s .lives; pending = s .pending } =
     ap (λ (z : Talk). z .driver .sound) y ∙ rests s t d page message o (set (s .params) stream (storedOf to)) stream 0 in (
       took s t d (SetParams stream to) q page message o numbers own (omega arith) e out 24 l (kept-fitting d stream (record { known = 1; set = v }) (o .device)) refl,
       sound,

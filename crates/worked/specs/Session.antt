@@ -14,7 +14,6 @@ use Rattle.records.specs.Records.{setParameters, setParametersValues, jackInfo,
 use Rattle.records.specs.declared.info.JackInfo.{JackInfo}
 use Rattle.records.specs.declared.info.PcmInfo.{PcmInfo}
 use Rattle.records.specs.declared.info.ChannelMap.{ChannelMap}
-use Rattle.tables.specs.Tables.{noJacks, noStreams, noMaps}
 use Rattle.turns.specs.StaysConsistentLaws.{new-passes}
 use Rattle.turns.specs.Ring.{direct, newTrack}
 use Rattle.turns.specs.Cut.{cut}
@@ -85,6 +84,15 @@ meets-session d r stream to budget page message frames f l h period numbers fit 
     })
 
 -- ---- these premises can be met: by a device of any counts that a page holds, with records of zeros, a new ring, a page of zeros, and a buffer of 24 bytes
+
+abbrev noJacks : List JackInfo
+noJacks = replicate 170 (jackInfoOf [])
+
+abbrev noStreams : List PcmInfo
+noStreams = replicate 127 (pcmInfoOf [])
+
+abbrev noMaps : List ChannelMap
+noMaps = replicate 170 (channelMapOf [])
 
 pub can-meet : (n : Counts) → withinOf n ≡ true → Fitting (newDevice n noJacks noStreams noMaps) × Lent (newTrack direct) (replicate 4096 0) (replicate 24 0)
 can-meet n w =

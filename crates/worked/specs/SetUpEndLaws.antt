@@ -6,7 +6,8 @@ use mathlib.Core.List.{List, []}
 use Prim.Native.Nat.{ℕ, _≤_}
 use lib.ListN.{length, take}
 use Rattle.codes.specs.Says.{guard}
-use Rattle.tables.specs.Tables.{jackAt, pcmAt, mapAt, jacksRead, streamsRead, mapsRead, noJacks, noStreams, noMaps}
+use Rattle.tables.specs.Tables.{jackAt, pcmAt, mapAt, jacksPlace, pcmsPlace, tablesBytes, jacksIn, pcmsIn, mapsIn}
+use Rattle.tables.specs.FillLaws.{copied-length, jacks-filled, pcms-leave-jacks, pcms-filled, maps-leave-jacks, maps-leave-pcms, maps-filled}
 use Rattle.core.specs.State.{withStage}
 use Rattle.core.specs.Consistent.{callOk, consistentOf}
 use Rattle.core.specs.Plan.{ownSet, ownCommand, ownRemap, ownSupported, ownXfer, ownOf, afterMaps}
@@ -18,7 +19,8 @@ use Rattle.exchange.specs.OwnLaws.{own}
 use Rattle.exchange.specs.StayLaws.{own-stays}
 use Rattle.exchange.specs.Kept.{Kept}
 use Rattle.exchange.specs.KeptLaws.{new-kept, step-kept}
-use Rattle.exchange.specs.Tables.{lookOf, soundAfter}
+use Rattle.exchange.specs.State.{jacksOf, pcmsOf, mapsOf}
+use Rattle.exchange.specs.Tables.{lookBy, lookOf, soundAfter}
 use Rattle.exchange.specs.Exchange.{listOf, stepOf}
 use Rattle.worked.specs.Types.{Good, Track, Call, SetParams, Command, Remap, Streams, Supported, Xfer, Stage, Idle, JacksAsked, StreamsAsked, MapsAsked, Core, Look, Effect, Nothing, FillJacks, FillStreams, FillMaps, Plan, Sound, Step, Device}
 use Rattle.worked.specs.Talk.{Talk, talkOf, opened, relay, Fitting, Lent, newFor}
@@ -37,18 +39,17 @@ own-stage c g (Supported field stream) look = refl
 own-stage c g (Xfer stream) look = refl
 
 same-look : (n : ℕ) (c : Core) (s : Sound) (page : List ℕ) (call : Call) → lookOf s call ≡ lookOf (soundAfter (FillMaps n) c s page) call
-same-look n c s page (SetParams stream to) = refl
-same-look n c s page (Command kind stream) = refl
-same-look n c s page (Remap jack association sequence) = refl
-same-look n c s page (Streams direction) = refl
-same-look n c s page (Supported field stream) = refl
-same-look n c s page (Xfer stream) = refl
+same-look n c s page call = λ i. lookBy (sym (maps-leave-jacks n page (s .tables)) i) (sym (maps-leave-pcms n page (s .tables)) i) (s .lives) call
 
 -- a plan without an effect of its own, on the state before the maps are filled and on that with them
 finishing : (p : Plan) (n : ℕ) (c : Core) (s : Sound) (page : List ℕ) → p .effect ≡ Nothing
     → stepOf (record { core = p .core; say = p .say; effect = FillMaps n }) s page ≡ stepOf p (soundAfter (FillMaps n) c s page) []
 finishing p n c s page quiet =
-    ap (λ (x : Effect). record { sound = soundAfter x (p .core) (soundAfter (FillMaps n) c s page) []; reply = replyOf (p .say); streams = listOf (p .say) (p .core .read .streams) (s .pcms) }) (sym quiet)
+    λ i. record {
+      sound = soundAfter (sym quiet i) (p .core) (soundAfter (FillMaps n) c s page) [];
+      reply = replyOf (p .say);
+      streams = listOf (p .say) (p .core .read .streams) (sym (maps-leave-pcms n page (s .tables)) i);
+    }
 
 -- a table more, before set-up is done
 fills : (s : Sound) (c : Core) (x : Effect) (page : List ℕ) → Allowed (s .core) x → c .counts ≡ s .core .counts → c .guard ≡ s .core .guard → s .core .ready ≡ false → consistentOf c ≡ true → Kept s → Kept (soundAfter x c s page)
@@ -96,6 +97,25 @@ module _ (d : Device) (f : Fitting d) (call : Call) (fine : callOk call ≡ true
     abbrev pub ready : Sound
     ready = finished d call jacksPage streamsPage mapsPage
 
+    -- the tables before each answer
+    abbrev t₀ : List ℕ
+    t₀ = askedJacks d call .tables
+
+    abbrev t₁ : List ℕ
+    t₁ = askedStreams d call jacksPage .tables
+
+    abbrev t₂ : List ℕ
+    t₂ = askedMaps d call jacksPage streamsPage .tables
+
+    l₀ : length t₀ ≡ tablesBytes
+    l₀ = new-kept false (d .counts .jacks) (d .counts .streams) (d .counts .maps) .tables
+
+    l₁ : length t₁ ≡ tablesBytes
+    l₁ = copied-length jacksPlace 24 (d .counts .jacks) jacksPage t₀ ∙ l₀
+
+    l₂ : length t₂ ≡ tablesBytes
+    l₂ = copied-length pcmsPlace 32 (d .counts .streams) streamsPage t₁ ∙ l₁
+
     module _ (t : Track) (l : Lent t page m) where
       jacks-page : Told jackAt 24 (d .counts .jacks) (d .jacks) jacksPage
       jacks-page = jacks-told d f call fine page (l .whole)
@@ -107,17 +127,18 @@ module _ (d : Device) (f : Fitting d) (call : Call) (fine : callOk call ≡ true
       maps-page = maps-told d f call fine streamsPage (streams-page .whole)
 
       -- the tables are the device's
-      pub jacks-same : take (d .counts .jacks) (ready .jacks) ≡ take (d .counts .jacks) (d .jacks)
-      unfolding jacksRead
-      jacks-same = jacks-page .same noJacks
+      pub jacks-same : take (d .counts .jacks) (jacksOf ready) ≡ take (d .counts .jacks) (d .jacks)
+      jacks-same =
+          ap (take (d .counts .jacks)) (maps-leave-jacks (d .counts .maps) mapsPage t₂ ∙ pcms-leave-jacks (d .counts .streams) streamsPage t₁ ∙ jacks-filled (d .counts .jacks) jacksPage t₀ l₀)
+          ∙ jacks-page .same (jacksIn t₀)
 
-      pub pcms-same : take (d .counts .streams) (ready .pcms) ≡ take (d .counts .streams) (d .pcms)
-      unfolding streamsRead
-      pcms-same = streams-page .same noStreams
+      pub pcms-same : take (d .counts .streams) (pcmsOf ready) ≡ take (d .counts .streams) (d .pcms)
+      pcms-same =
+          ap (take (d .counts .streams)) (maps-leave-pcms (d .counts .maps) mapsPage t₂ ∙ pcms-filled (d .counts .streams) streamsPage t₁ l₁)
+          ∙ streams-page .same (pcmsIn t₁)
 
-      pub maps-same : take (d .counts .maps) (ready .maps) ≡ take (d .counts .maps) (d .maps)
-      unfolding mapsRead
-      maps-same = maps-page .same noMaps
+      pub maps-same : take (d .counts .maps) (mapsOf ready) ≡ take (d .counts .maps) (d .maps)
+      maps-same = ap (take (d .counts .maps)) (maps-filled (d .counts .maps) mapsPage t₂ l₂) ∙ maps-page .same (mapsIn t₂)
 
       h₁ : 24 ≤ length m₁
       h₁ = rw (asked-length 0x0001 (d .counts .jacks) 24 m (l .long)) (l .long)

@@ -14,12 +14,11 @@ use Rattle.layout.specs.Layout.{size, write, readAt, read, Fit}
 use Rattle.layout.specs.Rows.{rowsAt, rowsBytes}
 use Rattle.layout.specs.LayoutLaws.{length-write, read-write}
 use Rattle.layout.specs.RowsLaws.{length-rows}
-use Rattle.codes.specs.Says.{pick}
 use Rattle.codes.specs.SaysLaws.{picks, passes}
 use Rattle.codes.specs.Requests.{requestCode}
 use Rattle.codes.specs.declared.requests.RequestCode.{RequestCode}
 use Rattle.records.specs.Records.{query}
-use Rattle.tables.specs.Tables.{judged, isGood, fits, filled}
+use Rattle.tables.specs.Tables.{judged, isGood, refilled}
 use Rattle.tables.specs.TablesLaws.{good-fits}
 use Rattle.tables.specs.WrittenLaws.{in-full}
 use Rattle.turns.specs.Calls.{idleOf}
@@ -93,7 +92,7 @@ good-page r n size l h = in-full (le 4 0x8000 ++ r) n size ∙ sym (passes _ _ _
 pub record Told {A : Type 0} (f : ℕ → List ℕ → A) (size n : ℕ) (rows : List A) (page : List ℕ) : Type 0 where
   pub whole : length page ≡ 4096
   pub good : judged InFull page n size ≡ Good
-  pub same : (old : List A) → take n (pick (fits page n size) (filled f size page n old) old) ≡ take n rows
+  pub same : (old : List A) → take n (refilled f size page n old) ≡ take n rows
 
 -- THE LAW OF A QUERY, over the table: so is the page that the device answers in, and the records are those of the device
 module _ {A : Type 0} {c : RequestCode} {ws : List ℕ} {values : A → List ℕ} {of : List ℕ → A} {n : ℕ} {rows : List A} {d : Device} (a : Answers c ws values of n rows d)

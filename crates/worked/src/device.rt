@@ -3,11 +3,51 @@ use codes::JackFeatures;
 use codes::direction;
 use model::Counts;
 use model::Device;
+use records::ChannelMap;
 use records::JackInfo;
 use records::PcmInfo;
-use tables::no_jacks;
-use tables::no_maps;
-use tables::no_streams;
+
+// Tables of empty records.
+fn no_jacks() -> [JackInfo; 170] {
+    let blank = JackInfo {
+        node: 0,
+        features: 0,
+        defconf: 0,
+        caps: 0,
+        connected: 0,
+        padding: 0,
+        padding4: 0,
+        padding6: 0,
+    };
+    [blank; 170]
+}
+
+fn no_streams() -> [PcmInfo; 127] {
+    let blank = PcmInfo {
+        node: 0,
+        features: 0,
+        formats: 0,
+        rates: 0,
+        direction: 0,
+        min: 0,
+        max: 0,
+        padding: 0,
+        padding4: 0,
+    };
+    [blank; 127]
+}
+
+fn no_maps() -> [ChannelMap; 170] {
+    let blank = ChannelMap {
+        node: 0,
+        direction: 0,
+        channels: 0,
+        positions: 0,
+        positions8: 0,
+        positions16: 0,
+    };
+    [blank; 170]
+}
 
 // A jack with some features.
 fn jack(features: u32) -> JackInfo {

@@ -22,9 +22,9 @@ returns c =
 returns-2 : tie.Need-returns-2
 unfolding callOf
 returns-2 c =
-    let a = c .before .before .before .before .before .before .before .before .before .args in
+    let a = c .before .before .before .before .before .before .before .before .before .before .before .before .before .args in
     moved (callOf (a .s) (a .ring .track) (a .asked) (length (a .message .now))) (a .s) [] (a .message .now)
-    (passes _ _ _ (le-leb _ _ (c .before .before .before .before .before .before .before .if1 .left)) (c .before .before .before .before .before .begin .ensures ∙ ap (beginOf (a .s .core) (a .ring .track) (a .asked)) (c .before .before .before .before .before .before .look .ensures)))
+    (passes _ _ _ (le-leb _ _ (c .before .before .before .before .before .before .before .before .before .before .before .if1 .left)) (c .before .before .before .before .before .begin .ensures ∙ ap (beginOf (a .s .core) (a .ring .track) (a .asked)) (c .before .before .before .before .before .before .look .ensures)))
     (c .before .before .finish .ensures)
 
 pub call-spec : {M : Type 1} → statement M
@@ -33,5 +33,5 @@ call-spec =
     (tie.spec
     (λ c κs. search needs)
     returns
-    (λ c κs. search needs) (λ c κs. search needs) (λ c. search needs) (λ c κs. search needs) (λ c. search needs)
+    (λ c. search needs) (λ c. search needs) (λ c κs. search needs) (λ c κs. search needs) (λ c. search needs) (λ c κs. search needs) (λ c. search needs)
     returns-2)

@@ -29,10 +29,10 @@ returns-2 c =
 returns-3 : tie.Need-returns-3
 unfolding feedOf
 returns-3 c =
-    let a = c .before .before .before .before .before .before .before .before .before .before .before .before .before .args in
+    let a = c .before .before .before .before .before .before .before .before .before .before .before .before .before .before .before .before .before .args in
     moved (feedOf (a .w) (a .s) (a .page .now) (length (a .message .now))) (a .s) (a .page .now) (a .message .now)
-    (passes _ _ _ (simp (passed (c .before .before .before .before .before .before .before .before .before .before .page-ok .ensures) (c .before .before .before .before .before .before .before .before .before .if1 .left), le-leb _ _ (c .before .before .before .before .before .before .before .before .if2 .left)))
-    (c .before .before .before .before .answer .ensures ∙ (λ i. answerOf (a .s .core) (c .before .before .before .before .before .before .verdict-by .ensures i) (c .before .before .before .before .before .pending-look .ensures i))))
+    (passes _ _ _ (simp (passed (c .before .before .before .before .before .before .before .before .before .before .before .before .before .before .page-ok .ensures) (c .before .before .before .before .before .before .before .before .before .before .before .before .before .if1 .left), le-leb _ _ (c .before .before .before .before .before .before .before .before .before .before .before .before .if2 .left)))
+    (c .before .before .before .before .answer .ensures ∙ (λ i. answerOf (a .s .core) (c .before .before .before .before .before .before .before .before .before .before .verdict-by .ensures i) (c .before .before .before .before .before .pending-look .ensures i))))
     (c .before .before .finish .ensures)
 
 pub feed-by-spec : {M : Type 1} → statement M
@@ -44,5 +44,5 @@ feed-by-spec =
     returns
     (λ c κs. search needs)
     returns-2
-    (λ c κs. search needs) (λ c κs. search needs) (λ c κs. search needs) (λ c κs. search needs) (λ c. search needs)
+    (λ c κs. search needs) (λ c. search needs) (λ c. search needs) (λ c κs. search needs) (λ c κs. search needs) (λ c κs. search needs) (λ c. search needs)
     returns-3)

@@ -24,9 +24,9 @@ returns c =
 returns-2 : tie.Need-returns-2
 unfolding failOf
 returns-2 c =
-    let a = c .before .before .before .before .before .before .before .before .before .before .args in
+    let a = c .before .before .before .before .before .before .before .before .before .before .before .before .before .before .args in
     moved (failOf (a .s) (length (a .message .now))) (a .s) [] (a .message .now)
-    (passes _ _ _ (le-leb _ _ (c .before .before .before .before .before .before .before .before .if1 .left)) (c .before .before .before .before .before .answer .ensures ∙ ap (answerOf (a .s .core) (Refused QueueFailed)) (c .before .before .before .before .before .before .pending-look .ensures)))
+    (passes _ _ _ (le-leb _ _ (c .before .before .before .before .before .before .before .before .before .before .before .before .if1 .left)) (c .before .before .before .before .before .answer .ensures ∙ ap (answerOf (a .s .core) (Refused QueueFailed)) (c .before .before .before .before .before .before .pending-look .ensures)))
     (c .before .before .finish .ensures)
 
 pub feed-failure-spec : {M : Type 1} → statement M
@@ -35,5 +35,5 @@ feed-failure-spec =
     (tie.spec
     (λ c κs. search needs)
     returns
-    (λ c κs. search needs) (λ c κs. search needs) (λ c. search needs) (λ c κs. search needs) (λ c. search needs)
+    (λ c. search needs) (λ c. search needs) (λ c κs. search needs) (λ c κs. search needs) (λ c. search needs) (λ c κs. search needs) (λ c. search needs)
     returns-2)

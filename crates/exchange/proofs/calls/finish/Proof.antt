@@ -9,14 +9,15 @@ use Rattle.exchange.proofs.calls.finish.Tie as tie
 
 returns : tie.Need-returns
 returns c =
-    let a = c .before .before .before .before .before .before .before .before .before .before .args in
-    let h = c .before .before .before .before .before .before .before .before .before .before .pre in
-    let t = c .before .before .before .tell .ensures in
-    stepped (simp (c .list-of .ensures, t .0 ∙ tells-reply (a .p .say) (length (a .message .now)) h, c .before .before .before .before .before .apply .ensures)) (t .1 ∙ tells-message (a .p .say) (a .message .now) h)
+    let l = c .before .before .before .before .before in
+    let s = l .before .before .before .before .before .before in
+    let a = s .args in
+    let t = c .before .before .tell .ensures in
+    stepped (simp (l .list-of .ensures, t .0 ∙ tells-reply (a .p .say) (length (a .message .now)) (s .pre), c .before .before .before .before .apply .ensures)) (t .1 ∙ tells-message (a .p .say) (a .message .now) (s .pre))
 
 pub finish-spec : {M : Type 1} → statement M
 finish-spec =
     tie.close
     (tie.spec
-    (λ c κs. search needs) (λ c κs. search needs) (λ c κs. search needs) (λ c. search needs)
+    (λ c. search needs) (λ c κs. search needs) (λ c κs. search needs) (λ c κs. search needs) (λ c. search needs)
     returns)

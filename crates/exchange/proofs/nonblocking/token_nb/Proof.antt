@@ -9,8 +9,8 @@ use Rattle.exchange.proofs.nonblocking.token_nb.Tie as tie
 
 returns : tie.Need-returns
 returns c =
-    let a = c .before .before .before .before .before .before .before .before .args in
-    ap (λ (x : Pending). record { sound = withPending (a .s) x; reply = Token (a .k) }) (c .before .before .before .before .before .before .hold .ensures)
+    let a = c .before .before .before .before .before .before .args in
+    ap (λ (x : Pending). record { sound = withPending (a .s) x; reply = Token (a .k) }) (c .before .before .before .before .hold .ensures)
 
 pub token-nb-spec : {M : Type 1} → statement M
 token-nb-spec = tie.close (tie.spec (λ c κs. search needs) returns)

@@ -4,13 +4,7 @@ use Rattle.exchange.proofs.state.made.Statement.{statement}
 use Rattle.exchange.proofs.state.made.Tie as tie
 
 returns : tie.Need-returns
-returns c =
-    let d = c .before in
-    simp (c .new2 .ensures, d .no-params .ensures, d .before .no-maps .ensures, d .before .before .no-streams .ensures, d .before .before .before .no-jacks .ensures, d .before .before .before .before .new .ensures)
+returns c = simp (c .new2 .ensures, c .before .no-params .ensures, c .before .before .new .ensures)
 
 pub made-spec : {M : Type 1} → statement M
-made-spec =
-    tie.close
-    (tie.spec
-    (λ c κs. search needs) (λ c κs. search needs) (λ c κs. search needs) (λ c κs. search needs) (λ c κs. search needs) (λ c κs. search needs)
-    returns)
+made-spec = tie.close (tie.spec (λ c κs. search needs) (λ c κs. search needs) (λ c κs. search needs) returns)

@@ -7,7 +7,7 @@ use Rattle.exchange.proofs.xfer.set_up.Tie as tie
 
 returns : tie.Need-returns
 returns c =
-    let t = c .before .before .before .before .before .before .before .before in
+    let t = c .before .before .before .before .before .before in
     let q = t .before .before .before in
     let a = q .ask-jacks .ensures in
     (simp a, simp (t .tell .ensures .1 ∙ tells-message (q .ask-jacks .result .say) (q .before .before .args .message .now) (q .before .before .pre), a))

@@ -27,6 +27,12 @@ get-head-requires c κs =
     let a = d .before .before .before .before .before .args in
     omega (arith, long-state (a .state .now) (a .result .now) (sym (d .before .both .ensures) ∙ not-false _ (d .if1 .left)))
 
+look-requires : tie.Need-look-requires
+look-requires c κs =
+    let d = c .before .before .before .before .before in
+    let a = d .before .before .before .before .before .args in
+    long-state (a .state .now) (a .result .now) (sym (d .before .both .ensures) ∙ not-false _ (d .if1 .left))
+
 finish-requires : tie.Need-finish-requires
 finish-requires c κs =
     let d = c .before .before .before .before .before .before .before .before .before .before .before .before in
@@ -58,7 +64,7 @@ call-spec =
     returns-2
     get-head-requires
     (λ c κs. tt)
-    (λ c κs. tt)
+    look-requires
     (λ c κs. c .before .before .is-whole .ensures)
     (λ c κs. tt)
     (λ c. search needs)

@@ -19,7 +19,7 @@ returns-2 c =
     change-all (a .whole) (a .state .now) (a .effect) (a .core) (a .page .now) (not-false (a .whole) (t .if1 .left))
     (c .before .before .apply .ensures
     ∙ ap (effectIn (a .core .guard) (a .effect) (a .page .now)) (d .put-core .ensures)
-    ∙ effect-over (a .state .now) (a .page .now) (a .core) (a .effect) (λ k. (t .before .before .slice-known .given k) .fits) (λ k. (t .before .shared-slice-known .given k) .fits))
+    ∙ effect-over (a .state .now) (a .page .now) (a .core) (a .effect) (λ k. (t .before .before .slice-known .given k) .fits) (λ k. (t .before .shared-slice-known .given k) .fits) (t .before .before .before .pre))
 
 pub change-spec : {M : Type 1} → statement M
 change-spec = tie.close (tie.spec returns (λ c κs. search needs) (λ c κs. search needs) (λ c. search needs) returns-2)

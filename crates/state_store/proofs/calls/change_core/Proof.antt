@@ -19,7 +19,7 @@ returns-2 c =
     let t = d .before .before in
     let a = t .before .before .args in
     change-all (a .whole) (a .state .now) Nothing (a .core) [] (not-false (a .whole) (t .if1 .left))
-    (d .put-core .ensures ∙ effect-over (a .state .now) [] (a .core) Nothing (λ k. (t .before .slice-known .given k) .fits) (λ k. lit< tt))
+    (d .put-core .ensures ∙ effect-over (a .state .now) [] (a .core) Nothing (λ k. (t .before .slice-known .given k) .fits) (λ k. lit< tt) (t .before .before .pre))
 
 pub change-core-spec : {M : Type 1} → statement M
 change-core-spec = tie.close (tie.spec returns (λ c κs. search needs) (λ c. search needs) returns-2)

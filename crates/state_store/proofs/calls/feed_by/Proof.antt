@@ -35,6 +35,12 @@ get-head-requires c κs =
     let a = d .before .before .before .before .before .before .args in
     omega (arith, long-state (a .state .now) (a .result .now) (sym (d .before .both .ensures) ∙ not-false _ (d .if1 .left)))
 
+pending-look-requires : tie.Need-pending-look-requires
+pending-look-requires c κs =
+    let e = c .before .before .before .before .before .before .before .before .before in
+    let a = e .before .before .before .before .before .before .args in
+    long-state (a .state .now) (a .result .now) (sym (e .before .both .ensures) ∙ not-false _ (e .if1 .left))
+
 finish-requires : tie.Need-finish-requires
 finish-requires c κs =
     let d = c .before .before .before .before .before .before .before .before .before .before .before in
@@ -74,7 +80,7 @@ feed-by-spec =
     (λ c κs. tt)
     (λ c κs. c .is-whole .ensures)
     (λ c κs. tt)
-    (λ c κs. tt)
+    pending-look-requires
     (λ c κs. tt)
     finish-requires
     (λ c. search needs)

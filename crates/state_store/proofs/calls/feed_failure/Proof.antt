@@ -27,6 +27,12 @@ get-head-requires c κs =
     let a = d .before .before .before .before .before .args in
     omega (arith, long-state (a .state .now) (a .result .now) (sym (d .before .both .ensures) ∙ not-false _ (d .if1 .left)))
 
+pending-look-requires : tie.Need-pending-look-requires
+pending-look-requires c κs =
+    let d = c .before .before .before .before .before .before in
+    let a = d .before .before .before .before .before .args in
+    long-state (a .state .now) (a .result .now) (sym (d .before .both .ensures) ∙ not-false _ (d .if1 .left))
+
 finish-requires : tie.Need-finish-requires
 finish-requires c κs =
     let d = c .before .before .before .before .before .before .before .before .before .before .before .before in
@@ -59,7 +65,7 @@ feed-failure-spec =
     get-head-requires
     (λ c κs. tt)
     (λ c κs. c .is-whole .ensures)
-    (λ c κs. tt)
+    pending-look-requires
     (λ c κs. tt)
     (λ c. search needs)
     finish-requires

@@ -4,7 +4,7 @@ use Rattle.state_store.specs.Store.{wholeHead}
 use Rattle.state_store.specs.Store.{coreOf}
 use Rattle.state_store.specs.Calls.{opened}
 use Rattle.state_store.specs.Steps.{settingUpBy}
-use Rattle.state_store.specs.OpenLaws.{gated, shut-short, long-head, set-up-long, opens}
+use Rattle.state_store.specs.OpenLaws.{gated, shut-short, long-open, long-head, set-up-long, opens}
 use Rattle.core.specs.declared.gate.Gate.the-variants as gate
 use Rattle.state_store.specs.StoreLaws.{core-at}
 use Prim.Native.Nat.{ℕ}
@@ -26,6 +26,12 @@ get-head-requires c κs =
     let d = c .before in
     let a = d .before .before .before .before .args in
     long-head (a .state .now) (a .message .now) (a .t) (a .stream) (sym (d .before .both .ensures) ∙ not-false _ (d .if1 .left))
+
+life-at-requires : tie.Need-life-at-requires
+life-at-requires c κs =
+    let d = c .before .before .before .before .before .before .before in
+    let a = d .before .before .before .before .args in
+    long-open (a .state .now) (a .message .now) (a .t) (a .stream) (sym (d .before .both .ensures) ∙ not-false _ (d .if1 .left))
 
 set-up-requires : tie.Need-set-up-requires
 set-up-requires c κs =
@@ -86,7 +92,7 @@ open-spec =
     get-head-requires
     (λ c κs. tt)
     (λ c κs. c .is-whole .ensures)
-    (λ c κs. tt) (λ c κs. tt) (λ c κs. tt) (λ c κs. tt) (λ c κs. tt) (λ c. search needs) (λ c κs. tt) (λ c. search needs)
+    (λ c κs. tt) life-at-requires (λ c κs. tt) (λ c κs. tt) (λ c κs. tt) (λ c. search needs) (λ c κs. tt) (λ c. search needs)
     set-up-requires
     (λ c. search needs)
     (λ c. search needs)

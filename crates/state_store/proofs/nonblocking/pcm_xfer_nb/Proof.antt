@@ -23,6 +23,12 @@ get-head-requires c κs =
     let a = d .before .before .before .before .before .before .before .args in
     omega (arith, long-state (a .state .now) (a .result .now) (sym (d .before .both .ensures) ∙ not-false _ (d .if1 .left)))
 
+life-at-requires : tie.Need-life-at-requires
+life-at-requires c κs =
+    let d = c .before .before .before .before .before .before .before in
+    let a = d .before .before .before .before .before .before .before .args in
+    long-state (a .state .now) (a .result .now) (sym (d .before .both .ensures) ∙ not-false _ (d .if1 .left))
+
 set-up-requires : tie.Need-set-up-requires
 set-up-requires c κs =
     let x = c .before .before .before .before in
@@ -92,7 +98,7 @@ pcm-xfer-nb-spec =
     get-head-requires
     (λ c κs. tt)
     (λ c κs. c .is-whole .ensures)
-    (λ c κs. tt) (λ c κs. tt) (λ c κs. tt) (λ c. search needs) (λ c κs. tt) (λ c. search needs)
+    (λ c κs. tt) life-at-requires (λ c κs. tt) (λ c. search needs) (λ c κs. tt) (λ c. search needs)
     set-up-requires
     (λ c. search needs) (λ c κs. tt) (λ c. search needs)
     returns-2

@@ -1,15 +1,17 @@
--- `state_store::place::life_at` meets its contract: the byte stands at its place. Assumes nothing.
-use mathlib.Core.Path.{sym, _∙_}
-use Rattle.state_store.specs.PlaceLaws.{life-in, life-out}
+-- `state_store::place::life_at` meets its contract: the store's lifecycles are lent. Assumes nothing.
+use mathlib.Core.List.{List}
+use mathlib.Core.Path.{ap, _∙_}
+use Prim.Native.Nat.{ℕ}
+use lib.ListN.{getD}
+use Rattle.state_store.specs.PlaceLaws.{lives-part}
 use borrow.Author.Needs.{needs}
 use Rattle.state_store.proofs.place.life_at.Statement.{statement}
 use Rattle.state_store.proofs.place.life_at.Tie as tie
 
 returns : tie.Need-returns
-returns c = sym (life-out _ _ (c .if1 .taken))
-
-returns-2 : tie.Need-returns-2
-returns-2 c = c .get-u8 .ensures ∙ sym (life-in _ _ (c .before .if1 .left))
+returns c =
+    let s = c .before .before .before in
+    c .life-at .ensures ∙ ap (λ (l : List ℕ). getD l (s .args .stream) 0) (lives-part (s .args .s .now) (s .pre))
 
 pub life-at-spec : {M : Type 1} → statement M
-life-at-spec = tie.close (tie.spec returns (λ c. search needs) (λ c κs. search needs) returns-2)
+life-at-spec = tie.close (tie.spec (λ c. search needs) (λ c. search needs) (λ c. search needs) (λ c κs. search needs) returns)

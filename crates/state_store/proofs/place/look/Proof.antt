@@ -1,34 +1,17 @@
--- `state_store::place::look` meets its contract, case by case. Assumes nothing.
-use mathlib.Core.Path.{ap}
+-- `state_store::place::look` meets its contract: the store's tables and lifecycles are lent. Assumes nothing.
+use mathlib.Core.Path.{_∙_}
+use Rattle.tables.specs.Tables.{jacksIn, pcmsIn}
+use Rattle.exchange.specs.Tables.{lookBy}
+use Rattle.state_store.specs.PlaceLaws.{tables-part, lives-part}
 use borrow.Author.Needs.{needs}
-use Rattle.core.specs.declared.plan.Look.the-variants as look
 use Rattle.state_store.proofs.place.look.Statement.{statement}
 use Rattle.state_store.proofs.place.look.Tie as tie
 
 returns : tie.Need-returns
-returns c = rw (c .before .before .call .given .1) (ap look.Life (c .life-at .ensures))
-
-returns-2 : tie.Need-returns-2
-returns-2 c = rw (c .before .before .call2 .given .1) (ap look.Life (c .life-at2 .ensures))
-
-returns-3 : tie.Need-returns-3
-returns-3 c = rw (c .before .before .call3 .given .1) (ap look.Jack (c .jack-features .ensures))
-
-returns-5 : tie.Need-returns-5
-returns-5 c = rw (c .before .before .call4 .given .1) (ap look.Stream (c .stream-field .ensures))
-
-returns-6 : tie.Need-returns-6
-returns-6 c = rw (c .before .before .call5 .given .1) (ap look.Life (c .life-at3 .ensures))
+returns c =
+    let s = c .before .before .before .before in
+    let t = tables-part (s .args .s .now) (s .pre) in
+    c .look .ensures ∙ (λ i. lookBy (jacksIn (t i)) (pcmsIn (t i)) (lives-part (s .args .s .now) (s .pre) i) (s .args .call))
 
 pub look-spec : {M : Type 1} → statement M
-look-spec =
-    tie.close
-    (tie.spec
-    (λ c. search needs) (λ c κs. search needs) (λ c. search needs) (λ c κs. search needs) (λ c. search needs) (λ c κs. search needs) (λ c. search needs)
-    (λ c. search needs) (λ c κs. search needs) (λ c. search needs) (λ c κs. search needs)
-    returns
-    returns-2
-    returns-3
-    (λ c. search needs)
-    returns-5
-    returns-6)
+look-spec = tie.close (tie.spec (λ c. search needs) (λ c. search needs) (λ c. search needs) (λ c. search needs) (λ c. search needs) (λ c. search needs) (λ c κs. search needs) returns)

@@ -16,7 +16,7 @@ cast-put-u32 : tie.Need-cast-put-u32
 cast-put-u32 c =
     let p = c .before .before .before in
     let a = p .before .before .before .before .before .args in
-    omega (arith, p .put-ids .ensures .counted, ids-short (a .s .now) (a .direction) 127 (omega arith))
+    omega (arith, p .put-ids .ensures .counted, ids-short (a .tables .now) (a .direction) 127 (omega arith))
 
 returns : tie.Need-returns
 returns c =
@@ -25,13 +25,13 @@ returns c =
     let t = p .before .before in
     let a = t .before .before .before .args in
     count-listed _ _ _ _ _ (a .direction) (p .put-ids .ensures) (u .put-u32 .ensures)
-    ∙ ap (λ (ids : List ℕ). sets (a .result .now) 0 (valueBytes (Streams (a .direction)) (listed ids))) (ids-all (a .s .now) (a .direction) (a .n) (t .if1 .taken))
+    ∙ ap (λ (ids : List ℕ). sets (a .result .now) 0 (valueBytes (Streams (a .direction)) (listed ids))) (ids-all (a .tables .now) (a .direction) (a .n) (t .if1 .taken))
 
 cast-put-u32-2 : tie.Need-cast-put-u32-2
 cast-put-u32-2 c =
     let p = c .before .before .before in
     let a = p .before .before .before .before .before .args in
-    omega (arith, p .put-ids2 .ensures .counted, ids-short (a .s .now) (a .direction) (a .n) (omega arith))
+    omega (arith, p .put-ids2 .ensures .counted, ids-short (a .tables .now) (a .direction) (a .n) (omega arith))
 
 returns-2 : tie.Need-returns-2
 returns-2 c =

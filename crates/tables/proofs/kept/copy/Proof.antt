@@ -1,4 +1,4 @@
--- `state_store::effect::copy` meets its contract, a byte at a time. Assumes nothing.
+-- `tables::kept::copy` meets its contract, a byte at a time. Assumes nothing.
 use mathlib.Core.Path.{_≡_, refl, ap, _∙_}
 use Prim.Native.Nat.{ℕ, _+_, _≤_, _-_}
 use lib.ListN.{length, getD, length-set}
@@ -6,14 +6,14 @@ use lib.Seq.{sets}
 use Rattle.layout.specs.Bytes.{bytesAt}
 use Rattle.layout.specs.StoreLaws.{copy-more}
 use native.Mathlib.Omega.{arith}
-use Rattle.state_store.proofs.effect.copy.Statement.{statement}
-use Rattle.state_store.proofs.effect.copy.Tie as tie
+use Rattle.tables.proofs.kept.copy.Statement.{statement}
+use Rattle.tables.proofs.kept.copy.Tie as tie
 
 abbrev Inv-loop : tie.InvT-loop
-Inv-loop s₀ at page from n i₀ s i = (i ≤ n) × ((length s ≡ length s₀) × (s ≡ sets s₀ at (bytesAt from i page)))
+Inv-loop s₀ at page n i₀ s i = (i ≤ n) × ((length s ≡ length s₀) × (s ≡ sets s₀ at (bytesAt 4 i page)))
 
 abbrev μ-loop : tie.MeasureT-loop
-μ-loop s₀ at page from n i₀ s i = n - i
+μ-loop s₀ at page n i₀ s i = n - i
 
 loop-holds : tie.Need-loop-holds Inv-loop μ-loop
 unfolding bytesAt
@@ -23,15 +23,15 @@ loop-again : tie.Need-loop-again Inv-loop μ-loop
 loop-again c =
     let a = c .before .before .before .args in
     let l = c .before .before .loop in
-    let v = getD (a .page .now) (a .from + l .i) 0 in
-    (omega arith, (length-set (l .s) (a .at + l .i) v ∙ l .inv .1 .0, copy-more (a .s .now) (a .page .now) (a .at) (a .from) (l .i) (l .s) (l .inv .1 .1)))
+    let v = getD (a .page .now) (4 + l .i) 0 in
+    (omega arith, (length-set (l .s) (a .at + l .i) v ∙ l .inv .1 .0, copy-more (a .s .now) (a .page .now) (a .at) 4 (l .i) (l .s) (l .inv .1 .1)))
 
 returns : tie.Need-returns Inv-loop μ-loop
 returns c =
     let a = c .before .before .args in
     let l = c .before .loop in
     let e : l .i ≡ a .n = omega arith in
-    l .inv .1 .1 ∙ ap (λ (k : ℕ). sets (a .s .now) (a .at) (bytesAt (a .from) k (a .page .now))) e
+    l .inv .1 .1 ∙ ap (λ (k : ℕ). sets (a .s .now) (a .at) (bytesAt 4 k (a .page .now))) e
 
 pub copy-spec : {M : Type 1} → statement M
 copy-spec =

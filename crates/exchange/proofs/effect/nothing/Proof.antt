@@ -1,7 +1,7 @@
--- `state_store::place::nothing` meets its contract, case by case. Assumes nothing.
+-- `exchange::effect::nothing` meets its contract, case by case. Assumes nothing.
 use borrow.Author.Needs.{needs}
-use Rattle.state_store.proofs.place.nothing.Statement.{statement}
-use Rattle.state_store.proofs.place.nothing.Tie as tie
+use Rattle.exchange.proofs.effect.nothing.Statement.{statement}
+use Rattle.exchange.proofs.effect.nothing.Tie as tie
 
 returns : tie.Need-returns
 returns c = rw (c .enum-told .given .1)
