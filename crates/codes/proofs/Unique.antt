@@ -2,6 +2,7 @@
 -- Rattle reads it off the source, so no statement here repeats a clause.
 -- Assumes nothing.
 use mathlib.Core.Path.{_≡_, refl, ap}
+use mathlib.Core.Bool.{true}
 use mathlib.Core.List.{[], _∷_}
 use Prim.Native.Nat.{ℕ}
 use lib.Dec.{eqb}
@@ -11,9 +12,10 @@ use Rattle.codes.specs.SaysLaws.{same, one}
 use Rattle.codes.specs.Formats.{formatNumber, saysFormat}
 use Rattle.codes.specs.Rates.{rateNumber, saysRate, placeOf}
 use Rattle.codes.specs.Flags.{saysBit}
-use Rattle.codes.specs.Events.{eventCodes, eventCode, saysKind}
+use Rattle.codes.specs.Events.{eventCodesOf, eventCode, saysKind}
 use Rattle.codes.specs.Requests.{requestCodes, requestCode, saysRequest}
 use Rattle.codes.specs.Statuses.{statusCodes, statusCode, saysStatus}
+use Rattle.codes.specs.Versions.{versionNumber, saysVersion}
 use Rattle.codes.specs.declared.formats.PcmFormat.{PcmFormat}
 use Rattle.codes.specs.declared.formats.PcmFormat.the-variants.{ImaAdpcm, MuLaw, ALaw, S8, U8, S16, U16, «S18_3», «U18_3», «S20_3», «U20_3», «S24_3», «U24_3», S20, U20, S24, U24, S32, U32, FLOAT, FLOAT64, DsdU8, DsdU16, DsdU32, Iec958Subframe}
 use Rattle.codes.specs.declared.formats.FoundFormat.{FoundFormat}
@@ -23,7 +25,7 @@ use Rattle.codes.specs.declared.rates.PcmRate.the-variants.{Rate5512, Ra
 use Rattle.codes.specs.declared.rates.FoundRate.{FoundRate}
 use Rattle.codes.specs.declared.rates.FoundRate.the-variants as foundRate
 use Rattle.codes.specs.declared.events.NotificationType.{NotificationType}
-use Rattle.codes.specs.declared.events.NotificationType.the-variants.{JackConnected, JackDisconnected, PcmPeriodElapsed, PcmXrun}
+use Rattle.codes.specs.declared.events.NotificationType.the-variants.{JackConnected, JackDisconnected, PcmPeriodElapsed, PcmXrun, CtlNotify}
 use Rattle.codes.specs.declared.events.FoundNotification.{FoundNotification}
 use Rattle.codes.specs.declared.events.FoundNotification.the-variants as foundKind
 use Rattle.codes.specs.declared.requests.RequestCode.{RequestCode}
@@ -34,6 +36,10 @@ use Rattle.codes.specs.declared.statuses.StatusCode.{StatusCode}
 use Rattle.codes.specs.declared.statuses.StatusCode.the-variants.{SOk, SBadMsg, SNotSupp, SIoErr}
 use Rattle.codes.specs.declared.statuses.FoundStatus.{FoundStatus}
 use Rattle.codes.specs.declared.statuses.FoundStatus.the-variants as foundStatus
+use Rattle.codes.specs.declared.versions.Version.{Version}
+use Rattle.codes.specs.declared.versions.Version.the-variants.{V12, V13}
+use Rattle.codes.specs.declared.versions.FoundVersion.{FoundVersion}
+use Rattle.codes.specs.declared.versions.FoundVersion.the-variants as foundVersion
 use Rattle.codes.specs.declared.flags.FoundBit.{FoundBit}
 use Rattle.codes.specs.declared.flags.FoundBit.the-variants as foundBit
 use Rattle.codes.specs.declared.flags.JackFeatures.{JackFeatures}
@@ -50,6 +56,7 @@ use Rattle.codes.proofs.rates.PcmRate.hz.Reads as rate-hz
 use Rattle.codes.proofs.rates.PcmRate.from_hz.Reads as rate-from-hz
 use Rattle.codes.proofs.events.NotificationType.code.Reads as kind-code
 use Rattle.codes.proofs.events.NotificationType.from_code.Reads as kind-from-code
+use Rattle.codes.proofs.events.NotificationType.from_code_in.Reads as kind-from-code-in
 use Rattle.codes.proofs.requests.RequestCode.code.Reads as request-code
 use Rattle.codes.proofs.requests.RequestCode.from_code.Reads as request-from-code
 use Rattle.codes.proofs.statuses.StatusCode.code.Reads as status-code
@@ -58,6 +65,10 @@ use Rattle.codes.proofs.statuses.FoundStatus.is_ok.Reads as status-is-o
 use Rattle.codes.proofs.life.permits.Reads as permits
 use Rattle.codes.proofs.life.takes.Reads as takes
 use Rattle.codes.proofs.tests.both.Reads as both
+use Rattle.codes.proofs.versions.Version.number.Reads as version-number
+use Rattle.codes.proofs.versions.Version.from_number.Reads as version-from-number
+use Rattle.codes.proofs.versions.has_controls.Reads as has-controls
+use Rattle.codes.proofs.flags.DeviceFeatures.has_ctls.Reads as device-features-has-ctls
 use Rattle.codes.proofs.flags.JackFeatures.from_bits_retain.Reads as jack-features-from-bits-retain
 use Rattle.codes.proofs.flags.JackFeatures.has_remap.Reads as jack-features-has-remap
 use Rattle.codes.proofs.flags.PcmFeatures.from_bits_retain.Reads as features-from-bits-retain
@@ -140,7 +151,7 @@ rate-answer (foundRate.Is c) = ap foundRate.Is (rate-of c)
 rate-answer foundRate.InvalidParam = refl
 
 pub kindOf : ℕ → NotificationType
-kindOf n = getD (JackConnected ∷ JackDisconnected ∷ PcmPeriodElapsed ∷ PcmXrun ∷ []) (placeOf n eventCodes) JackConnected
+kindOf n = getD (JackConnected ∷ JackDisconnected ∷ PcmPeriodElapsed ∷ PcmXrun ∷ CtlNotify ∷ []) (placeOf n (eventCodesOf true)) JackConnected
 
 pub kind-of : (c : NotificationType) → kindOf (eventCode c) ≡ c
 unfolding kindOf placeOf
@@ -148,6 +159,7 @@ kind-of JackConnected = refl
 kind-of JackDisconnected = refl
 kind-of PcmPeriodElapsed = refl
 kind-of PcmXrun = refl
+kind-of CtlNotify = refl
 
 kind-answer : (a : FoundNotification) → answer foundKind.Is foundKind.IoError kindOf (saysKind a) ≡ a
 kind-answer (foundKind.Is c) = ap foundKind.Is (kind-of c)
@@ -190,6 +202,18 @@ unfolding foundOf
 status-answer (foundStatus.Is c) = ap foundStatus.Is (status-of c)
 status-answer (foundStatus.Unknown n) = refl
 
+versionOf : ℕ → Version
+versionOf n = pick (eqb n 0x0102) V12 V13
+
+version-of : (c : Version) → versionOf (versionNumber c) ≡ c
+unfolding versionOf
+version-of V12 = refl
+version-of V13 = refl
+
+version-answer : (a : FoundVersion) → answer foundVersion.Is foundVersion.InvalidParam versionOf (saysVersion a) ≡ a
+version-answer (foundVersion.Is c) = ap foundVersion.Is (version-of c)
+version-answer foundVersion.InvalidParam = refl
+
 bit-answer : (a : FoundBit) → answer foundBit.Is foundBit.InvalidParam (λ b. b) (saysBit a) ≡ a
 bit-answer (foundBit.Is b) = refl
 bit-answer foundBit.InvalidParam = refl
@@ -225,6 +249,9 @@ kind-code-one κs a r₁ r₂ e₁ e₂ p q = same p q
 
 pub kind-from-code-one : (κs : _) (a : _) (r₁ r₂ : _) (e₁ e₂ : _) → kind-from-code.Post κs a r₁ e₁ → kind-from-code.Post κs a r₂ e₂ → r₁ ≡ r₂
 kind-from-code-one κs a r₁ r₂ e₁ e₂ p q = one saysKind (answer foundKind.Is foundKind.IoError kindOf) kind-answer p q
+
+pub kind-from-code-in-one : (κs : _) (a : _) (r₁ r₂ : _) (e₁ e₂ : _) → kind-from-code-in.Post κs a r₁ e₁ → kind-from-code-in.Post κs a r₂ e₂ → r₁ ≡ r₂
+kind-from-code-in-one κs a r₁ r₂ e₁ e₂ p q = one saysKind (answer foundKind.Is foundKind.IoError kindOf) kind-answer p q
 
 pub request-code-one : (κs : _) (a : _) (r₁ r₂ : _) (e₁ e₂ : _) → request-code.Post κs a r₁ e₁ → request-code.Post κs a r₂ e₂ → r₁ ≡ r₂
 request-code-one κs a r₁ r₂ e₁ e₂ p q = same p q
@@ -297,3 +324,15 @@ permits-one κs a r₁ r₂ e₁ e₂ p q = same p q
 
 pub takes-one : (κs : _) (a : _) (r₁ r₂ : _) (e₁ e₂ : _) → takes.Post κs a r₁ e₁ → takes.Post κs a r₂ e₂ → r₁ ≡ r₂
 takes-one κs a r₁ r₂ e₁ e₂ p q = same p q
+
+pub version-number-one : (κs : _) (a : _) (r₁ r₂ : _) (e₁ e₂ : _) → version-number.Post κs a r₁ e₁ → version-number.Post κs a r₂ e₂ → r₁ ≡ r₂
+version-number-one κs a r₁ r₂ e₁ e₂ p q = same p q
+
+pub version-from-number-one : (κs : _) (a : _) (r₁ r₂ : _) (e₁ e₂ : _) → version-from-number.Post κs a r₁ e₁ → version-from-number.Post κs a r₂ e₂ → r₁ ≡ r₂
+version-from-number-one κs a r₁ r₂ e₁ e₂ p q = one saysVersion (answer foundVersion.Is foundVersion.InvalidParam versionOf) version-answer p q
+
+pub has-controls-one : (κs : _) (a : _) (r₁ r₂ : _) (e₁ e₂ : _) → has-controls.Post κs a r₁ e₁ → has-controls.Post κs a r₂ e₂ → r₁ ≡ r₂
+has-controls-one κs a r₁ r₂ e₁ e₂ p q = same p q
+
+pub device-features-has-ctls-one : (κs : _) (a : _) (r₁ r₂ : _) (e₁ e₂ : _) → device-features-has-ctls.Post κs a r₁ e₁ → device-features-has-ctls.Post κs a r₂ e₂ → r₁ ≡ r₂
+device-features-has-ctls-one κs a r₁ r₂ e₁ e₂ p q = same p q

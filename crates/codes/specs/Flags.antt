@@ -18,6 +18,10 @@ hasBit n bits = eqb (bits / 2 ^ n % 2) 1
 abbrev pub remapFeature : ℕ
 remapFeature = 0
 
+-- VIRTIO_SND_F_CTLS, of the device: VirtIO 1.3, 5.14.3
+abbrev pub ctlsFeature : ℕ
+ctlsFeature = 0
+
 -- VIRTIO_SND_PCM_F_*
 abbrev pub featureNumber : PcmFeature → ℕ
 featureNumber ShmemHost = 0

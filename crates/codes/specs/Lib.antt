@@ -10,9 +10,11 @@ pub mod Statuses
 pub mod Answers
 pub mod Life
 pub mod Cause
+pub mod Versions
 -- laws
 pub mod SaysLaws
 pub mod CodesLaws
+pub mod EventsLaws
 pub mod FlagsLaws
 pub mod TableLaws
 pub mod RatesLaws

@@ -1,13 +1,15 @@
 // Event kinds and their codes.
 ghost use mathlib.Core.Path.{_≡_};
 ghost use Rattle.codes.specs.Codes.{codeSays};
-ghost use Rattle.codes.specs.Events.{eventCodes, eventCode, saysKind};
+ghost use Rattle.codes.specs.Events.{eventCodes, eventCodesOf, eventCode, saysKind};
+use crate::tests::both;
 
 pub enum NotificationType {
     JackConnected,
     JackDisconnected,
     PcmPeriodElapsed,
     PcmXrun,
+    CtlNotify,
 }
 
 // What the code of an event is.
@@ -25,6 +27,7 @@ impl NotificationType {
             NotificationType::JackDisconnected => 0x1001,
             NotificationType::PcmPeriodElapsed => 0x1100,
             NotificationType::PcmXrun => 0x1101,
+            NotificationType::CtlNotify => 0x1200,
         }
     }
 
@@ -38,5 +41,15 @@ impl NotificationType {
             0x1101 => FoundNotification::Is(NotificationType::PcmXrun),
             _ => FoundNotification::IoError,
         }
+    }
+
+    // Where the device has control elements, a change of one is an event too.
+    pub fn from_code_in(code: u32, controls: bool) -> FoundNotification
+        ensures { λ r. ⌜ saysKind r ≡ codeSays (eventCodesOf controls) 2 code ⌝ }
+    {
+        if both(controls, code == 0x1200) {
+            return FoundNotification::Is(NotificationType::CtlNotify);
+        }
+        NotificationType::from_code(code)
     }
 }

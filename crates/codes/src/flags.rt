@@ -5,7 +5,7 @@ ghost use lib.Dec.{eqb};
 ghost use Rattle.codes.specs.Codes.{numberSays};
 ghost use Rattle.codes.specs.Formats.{formatNumber};
 ghost use Rattle.codes.specs.Rates.{rateNumber};
-ghost use Rattle.codes.specs.Flags.{hasBit, remapFeature, featureNumber, saysBit};
+ghost use Rattle.codes.specs.Flags.{hasBit, ctlsFeature, remapFeature, featureNumber, saysBit};
 use crate::formats::PcmFormat;
 use crate::rates::FoundRate;
 use crate::rates::PcmRate;
@@ -22,6 +22,21 @@ fn bit_of(bits: u64, mask: u64) -> bool
     ensures { λ r. ⌜ r ≡ eqb (bits / mask % 2) 1 ⌝ }
 {
     bits / mask % 2 == 1
+}
+
+// Features of a device.
+pub struct DeviceFeatures {
+    pub bits: u64,
+}
+
+impl DeviceFeatures {
+    pub const CTLS: u64 = 1 << 0;
+
+    pub fn has_ctls(self) -> bool
+        ensures { λ r. ⌜ r ≡ hasBit ctlsFeature (self .bits) ⌝ }
+    {
+        bit_of(self.bits, DeviceFeatures::CTLS)
+    }
 }
 
 // Features of a jack.

@@ -1,5 +1,5 @@
 // Codes and masks: formats, rates, flag sets, event kinds, request and status codes, channel
-// positions, and the answers of a call with their numbers.
+// positions, versions, and the answers of a call with their numbers.
 mod answers;
 pub mod direction;
 mod events;
@@ -11,11 +11,13 @@ mod rates;
 mod requests;
 mod statuses;
 mod tests;
+mod versions;
 
 pub use answers::Cause;
 pub use answers::Refusal;
 pub use events::FoundNotification;
 pub use events::NotificationType;
+pub use flags::DeviceFeatures;
 pub use flags::FoundBit;
 pub use flags::JackFeatures;
 pub use flags::PcmFeature;
@@ -31,3 +33,6 @@ pub use requests::RequestCode;
 pub use statuses::FoundStatus;
 pub use statuses::StatusCode;
 pub use tests::both;
+pub use versions::FoundVersion;
+pub use versions::Version;
+pub use versions::has_controls;

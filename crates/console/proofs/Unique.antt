@@ -55,6 +55,8 @@ use Rattle.console.proofs.ring.snd_ring_stream.Reads as ring-stream
 use Rattle.console.proofs.ring.snd_ring_carried.Reads as ring-carried
 use Rattle.console.proofs.ring.snd_ring_oldest.Reads as ring-oldest
 use Rattle.console.proofs.event.snd_latest_notification.Reads as latest-notification
+use Rattle.console.proofs.versions.snd_config.Reads as config
+use Rattle.console.proofs.versions.snd_latest_notification_in.Reads as latest-notification-in
 use Rattle.console.proofs.device.snd_model_new.Reads as model-new
 use Rattle.console.proofs.device.snd_model_control.Reads as model-control
 use Rattle.console.proofs.device.snd_model_transfer.Reads as model-transfer
@@ -272,3 +274,9 @@ wav-read-one κs a r₁ r₂ e₁ e₂ p q = shown-one p q
 -- lent: file
 pub wav-write-one : (κs : _) (a : _) (r₁ r₂ : _) (e₁ e₂ : _) → wav-write.Post κs a r₁ e₁ → wav-write.Post κs a r₂ e₂ → (r₁ ≡ r₂) × (now (e₁ .1 .1 .1 .1 .0) ≡ now (e₂ .1 .1 .1 .1 .0))
 wav-write-one κs a r₁ r₂ e₁ e₂ p q = made-one p q
+
+pub config-one : (κs : _) (a : _) (r₁ r₂ : _) (e₁ e₂ : _) → config.Post κs a r₁ e₁ → config.Post κs a r₂ e₂ → (r₁ ≡ r₂) × (now (e₁ .1 .1 .1 .0) ≡ now (e₂ .1 .1 .1 .0))
+config-one κs a r₁ r₂ e₁ e₂ p q = shown-one p q
+
+pub latest-notification-in-one : (κs : _) (a : _) (r₁ r₂ : _) (e₁ e₂ : _) → latest-notification-in.Post κs a r₁ e₁ → latest-notification-in.Post κs a r₂ e₂ → (r₁ ≡ r₂) × (now (e₁ .1 .1 .1 .0) ≡ now (e₂ .1 .1 .1 .0))
+latest-notification-in-one κs a r₁ r₂ e₁ e₂ p q = shown-one p q

@@ -1,7 +1,7 @@
--- What the C entries say where an entry puts stores together, a state with a ring, and where there is no store: an event, a WAVE file. The others say what `state_store`, `ring_store` and
+-- What the C entries say where an entry puts stores together, a state with a ring, and where there is no store: an event, a configuration, a WAVE file. The others say what `state_store`, `ring_store` and
 -- `model_store` say.
 -- Assumes nothing.
-use mathlib.Core.Bool.{_&&_}
+use mathlib.Core.Bool.{Bool, false, _&&_}
 use mathlib.Core.List.{List, [], _∷_}
 use Prim.Native.Nat.{ℕ}
 use lib.Dec.{leb, eqb}
@@ -12,12 +12,14 @@ use Rattle.layout.specs.Layout.{read, write}
 use Rattle.layout.specs.Rows.{rowsBytes}
 use Rattle.codes.specs.Says.{pick, guard}
 use Rattle.codes.specs.Codes.{among}
-use Rattle.codes.specs.Events.{eventCodes}
+use Rattle.codes.specs.Events.{eventCodesOf}
 use Rattle.codes.specs.Answers.{refusalWord}
+use Rattle.codes.specs.Versions.{versionNumbers, hasControls}
 use Rattle.codes.specs.declared.answers.Cause.the-variants.{NoStatus}
 use Rattle.codes.specs.declared.answers.Refusal.the-variants.{IoError}
 use Rattle.turns.specs.Ring.{isRefused}
-use Rattle.records.specs.Records.{event}
+use Rattle.records.specs.Config.{configRow, fits}
+use Rattle.records.specs.Notice.{eventRow}
 use Rattle.exchange.specs.Xfer.{startOf, xferMessage, xferWord}
 use Rattle.core.specs.declared.state.Call.{Call}
 use Rattle.exchange.specs.declared.xfer.XferReply.{XferReply}
@@ -80,14 +82,35 @@ startEntry s ring stream len budget m =
     guard (leb stateSize (length s) && leb ringSize (length ring)) (began 10 s ring m)
     (begun s ring stream m (startOf (soundOf s) (ringOf ring) stream len budget (length m)))
 
--- ---- an event: its code 4 and its data 4 in the result; 513 where it says nothing; an unknown code is 2, which no status caused
+-- ---- an event: each number that it gives, 4 bytes in the result; 513 where it says nothing; an unknown code is 2, which no status caused
+
+abbrev pub noticeShown : Bool → List ℕ → List ℕ → Shown
+noticeShown controls e r =
+    let code = numAt 0 4 e in
+    guard (eqb (length e) 8) (shown 513 r)
+    (guard (among code (eventCodesOf controls)) (shown (refusalWord (IoError NoStatus)) r)
+    (shown 0 (sets r 0 (rowsBytes (le 4) (read (eventRow controls code) e)))))
 
 unfoldable pub noticeEntry : List ℕ → List ℕ → Shown
-noticeEntry e r =
+noticeEntry e r = guard (leb resultSize (length r)) (shown 10 r) (noticeShown false e r)
+
+-- ---- by the version and the negotiated features that the caller names: 10 first, then 1 for a number that is no version
+
+unfoldable pub noticeEntryIn : List ℕ → ℕ → ℕ → List ℕ → Shown
+noticeEntryIn e version features r =
     guard (leb resultSize (length r)) (shown 10 r)
-    (guard (eqb (length e) 8) (shown 513 r)
-    (guard (among (numAt 0 4 e) eventCodes) (shown (refusalWord (IoError NoStatus)) r)
-    (shown 0 (sets r 0 (rowsBytes (le 4) (read event e))))))
+    (guard (among version versionNumbers) (shown 1 r)
+    (noticeShown (hasControls version features) e r))
+
+-- the counts, laid out in the result as in the configuration
+unfoldable pub configEntry : List ℕ → ℕ → ℕ → List ℕ → Shown
+configEntry s version features r =
+    let controls = hasControls version features in
+    let row = configRow controls in
+    guard (leb resultSize (length r)) (shown 10 r)
+    (guard (fits controls s) (shown 10 r)
+    (guard (among version versionNumbers) (shown 1 r)
+    (shown 0 (sets r 0 (write row (read row s))))))
 
 -- ---- a WAVE file that is read: where its data chunk is, offset 8 and length 8, and its sound as set parameters takes it, channels 1, format 1, rate 1
 

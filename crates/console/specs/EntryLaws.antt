@@ -2,29 +2,15 @@
 -- Assumes nothing.
 use mathlib.Core.Path.{_≡_, refl, sym, ap, _∙_}
 use mathlib.Core.Bool.{Bool, true, false, _&&_}
-use mathlib.Core.List.{List, [], _∷_, _++_, append-nil}
-use Prim.Native.Nat.{ℕ, _+_}
-use native.Mathlib.Omega.{arith}
-use lib.Dec.{leb, eqb}
+use mathlib.Core.List.{List, []}
+use Prim.Native.Nat.{ℕ}
+use lib.Dec.{leb}
 use lib.ListN.{length}
-use lib.Seq.{sets}
-use Rattle.layout.specs.Bytes.{le, numAt, Bytes}
-use Rattle.layout.specs.Layout.{read}
-use Rattle.layout.specs.Rows.{rowsBytes}
-use Rattle.layout.specs.BytesLaws.{length-le}
-use Rattle.layout.specs.StoreLaws.{sets-then}
-use Rattle.codes.specs.Says.{Says, says, pick, guard}
+use Rattle.layout.specs.Bytes.{Bytes}
+use Rattle.codes.specs.Says.{guard}
 use Rattle.codes.specs.SaysLaws.{passes, stops}
 use Rattle.codes.specs.Answers.{refusalWord}
-use Rattle.codes.specs.Codes.{among}
-use Rattle.codes.specs.Events.{eventCodes, eventCode}
-use Rattle.codes.specs.declared.answers.Cause.the-variants.{NoStatus}
 use Rattle.codes.specs.declared.answers.Refusal.{Refusal}
-use Rattle.codes.specs.declared.answers.Refusal.the-variants.{IoError}
-use Rattle.records.specs.Records.{event}
-use Rattle.records.specs.Notice.{saysNotice, noticeSays}
-use Rattle.records.specs.declared.event.Notice.{Notice}
-use Rattle.records.specs.declared.event.Notice.the-variants as notice
 use Rattle.turns.specs.Calls.{startCall, startedOf}
 use Rattle.turns.specs.declared.ring.Track.{Track}
 use Rattle.pending.specs.Table.{noneIn}
@@ -32,7 +18,7 @@ use Rattle.exchange.specs.Xfer.{xferBy, refusedStep, setUpStep, startStep, star
 use Rattle.exchange.specs.StepLaws.{xfer-ap}
 use Rattle.ring_store.specs.Store.{ringSize}
 use Rattle.state_store.specs.Places.{stateSize}
-use Rattle.layout.specs.Lent.{Shown, shown, resultSize, messageSize}
+use Rattle.layout.specs.Lent.{messageSize}
 use Rattle.ring_store.specs.Store.{trackAt, ringOf}
 use Rattle.ring_store.specs.Calls.{leftBy, startIn}
 use Rattle.state_store.specs.Store.{whole, soundOf, stateAfter}
@@ -40,41 +26,7 @@ use Rattle.state_store.specs.RefusedLaws.{state-kept}
 use Rattle.state_store.specs.Calls.{Opened, opened, shut, settingUp, openIn}
 use Rattle.state_store.specs.declared.calls.Opening.{Opening}
 use Rattle.state_store.specs.declared.calls.Opening.the-variants as opening
-use Rattle.console.specs.Entries.{Begun, began, begun, startEntry, noticeEntry}
-
--- ---- an event
-
--- what is told of a notice
-abbrev pub noticed : Notice → List ℕ → Shown
-noticed (notice.Is k d) r = shown 0 (sets r 0 (rowsBytes (le 4) (eventCode k ∷ d ∷ [])))
-noticed notice.IoError r = shown (refusalWord (IoError NoStatus)) r
-noticed notice.Nothing r = shown 513 r
-
-notice-by : (t u : Bool) (vs r : List ℕ) (n : Notice) → saysNotice n ≡ pick t (pick u (says 0 vs) (says 2 [])) (says 0 []) → length vs ≡ 2
-    → noticed n r ≡ guard t (shown 513 r) (guard u (shown (refusalWord (IoError NoStatus)) r) (shown 0 (sets r 0 (rowsBytes (le 4) vs))))
-unfolding guard rowsBytes
-notice-by true true vs r (notice.Is k d) e h = ap (λ (y : Says). shown 0 (sets r 0 (rowsBytes (le 4) (y .values)))) e
-notice-by true true vs r notice.IoError e h = let z : _≡_ {A = ℕ} 2 0 = ap (λ (y : Says). y .number) e in absurd (omega arith)
-notice-by true true vs r notice.Nothing e h = let z : 0 ≡ length vs = ap (λ (y : Says). length (y .values)) e in absurd (omega arith)
-notice-by true false vs r (notice.Is k d) e h = let z : _≡_ {A = ℕ} 0 2 = ap (λ (y : Says). y .number) e in absurd (omega arith)
-notice-by true false vs r notice.IoError e h = refl
-notice-by true false vs r notice.Nothing e h = let z : _≡_ {A = ℕ} 0 2 = ap (λ (y : Says). y .number) e in absurd (omega arith)
-notice-by false u vs r (notice.Is k d) e h = let z : _≡_ {A = ℕ} 2 0 = ap (λ (y : Says). length (y .values)) e in absurd (omega arith)
-notice-by false u vs r notice.IoError e h = let z : _≡_ {A = ℕ} 2 0 = ap (λ (y : Says). y .number) e in absurd (omega arith)
-notice-by false u vs r notice.Nothing e h = refl
-
-pub noticed-is : (e r : List ℕ) (n : Notice) → leb resultSize (length r) ≡ true → saysNotice n ≡ noticeSays e → noticed n r ≡ noticeEntry e r
-unfolding noticeEntry
-noticed-is e r n long h = passes _ _ _ long (notice-by (eqb (length e) 8) (among (numAt 0 4 e) eventCodes) (read event e) r n h refl)
-
--- its two numbers, put one after the other
-pub two-put : (r r₁ r₂ : List ℕ) (a b x : ℕ) → x ≡ a → r₁ ≡ sets r 0 (le 4 x) → r₂ ≡ sets r₁ 4 (le 4 b) → r₂ ≡ sets r 0 (rowsBytes (le 4) (a ∷ b ∷ []))
-unfolding rowsBytes le
-two-put r r₁ r₂ a b x e p q =
-    q
-    ∙ ap (λ (l : List ℕ). sets l 4 (le 4 b)) (p ∙ ap (λ (y : ℕ). sets r 0 (le 4 y)) e)
-    ∙ sets-then r 0 4 (le 4 a) (le 4 b) (sym (length-le 4 a))
-    ∙ ap (λ (l : List ℕ). sets r 0 (le 4 a ++ l)) (sym (append-nil (le 4 b)))
+use Rattle.console.specs.Entries.{Begun, began, begun, startEntry}
 
 -- ---- the start of a transfer
 

@@ -7,4 +7,5 @@ mod ring;
 mod sizes;
 mod stores;
 mod transfer;
+mod versions;
 mod wave;

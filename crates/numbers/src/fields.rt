@@ -2,6 +2,7 @@
 // with that one field all ones.
 use crate::show;
 use records::ChannelMap;
+use records::Config;
 use records::Event;
 use records::JackInfo;
 use records::PcmCommand;
@@ -314,8 +315,28 @@ fn event_fields() {
     event(b"event.data", Event { data: ALL, ..z });
 }
 
+fn config(name: &[u8], r: Config) {
+    let mut b = [0u8; 12];
+    r.write(false, &mut b);
+    show::field(name, &b);
+}
+
+fn config_fields() {
+    show::size(b"config", Config::SIZE as u64);
+    let z = Config {
+        jacks: 0,
+        streams: 0,
+        chmaps: 0,
+        controls: 0,
+    };
+    config(b"config.jacks", Config { jacks: ALL, ..z });
+    config(b"config.streams", Config { streams: ALL, ..z });
+    config(b"config.chmaps", Config { chmaps: ALL, ..z });
+}
+
 pub(crate) fn transfer() {
     header_fields();
     status_fields();
     event_fields();
+    config_fields();
 }

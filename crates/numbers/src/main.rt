@@ -1,6 +1,7 @@
 // Prints every size, offset and number of the wire as the libraries hand them out, under the names
 // of linux/virtio_snd.h, so that the two can be compared line by line (tests/header).
 mod codes_of;
+mod controls;
 mod fields;
 mod show;
 
@@ -14,4 +15,5 @@ fn main() {
     codes_of::rates();
     codes_of::flags();
     codes_of::positions();
+    controls::all();
 }

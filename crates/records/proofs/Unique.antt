@@ -23,6 +23,9 @@ use Rattle.records.specs.declared.event.Notice.{Notice}
 use Rattle.records.specs.declared.event.Notice.the-variants as notice
 use Rattle.records.proofs.info.ChannelMap.position.Reads as position
 use Rattle.records.proofs.event.latest_notification.Reads as latest-notification
+use Rattle.records.proofs.notice.latest_notification_in.Reads as latest-notification-in
+use Rattle.records.proofs.config.Config.read.Reads as config-read
+use Rattle.records.proofs.config.Config.write.Reads as config-write
 use Rattle.records.proofs.control.Query.read.Reads as query-read
 use Rattle.records.proofs.control.Query.write.Reads as query-write
 use Rattle.records.proofs.control.Remap.read.Reads as remap-read
@@ -130,13 +133,25 @@ position-one κs a r₁ r₂ e₁ e₂ p q = one saysPosition positionAnswer pos
 noticeAnswer : Says → Notice
 noticeAnswer s =
     pick (eqb (s .number) 2) notice.IoError
-    (pick (eqb (length (s .values)) 0) notice.Nothing (notice.Is (kindOf (getD (s .values) 0 0)) (getD (s .values) 1 0)))
+    (pick (eqb (length (s .values)) 0) notice.Nothing
+    (pick (eqb (length (s .values)) 3) (notice.Control (getD (s .values) 1 0) (getD (s .values) 2 0))
+    (notice.Is (kindOf (getD (s .values) 0 0)) (getD (s .values) 1 0))))
 
 notice-answer : (a : Notice) → noticeAnswer (saysNotice a) ≡ a
 unfolding noticeAnswer
 notice-answer (notice.Is k d) = λ i. notice.Is (kind-of k i) d
+notice-answer (notice.Control id mask) = refl
 notice-answer notice.IoError = refl
 notice-answer notice.Nothing = refl
 
 pub latest-notification-one : (κs : _) (a : _) (r₁ r₂ : _) (e₁ e₂ : _) → latest-notification.Post κs a r₁ e₁ → latest-notification.Post κs a r₂ e₂ → r₁ ≡ r₂
 latest-notification-one κs a r₁ r₂ e₁ e₂ p q = one saysNotice noticeAnswer notice-answer p q
+
+pub latest-notification-in-one : (κs : _) (a : _) (r₁ r₂ : _) (e₁ e₂ : _) → latest-notification-in.Post κs a r₁ e₁ → latest-notification-in.Post κs a r₂ e₂ → r₁ ≡ r₂
+latest-notification-in-one κs a r₁ r₂ e₁ e₂ p q = one saysNotice noticeAnswer notice-answer p q
+
+pub config-read-one : (κs : _) (a : _) (r₁ r₂ : _) (e₁ e₂ : _) → config-read.Post κs a r₁ e₁ → config-read.Post κs a r₂ e₂ → r₁ ≡ r₂
+config-read-one κs a r₁ r₂ e₁ e₂ p q = same p q
+
+pub config-write-one : (κs : _) (a : _) (r₁ r₂ : _) (e₁ e₂ : _) → config-write.Post κs a r₁ e₁ → config-write.Post κs a r₂ e₂ → (r₁ ≡ r₂) × (now (e₁ .1 .1 .0) ≡ now (e₂ .1 .1 .0))
+config-write-one κs a r₁ r₂ e₁ e₂ p q = both p q

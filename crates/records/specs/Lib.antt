@@ -3,6 +3,9 @@ pub mod Slice
 pub mod Records
 pub mod Positions
 pub mod Notice
+pub mod Config
+-- theorems
+pub mod Versions
 -- laws
 pub mod SliceLaws
 pub mod BackLaws
@@ -10,3 +13,4 @@ pub mod RoundLaws
 pub mod RowLaws
 pub mod PositionLaws
 pub mod NoticeLaws
+pub mod ConfigLaws

@@ -48,6 +48,8 @@ impl Event {
 // What an event says: its kind and its data, or that its code is unknown.
 pub enum Notice {
     Is(NotificationType, u32),
+    // A change of a control element: which, and the mask of what changed.
+    Control(u16, u16),
     IoError,
     Nothing,
 }

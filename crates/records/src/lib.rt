@@ -1,11 +1,15 @@
 // Records: written in a lent slice and read from it. A slice shorter than the record is BadLength,
-// and reading and writing refuse nothing else. What an event says, and a position of a channel map.
+// and reading and writing refuse nothing else; a configuration has just its bytes. What an event says, and a position of a channel map.
+mod config;
 mod control;
 mod event;
 mod info;
+mod notice;
 mod transfer;
 mod written;
 
+pub use config::Config;
+pub use config::ReadConfig;
 pub use control::PcmCommand;
 pub use control::Query;
 pub use control::ReadPcmCommand;
@@ -25,6 +29,7 @@ pub use info::PcmInfo;
 pub use info::ReadChannelMap;
 pub use info::ReadJackInfo;
 pub use info::ReadPcmInfo;
+pub use notice::latest_notification_in;
 pub use transfer::ReadTransfer;
 pub use transfer::ReadTransferStatus;
 pub use transfer::Transfer;

@@ -89,6 +89,7 @@ fn notice(n: Notice) {
     show::text(b"  says ");
     match n {
         Notice::Is(_, data) => show::decimal(data as u64),
+        Notice::Control(control, _) => show::decimal(control as u64),
         Notice::IoError => show::refusal(Refusal::IoError(Cause::NoStatus)),
         Notice::Nothing => show::text(b"nothing"),
     }
