@@ -44,6 +44,8 @@ pub trait Entries {
     fn pending_count(&self, result: &mut [u8]) -> u64;
     fn pending_token(&self, token: u32, result: &mut [u8]) -> u64;
     fn notification(&self, event: &[u8], result: &mut [u8]) -> u64;
+    fn config(&self, config: &[u8], version: u32, features: u64, result: &mut [u8]) -> u64;
+    fn notification_in(&self, event: &[u8], version: u32, features: u64, result: &mut [u8]) -> u64;
 
     fn model_new(&mut self, tables: [&[u8]; 3]) -> u64;
     fn model_control(&mut self, request: &[u8], page: &mut [u8], result: &mut [u8]) -> u64;

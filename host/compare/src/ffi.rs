@@ -243,6 +243,22 @@ unsafe extern "C" {
         result_len: usize,
     ) -> u64;
     pub fn snd_latest_notification(event: *const u8, event_len: usize, result: *mut u8, result_len: usize) -> u64;
+    pub fn snd_config(
+        config: *const u8,
+        config_len: usize,
+        version: u32,
+        features: u64,
+        result: *mut u8,
+        result_len: usize,
+    ) -> u64;
+    pub fn snd_latest_notification_in(
+        event: *const u8,
+        event_len: usize,
+        version: u32,
+        features: u64,
+        result: *mut u8,
+        result_len: usize,
+    ) -> u64;
     pub fn snd_wav_read(file: *const u8, file_len: usize, result: *mut u8, result_len: usize) -> u64;
     pub fn snd_wav_write(
         channels: u8,

@@ -19,6 +19,7 @@ pub mod short;
 pub mod shown;
 pub mod stages;
 pub mod text;
+pub mod versions;
 pub mod waves;
 
 // it links the port's archive

@@ -8,7 +8,7 @@ use compare::plain::Plain;
 use compare::port::Port;
 use compare::run::{Counts, With, report, run};
 use compare::waves::{self, Kinds};
-use compare::{guarded, pending, raw, record, rust, short, shown, stages};
+use compare::{guarded, pending, raw, record, rust, short, shown, stages, versions};
 use options::{Options, Run, Seeds, USAGE, options};
 use std::process::exit;
 use std::time::Instant;
@@ -73,8 +73,9 @@ fn gate(with: With, short: bool) -> bool {
     let random = random && pending_cases(with, PENDING);
     let entries = !with.port || entries_by_stage() && random_entries(ENTRIES);
     let waves = !with.port || random_waves(WAVES) && large_waves();
+    let versions = !with.port || by_version();
     let recorded = !with.port || replay(RECORDED);
-    short && random && entries && waves && recorded
+    short && random && entries && waves && versions && recorded
 }
 
 fn told(name: &str, counts: &Counts, since: Instant) {
@@ -216,6 +217,18 @@ fn large_waves() -> bool {
     match &tried {
         Ok((count, Some(more))) => println!("large WAVE files: {count} of 64 MiB, {more} of about 4 GiB"),
         Ok((count, None)) => println!("large WAVE files: {count} of 64 MiB; there is no room for 4 GiB"),
+        Err(text) => println!("DIFFERENCE\n{text}"),
+    }
+    println!("  {:.1} s", since.elapsed().as_secs_f64());
+    tried.is_ok()
+}
+
+/// Configurations and events of VirtIO 1.2 and 1.3.
+fn by_version() -> bool {
+    let since = Instant::now();
+    let tried = versions::all();
+    match &tried {
+        Ok(count) => println!("configurations and events by version: {count}"),
         Err(text) => println!("DIFFERENCE\n{text}"),
     }
     println!("  {:.1} s", since.elapsed().as_secs_f64());

@@ -5,6 +5,7 @@ use rules::entries::{self as e, Asked, Store, number};
 use rules::model::Model;
 use rules::ring::{Reading, Ring};
 use rules::sound::{Call, Fed, Sound};
+use rules::versions;
 
 #[derive(Clone, PartialEq, Eq)]
 pub struct Plain {
@@ -12,6 +13,14 @@ pub struct Plain {
     pub ring: Ring,
     pub model: Model,
     lent: Lent,
+}
+
+/// The answer; each value that is told takes 4 bytes of the result.
+fn told((answer, values): (u64, Vec<u32>), result: &mut [u8]) -> u64 {
+    for (place, value) in result.chunks_mut(4).zip(values) {
+        place.copy_from_slice(&value.to_le_bytes());
+    }
+    answer
 }
 
 impl Plain {
@@ -121,6 +130,12 @@ impl Entries for Plain {
     }
     fn notification(&self, event: &[u8], result: &mut [u8]) -> u64 {
         number(e::notification(event, result))
+    }
+    fn config(&self, config: &[u8], version: u32, features: u64, result: &mut [u8]) -> u64 {
+        told(versions::config(config, version, features, result.len()), result)
+    }
+    fn notification_in(&self, event: &[u8], version: u32, features: u64, result: &mut [u8]) -> u64 {
+        told(versions::notification(event, version, features, result.len()), result)
     }
 
     fn model_new(&mut self, tables: [&[u8]; 3]) -> u64 {

@@ -193,6 +193,14 @@ impl Entries for Port {
         let ((v, vn), (o, on)) = (lend!(event), lend!(mut result));
         unsafe { snd_latest_notification(v, vn, o, on) }
     }
+    fn config(&self, config: &[u8], version: u32, features: u64, result: &mut [u8]) -> u64 {
+        let ((c, cn), (o, on)) = (lend!(config), lend!(mut result));
+        unsafe { snd_config(c, cn, version, features, o, on) }
+    }
+    fn notification_in(&self, event: &[u8], version: u32, features: u64, result: &mut [u8]) -> u64 {
+        let ((v, vn), (o, on)) = (lend!(event), lend!(mut result));
+        unsafe { snd_latest_notification_in(v, vn, version, features, o, on) }
+    }
 
     fn model_new(&mut self, tables: [&[u8]; 3]) -> u64 {
         let (d, dn) = lend!(mut self.model[LEAD..][..self.lent.model]);

@@ -78,6 +78,9 @@ pub enum What {
     PendingCount,
     PendingToken(u32),
     Event(Vec<u8>),
+    /// the version and the features that are named
+    EventIn(Vec<u8>, u32, u64),
+    Config(Vec<u8>, u32, u64),
     ModelNew([usize; 3]),
     ModelControl {
         request: Vec<u8>,
@@ -142,6 +145,8 @@ fn enter<E: Entries>(e: &mut E, op: &Op) -> Left {
         What::PendingCount => e.pending_count(o),
         What::PendingToken(token) => e.pending_token(*token, o),
         What::Event(event) => e.notification(event, o),
+        What::EventIn(event, version, features) => e.notification_in(event, *version, *features, o),
+        What::Config(config, version, features) => e.config(config, *version, *features, o),
         What::ModelNew(lens) => {
             let tables = lens.map(|len| Body::of(Kind::Streams, len as u64).bytes().repeat(2)[..len].to_vec());
             e.model_new([&tables[0], &tables[1], &tables[2]])
@@ -377,6 +382,7 @@ fn what(rng: &mut Rng, guide: &Plain) -> What {
         9..=17 => turn(rng, guide),
         18..=20 => drain(rng, guide),
         21 | 22 => What::Read(asked(rng)),
+        23 if rng.one_in(2) => by_version(rng),
         23 => What::Event(event(rng)),
         24 if rng.one_in(3) => model_new(rng),
         24 | 25 => model_control(rng, guide),
@@ -536,6 +542,19 @@ fn event(rng: &mut Rng) -> Vec<u8> {
     let mut bytes = wire::words(&[rng.pick(&[0x1000, 0x1001, 0x1100, 0x1101, 0x1002, 0]), rng.word() as u32]);
     bytes.resize(rng.pick(&[8, 8, 8, 0, 7, 9]), 1);
     bytes
+}
+
+fn by_version(rng: &mut Rng) -> What {
+    let version = rng.pick(&[0x0102, 0x0103, 0x0103, 0x0103, 0x0104, 0]);
+    let features = rng.pick(&[0, 1, 1, 1, 2, u64::MAX]);
+    if rng.one_in(2) {
+        let mut config = wire::words(&std::array::from_fn::<u32, 4, _>(|_| rng.word() as u32));
+        config.resize(rng.pick(&[12, 16, 16, 0, 11, 13, 15, 17]), 1);
+        return What::Config(config, version, features);
+    }
+    let mut bytes = wire::words(&[rng.pick(&[0x1200, 0x1200, 0x1101, 0x1201]), rng.word() as u32]);
+    bytes.resize(rng.pick(&[8, 8, 8, 0, 7, 9]), 1);
+    What::EventIn(bytes, version, features)
 }
 
 fn model_new(rng: &mut Rng) -> What {

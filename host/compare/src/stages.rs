@@ -146,6 +146,10 @@ fn others() -> Vec<What> {
         all.push(What::FeedWritten { status: wire::STATUS_BAD, body: Body::ZERO, len, written });
     }
     all.extend([0, 7, 8, 9].map(|n| What::Event(wire::words(&[0x1101, 5, 6])[..n].to_vec())));
+    for (version, features) in [(0x0102, 1), (0x0103, 1), (0x0104, 1)] {
+        all.extend([7, 8].map(|n| What::EventIn(wire::words(&[0x1200, 5])[..n].to_vec(), version, features)));
+        all.extend([12, 16].map(|n| What::Config(wire::words(&[1, 2, 3, 4])[..n].to_vec(), version, features)));
+    }
     for answer in [0, 7, 8, 9] {
         all.push(What::ModelTransfer { request: wire::words(&[1, 2]), answer });
         all.push(What::ModelTransfer { request: wire::words(&[2, 2]), answer });

@@ -1,6 +1,8 @@
 //! The comparison in small, for `cargo test`; the gate's run is the program's own.
 use compare::run::{Counts, With, report, run};
-use compare::{guarded, judge::Intended, pending, random, raw, record, rust, short, shown, stages, text, waves};
+use compare::{
+    guarded, judge::Intended, pending, random, raw, record, rust, short, shown, stages, text, versions, waves,
+};
 
 const WITH: With = With { rust: oracle::AT_HAND, port: true };
 
@@ -59,6 +61,12 @@ fn waves_agree() {
         assert_eq!(tried.err(), None, "compare --wav 1 --seed {seed}");
     }
     assert_eq!(kinds.missing(), []);
+}
+
+#[test]
+fn versions_agree() {
+    let tried = versions::all();
+    assert!(matches!(tried, Ok(count) if count > 100_000), "{tried:?}");
 }
 
 #[test]

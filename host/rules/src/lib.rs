@@ -2,7 +2,7 @@
 //! it leaves open) and from nothing else. The port and the Rust driver are both held to it by `compare`.
 //! Of document 02 these requests are read here too: 2026-01, feeds that carry the length the device wrote; 2026-02, the guard
 //! over a stream's lifecycle; 2026-03, announcements from WAV; 2026-05, the device's status in 2 and 3;
-//! 2026-06, submissions that do not wait.
+//! 2026-06, submissions that do not wait; 2026-08, VirtIO 1.3 beside 1.2.
 //!
 //! Clarity before speed: tables are vectors, refusals are numbers.
 
@@ -14,6 +14,7 @@ pub mod pending;
 pub mod ring;
 pub mod sound;
 pub mod status;
+pub mod versions;
 pub mod wave;
 pub mod wire;
 

@@ -2,7 +2,7 @@
 //!
 //! Each fault is beside its test, so that a comparison can tell whether all were tried; they have two numbers.
 
-use crate::wire::u32_at;
+use crate::wire::{u16_at, u32_at};
 use crate::{BAD_LENGTH, BAD_SOUND, NOT_WAVE};
 
 /// "A table of the 25 formats gives sample and storage width in bits": VirtIO's formats by number, IMA ADPCM to IEC958 subframes.
@@ -82,10 +82,6 @@ impl Fault {
     pub fn number(self) -> u8 {
         if self <= Fault::ShortFmt { NOT_WAVE } else { BAD_SOUND }
     }
-}
-
-fn u16_at(bytes: &[u8], at: usize) -> u16 {
-    u16::from_le_bytes([bytes[at], bytes[at + 1]])
 }
 
 /// A chunk: its tag, and where its bytes stand in the file.

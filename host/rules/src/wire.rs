@@ -20,6 +20,10 @@ pub const STATUS_BAD: u32 = 0x8001;
 pub const STATUS_NOT_SUPPORTED: u32 = 0x8002;
 pub const STATUS_IO_ERROR: u32 = 0x8003;
 
+pub fn u16_at(bytes: &[u8], at: usize) -> u16 {
+    u16::from_le_bytes(bytes[at..at + 2].try_into().unwrap())
+}
+
 pub fn u32_at(bytes: &[u8], at: usize) -> u32 {
     u32::from_le_bytes(bytes[at..at + 4].try_into().unwrap())
 }
