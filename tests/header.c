@@ -69,6 +69,10 @@ static void records(void)
 	SIZE(event);
 	FIELD(event, hdr.code);
 	FIELD(event, data);
+	SIZE(config);
+	FIELD(config, jacks);
+	FIELD(config, streams);
+	FIELD(config, chmaps);
 }
 
 static void codes(void)

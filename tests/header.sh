@@ -29,7 +29,9 @@ if [ ! -s "$made/theirs" ]; then
     echo "the header's program printed nothing"
     exit 1
 fi
-if ! diff -u "$made/theirs" crates/numbers/stdout; then
+# what VirtIO 1.3 adds stands last: the header is that of 1.2
+sed '/^VirtIO 1.3$/,$d' crates/numbers/stdout >"$made/ours"
+if ! diff -u "$made/theirs" "$made/ours"; then
     echo "the lines with - are linux/virtio_snd.h's, those with + ours"
     exit 1
 fi

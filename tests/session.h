@@ -200,11 +200,26 @@ static void refusals(void) {
     CALL(snd_turn, RING, frames, 9, 1, 32, 0x8000);                    /* no such slot */
 }
 
+/* A configuration and an event in each mode, and refused for the length and for the version. */
+static void versions(void) {
+    uint8_t config[16] = {1, 0, 0, 0, 2, 0, 0, 0, 3, 0, 0, 0, 4, 0, 0, 0};
+    uint8_t change[8] = {0, 0x12, 0, 0, 3, 0, 1, 0};
+    for (uint32_t version = 0x0102; version <= 0x0104; version++) {
+        for (uint64_t features = 0; features <= 1; features++) {
+            CALL(snd_config, config, 12, version, features, RESULT);
+            CALL(snd_config, config, 16, version, features, RESULT);
+            CALL(snd_latest_notification_in, change, sizeof change, version, features, RESULT);
+        }
+    }
+    CALL(snd_latest_notification_in, change, 7, 0x0103, 1, RESULT);
+}
+
 static void others(void) {
     uint8_t event[8] = {0, 0x10, 0, 0, 7, 0, 0, 0};
     CALL(snd_latest_notification, event, sizeof event, RESULT);
     event[0] = 2;
     CALL(snd_latest_notification, event, sizeof event, RESULT);
+    versions();
     CALL(snd_model_played, MODEL, 0, RESULT);
     answered(CALL(snd_pcm_stop, STATE, RING, 0, MESSAGE, RESULT));
     answered(CALL(snd_pcm_release, STATE, RING, 0, MESSAGE, RESULT));

@@ -31,7 +31,7 @@ extern "C" {
 /* The version of this header and of the archive beside it: docs/BOUNDARY.md says when it changes.
  * As one number it can be compared by #if. */
 #define SND_VERSION_MAJOR 0u
-#define SND_VERSION_MINOR 6u
+#define SND_VERSION_MINOR 7u
 #define SND_VERSION_PATCH 0u
 #define SND_VERSION (SND_VERSION_MAJOR * 1000000u + SND_VERSION_MINOR * 1000u + SND_VERSION_PATCH)
 
@@ -74,6 +74,12 @@ extern "C" {
 #define SND_MODEL_SIZE 16427u
 /* Equal places of a store of submissions that do not wait. */
 #define SND_PLACES 16u
+
+/* Versions of VirtIO, as a host names them, and the bit of a device's features by which it has control
+ * elements. */
+#define SND_VIRTIO_1_2 0x0102u
+#define SND_VIRTIO_1_3 0x0103u
+#define SND_F_CTLS 1u
 
 uint64_t snd_state_size(void);
 uint64_t snd_ring_size(void);
@@ -194,6 +200,16 @@ uint64_t snd_pending_token(const uint8_t *state, size_t state_len, size_t token,
 
 /* An event. Result: code 4, data 4. */
 uint64_t snd_latest_notification(const uint8_t *event, size_t event_len, uint8_t *result, size_t result_len);
+
+/* By the version of VirtIO (SND_VIRTIO_1_2 or 1_3; 1 for another number) and the negotiated features of
+ * the device. With SND_F_CTLS in 1.3 it has control elements; 1.3 without is as 1.2. Its configuration
+ * is just 12 bytes, 16 with control elements (else 10: lend the first 12 of a longer one). Result:
+ * jacks 4, streams 4, chmaps 4 and, with them, controls 4. An event is as above; with them, code 0x1200
+ * gives code 4, control 4, mask 4. 10 comes first, then 1. */
+uint64_t snd_config(const uint8_t *config, size_t config_len, uint32_t version, uint64_t features,
+                    uint8_t *result, size_t result_len);
+uint64_t snd_latest_notification_in(const uint8_t *event, size_t event_len, uint32_t version, uint64_t features,
+                                    uint8_t *result, size_t result_len);
 
 /* A WAVE file: what it holds (result: offset 8 and length 8 of its data chunk in the file, then
  * channels 1, format 1, rate 1 as snd_pcm_set_params takes them), or 13 where it is no WAVE file, 14

@@ -30,6 +30,10 @@ other on one device that is set up once: a page for each, and a closing line.
                      lifecycle of a stream does not permit
   --short-jacks      the device answers the query of its jack by a header alone,
                      in a page that holds an old jack; a remap is then asked for
+  --virtio V         the device follows VirtIO 1.2 or 1.3 (1.2): the page says
+                     what its configuration has
+  --controls N       it has N control elements, in 1.3, with their feature; it
+                     tells of a change of one in each announcement
   --go-on            speak without waiting: each period is submitted, and the
                      console goes on and polls a made-up breaker meanwhile; the
                      last period is filled up with silence, and the budget is the

@@ -2,7 +2,7 @@
 use crate::account::{Gap, Part, Same};
 use crate::json::{self, Object};
 use crate::report::Report;
-use crate::told::{Control, Fault, GoingOn, Jacks, Period, What, When};
+use crate::told::{Control, Fault, GoingOn, Jacks, Period, Virtio, What, When};
 use page::Built;
 use snd::Answer;
 
@@ -45,6 +45,10 @@ fn before(to: &mut Object, report: &Report) {
     to.texts("warnings", &recording.warnings(options));
     to.truth("strict", options.strict);
     to.truth("guard", options.guard);
+    match &told.virtio {
+        Some(told) => to.object("virtio", |to| virtio(to, told)),
+        None => to.null("virtio"),
+    }
     to.list("controls", &told.controls, control);
     match &told.jacks {
         Some(told) => to.object("jacks", |to| jacks(to, told)),
@@ -90,6 +94,26 @@ fn answer(to: &mut Object, answer: Answer) {
         None => "no status".into(),
     });
     to.text_if("cause", cause.as_deref());
+}
+
+fn virtio(to: &mut Object, virtio: &Virtio) {
+    let config = &virtio.config;
+    to.number("version", virtio.version as u64);
+    to.number("config_bytes", virtio.bytes as u64);
+    to.number("jacks", config.jacks.into());
+    to.number("streams", config.streams.into());
+    to.number("channel_maps", config.chmaps.into());
+    match config.controls {
+        Some(controls) => to.number("control_elements", controls.into()),
+        None => to.null("control_elements"),
+    }
+    match virtio.change {
+        Some((id, mask)) => to.object("changed", |to| {
+            to.number("element", id.into());
+            to.number("mask", mask.into());
+        }),
+        None => to.null("changed"),
+    }
 }
 
 fn jacks(to: &mut Object, jacks: &Jacks) {

@@ -3,7 +3,7 @@ use crate::device::REMAP;
 use crate::form::Form;
 use crate::help::HELP;
 use crate::sizes;
-use snd::{Format, Rate, STATUS_OK, Status};
+use snd::{F_CTLS, Format, Rate, STATUS_OK, Status, Version};
 use std::ffi::{OsStr, OsString};
 use std::os::unix::ffi::OsStrExt;
 use std::path::PathBuf;
@@ -71,6 +71,10 @@ pub struct Options {
     pub short_jacks: bool,
     /// Periods do not wait, and breakers are polled meanwhile.
     pub go_on: bool,
+    /// The version of VirtIO that the device follows, where it is named.
+    pub virtio: Option<Version>,
+    /// How many control elements it has, where it has any to show.
+    pub controls: Option<u32>,
     pub accepted: Option<PathBuf>,
     pub wav: Option<PathBuf>,
     pub log: Option<PathBuf>,
@@ -96,6 +100,8 @@ impl Options {
             guard: false,
             short_jacks: false,
             go_on: false,
+            virtio: None,
+            controls: None,
             accepted: None,
             wav: None,
             log: None,
@@ -110,6 +116,12 @@ impl Options {
             format: Format::S16,
             rate: self.rate.unwrap_or(Rate::Hz48000),
         }
+    }
+
+    /// The version of VirtIO, and the features that are negotiated with the device.
+    pub fn mode(&self) -> (Version, u64) {
+        let features = self.controls.map_or(0, |_count| F_CTLS);
+        (self.virtio.unwrap_or(Version::V12), features)
     }
 
     /// What is written, by the options that name it.
@@ -154,6 +166,9 @@ pub fn parse(words: &[OsString]) -> Result<Asked, String> {
         }
     }
     options.buffer = sizes::buffer(buffer, options.period)?;
+    if options.controls.is_some() && options.virtio != Some(Version::V13) {
+        return Err("--controls needs --virtio 1.3: VirtIO 1.2 has no control elements".into());
+    }
     if options.fail_call == Some(REMAP) && !options.short_jacks {
         return Err("--fail-call remap goes with --short-jacks: without it no remap is asked for".into());
     }
@@ -199,6 +214,8 @@ fn take<'w>(
         "--fail-status" => options.fail_status = status(value()?)?,
         "--wrong-slot-at" => options.wrong_slot_at = Some(number(name, value()?, 1, u64::MAX)?),
         "--budget" => options.budget = Some(number(name, value()?, 0, u64::MAX)?),
+        "--virtio" => options.virtio = Some(version(value()?)?),
+        "--controls" => options.controls = Some(number(name, value()?, 0, u32::MAX.into())? as u32),
         "--accepted" => options.accepted = Some(output(name, value()?)?),
         "--wav" => options.wav = Some(output(name, value()?)?),
         "--log" => options.log = Some(output(name, value()?)?),
@@ -237,6 +254,14 @@ fn number(option: &str, word: &OsStr, least: u64, most: u64) -> Result<u64, Stri
             "{option} takes a number from {least} to {most}, not '{}'",
             word.display()
         )),
+    }
+}
+
+fn version(word: &OsStr) -> Result<Version, String> {
+    match word.as_bytes() {
+        b"1.2" => Ok(Version::V12),
+        b"1.3" => Ok(Version::V13),
+        _ => Err(format!("--virtio takes 1.2 or 1.3, not '{}'", word.display())),
     }
 }
 

@@ -34,6 +34,7 @@ impl<'r> Report<'r> {
             params: recording.form.params(options.buffer, options.period),
             strict: options.strict,
             guard: options.guard,
+            virtio: told.virtio,
             jacks: told.jacks,
             going_on: told.going_on,
             stream: told.stream.map(|number| Stream {

@@ -1,5 +1,5 @@
 //! What happened in one announcement, as it was seen.
-pub use page::{Completed, Fault, GoingOn, Jacks, Refused, What, When};
+pub use page::{Completed, Fault, GoingOn, Jacks, Refused, Virtio, What, When};
 use snd::{Answer, ChannelRange};
 use std::time::Duration;
 
@@ -30,6 +30,8 @@ pub struct Control {
 
 #[derive(Default)]
 pub struct Told {
+    /// What the device showed of itself, where its version was named.
+    pub virtio: Option<Virtio>,
     /// Known where the device cuts its answer to the query of jacks.
     pub jacks: Option<Jacks>,
     /// In the order in which they were sent, since the announcement before.

@@ -39,6 +39,10 @@ fn bad_options() {
     complaint("--strict=yes", "--strict takes no value");
     complaint("--guard=on", "--guard takes no value");
     complaint("--short-jacks=1", "--short-jacks takes no value");
+    complaint("--virtio 1.1", "--virtio takes 1.2 or 1.3, not '1.1'");
+    let needs = "--controls needs --virtio 1.3: VirtIO 1.2 has no control elements";
+    complaint("--controls 2", needs);
+    complaint("--controls 2 --virtio 1.2", needs);
     complaint("--go-on=1", "--go-on takes no value");
     complaint(
         "--go-on --wrong-slot-at 3",

@@ -75,6 +75,32 @@ fn periods_in_order(periods: &[Json], lengths: &[u64]) {
 }
 
 #[test]
+fn a_device_with_control_elements() {
+    let folder = Folder::new("log-virtio");
+    let found = log(&folder, "--virtio 1.3 --controls 7");
+    let virtio = found.at("announcements").list()[0].at("virtio").clone();
+    let names = [
+        "version",
+        "config_bytes",
+        "jacks",
+        "streams",
+        "channel_maps",
+        "control_elements",
+    ];
+    assert_eq!(numbers(&virtio, names), [0x0103, 16, 0, 2, 0, 7]);
+    assert_eq!(numbers(virtio.at("changed"), ["element", "mask"]), [0, 1]);
+    let found = log(&folder, "--virtio 1.3");
+    let virtio = found.at("announcements").list()[0].at("virtio").clone();
+    assert_eq!(numbers(&virtio, ["version", "config_bytes"]), [0x0103, 12]);
+    assert_eq!(
+        (virtio.at("control_elements"), virtio.at("changed")),
+        (&Json::Null, &Json::Null)
+    );
+    let found = log(&folder, "");
+    assert_eq!(found.at("announcements").list()[0].at("virtio"), &Json::Null);
+}
+
+#[test]
 fn two_faults_and_a_drain() {
     let folder = Folder::new("log-faults");
     let log = log(&folder, "--slow 4 --budget 20 --fail-at 7 --wrong-slot-at 3");

@@ -186,6 +186,31 @@ fn strict_mode() {
     );
 }
 
+/// What the device showed stands on the page, and nothing else of it is another. Without their feature 1.3 reads as 1.2.
+#[test]
+fn virtio_1_3() {
+    let shared = "bytes of configuration: jacks 0, streams 2, channel maps 0";
+    page("virtio-controls", "--virtio 1.3 --controls 2", 0);
+    good_but_for(
+        "virtio-controls",
+        &format!(
+            "virtio       1.3, 16 {shared}, control elements 2\nevent        control element 0 changed, mask 0x0001\n"
+        ),
+    );
+    for (name, version) in [("virtio-1.3", "1.3"), ("virtio-1.2", "1.2")] {
+        page(name, &format!("--virtio {version}"), 0);
+        good_but_for(name, &format!("virtio       {version}, 12 {shared}\n"));
+    }
+    let folder = Folder::new("virtio-several");
+    for name in ["a.raw", "b.raw", "c.raw"] {
+        folder.write(name, &frames(100));
+    }
+    let page = masked(&folder.run("--virtio=1.3 --controls=2 a.raw b.raw c.raw"));
+    let events: Vec<_> = page.lines().filter(|line| line.starts_with("event ")).collect();
+    let changed = |id: u32| format!("event        control element {id} changed, mask 0x0001");
+    assert_eq!(events, [changed(0), changed(1), changed(0)]);
+}
+
 /// Nothing else of the page is another: set, prepare, start, transfer, stop, release are permitted, also a second time.
 #[test]
 fn the_guard() {

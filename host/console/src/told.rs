@@ -209,6 +209,7 @@ impl Told {
             params: asked.params,
             strict: true,
             guard: false,
+            virtio: None,
             jacks: None,
             going_on: None,
             stream: self.stream,

@@ -2,8 +2,9 @@
 //! this only has to look whether that function is asked for.
 #![no_std]
 use snd::{
-    Features, Format, Formats, Model, Page, Params, Pending, Places, Rate, Rates, Reading, Refusal, Ring, Sound,
-    Started, Status, Step, StreamList, Submitted, Unfed, Value, latest_notification, wav,
+    Config, F_CTLS, Features, Format, Formats, Model, Notification, Page, Params, Pending, Places, Rate, Rates, Reading,
+    Refusal, Ring, Sound, Started, Status, Step, StreamList, Submitted, Unfed, Value, Version, latest_notification,
+    latest_notification_in, wav,
 };
 
 unsafe extern "C" {
@@ -32,7 +33,7 @@ pub struct Console {
 #[unsafe(no_mangle)]
 pub extern "C" fn guest_main(console: &mut Console) -> u64 {
     [
-        calls, supported, feeds, lists, turns, transfer, pending, reads, device, waves, values,
+        calls, supported, feeds, lists, turns, transfer, pending, reads, device, versions, waves, values,
     ]
     .iter()
     .fold(0, |sum, part| part(console).wrapping_add(sum))
@@ -250,6 +251,27 @@ fn device(console: &mut Console) -> u64 {
         .map_or(0, |set| set.map_or(0, |set| u64::from(set[23])));
     let event = latest_notification(request).map_or(0, |event| event.map_or(0, |event| event.data.into()));
     control ^ status ^ payload ^ params ^ event ^ model.played(*number).unwrap_or(0)
+}
+
+fn versions(console: &mut Console) -> u64 {
+    let Console {
+        number, bytes, length, ..
+    } = console;
+    let shown = bytes.get(..*length).unwrap_or(bytes);
+    let (version, features) = match *number {
+        0 => (Version::V12, 0),
+        number => (Version::V13, u64::from(number) | F_CTLS),
+    };
+    let config = Config::read(shown, version, features).map_or(0, |config| {
+        u64::from(config.jacks ^ config.streams ^ config.chmaps ^ config.controls.unwrap_or(0))
+    });
+    let event = match latest_notification_in(shown, version, features) {
+        Ok(Some(Notification::Control { id, mask })) => u64::from(id ^ mask),
+        Ok(Some(Notification::Event(event))) => event.data.into(),
+        Ok(None) => 0,
+        Err(refusal) => refusal.number().into(),
+    };
+    config ^ event ^ Config::size(version, features) as u64
 }
 
 fn waves(console: &mut Console) -> u64 {

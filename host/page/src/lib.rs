@@ -12,5 +12,5 @@ pub use account::{Gap, Part, Same, Why, gaps};
 pub use faults::{Completed, Fault, Refused, What, When};
 pub use frames::{Warning, frame, sample, second, warnings};
 pub use page::{
-    ARCHIVE, Answered, Built, Drain, GoingOn, InFile, Jacks, Page, Stream, Times, Together, Turns, at_most,
+    ARCHIVE, Answered, Built, Drain, GoingOn, InFile, Jacks, Page, Stream, Times, Together, Turns, Virtio, at_most,
 };

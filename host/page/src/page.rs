@@ -5,7 +5,7 @@ use crate::frames::{sample, second, warnings};
 use core::fmt;
 use core::time::Duration;
 use sha256::Sum;
-use snd::{Answer, ChannelRange, Params};
+use snd::{Answer, ChannelRange, Config, Params, Version};
 
 /// All that the page tells of an announcement. What is not known where it is written has no line.
 pub struct Page<'p> {
@@ -23,6 +23,8 @@ pub struct Page<'p> {
     pub strict: bool,
     /// The state was made with the guard.
     pub guard: bool,
+    /// What the device showed of itself, where its version was named.
+    pub virtio: Option<Virtio>,
     /// What came of the query of jacks, where the device cut its answer.
     pub jacks: Option<Jacks>,
     /// Where periods did not wait: what the console did meanwhile.
@@ -69,6 +71,19 @@ pub struct Stream {
     pub output: bool,
     /// How many channels it may have.
     pub channels: ChannelRange,
+}
+
+/// A device whose version of VirtIO was named.
+#[derive(Clone, Copy, PartialEq, Eq, Debug)]
+pub struct Virtio {
+    /// That version.
+    pub version: Version,
+    /// The configuration that was read.
+    pub config: Config,
+    /// Bytes of it.
+    pub bytes: usize,
+    /// The change of a control element that the device told in this announcement: which, and the mask of what changed.
+    pub change: Option<(u16, u16)>,
 }
 
 /// A jack query that was answered by its header alone, and what came of a remap of jack 0.
@@ -213,12 +228,45 @@ fn before(lines: &mut Lines, page: &Page) -> fmt::Result {
             "on: nothing was sent that the stream's lifecycle does not permit",
         )?;
     }
+    if let Some(told) = &page.virtio {
+        virtio(lines, told)?;
+    }
     if let Some(told) = &page.jacks {
         jacks(lines, told)?;
     }
     stream(lines, page)?;
     parameters(lines, &page.params)?;
     periods(lines, page.bytes, page.params.period as usize)
+}
+
+/// The configuration, and a control event.
+fn virtio(lines: &mut Lines, told: &Virtio) -> fmt::Result {
+    let Config {
+        jacks,
+        streams,
+        chmaps,
+        controls,
+    } = told.config;
+    let version = match told.version {
+        Version::V12 => "1.2",
+        Version::V13 => "1.3",
+    };
+    let bytes = told.bytes;
+    let shared = format_args!("jacks {jacks}, streams {streams}, channel maps {chmaps}");
+    match controls {
+        Some(controls) => lines.line(
+            "virtio",
+            format_args!("{version}, {bytes} bytes of configuration: {shared}, control elements {controls}"),
+        )?,
+        None => lines.line(
+            "virtio",
+            format_args!("{version}, {bytes} bytes of configuration: {shared}"),
+        )?,
+    }
+    match told.change {
+        Some((id, mask)) => lines.line("event", format_args!("control element {id} changed, mask {mask:#06x}")),
+        None => Ok(()),
+    }
 }
 
 fn announcement(lines: &mut Lines, page: &Page) -> fmt::Result {

@@ -51,10 +51,16 @@ pub struct Event {
 /// ```
 pub fn latest_notification(event: &[u8]) -> Result<Option<Event>, Refusal> {
     let mut result = [0; RESULT_SIZE];
-    match Said::of(ffi::snd_latest_notification(event, &mut result)) {
+    let answer = ffi::snd_latest_notification(event, &mut result);
+    event_of(answer, &result)
+}
+
+/// What an entry answered of an event of document 01.
+pub(crate) fn event_of(answer: u64, result: &[u8; RESULT_SIZE]) -> Result<Option<Event>, Refusal> {
+    match Said::of(answer) {
         Said::Ok => {
-            let kind = EventKind::of(u32_at(&result, 0)).ok_or(Refusal::Unknown)?;
-            let data = u32_at(&result, 4);
+            let kind = EventKind::of(u32_at(result, 0)).ok_or(Refusal::Unknown)?;
+            let data = u32_at(result, 4);
             Ok(Some(Event { kind, data }))
         }
         Said::Nothing => Ok(None),

@@ -144,6 +144,11 @@ entries! {
     /// What an event says.
     fn snd_latest_notification(event: &[u8], result: &mut [u8],);
 
+    /// What a device has, by the version and the negotiated features.
+    fn snd_config(config: &[u8], version: u32, features: u64, result: &mut [u8],);
+    /// What an event says, by the version and the negotiated features.
+    fn snd_latest_notification_in(event: &[u8], version: u32, features: u64, result: &mut [u8],);
+
     /// What a WAVE file holds, and where.
     fn snd_wav_read(file: &[u8], result: &mut [u8],);
     /// Writes a WAVE file.

@@ -33,6 +33,8 @@
 //! Where a stream must not be started unprepared, make the state by [`Sound::new_guarded`]: it sends no command, and takes no transfer, that the
 //! standard's lifecycle of a stream does not permit.
 //!
+//! A device of VirtIO 1.3 may have control elements: [`Config::read`] reads its counts, [`latest_notification_in`] its events.
+//!
 //! Announcements that were recorded on a desk computer come as WAVE files: see [`wav`].
 //!
 //! A transfer goes turn by turn, and keeps its frames until no device reads them: see [`Transfer`].
@@ -72,6 +74,7 @@ mod status;
 mod step;
 mod supported;
 mod transfer;
+mod version;
 pub mod wav;
 
 pub use answer::{Answer, Refusal};
@@ -86,6 +89,7 @@ pub use status::{Cause, Status};
 pub use step::{Exchange, Message, Page, Step, StreamList, Unfed, Value};
 pub use supported::{ChannelRange, Features, Formats, Rates};
 pub use transfer::{Frames, Started, Transfer};
+pub use version::{Config, F_CTLS, Notification, Version, latest_notification_in};
 
 /// The size of a state's store.
 pub const STATE_SIZE: usize = 14_703;

@@ -1,4 +1,4 @@
-//! The audio loop, the strict feed, the refusal told, the announcement from a file and the loop that does not wait of docs/HOST.md run, and the page shows the texts that ran.
+//! The audio loop, the strict feed, the refusal told, the announcement from a file, the loop that does not wait and the device of VirtIO 1.3 of docs/HOST.md run, and the page shows the texts that ran.
 #[path = "../examples/audio_loop.rs"]
 mod audio_loop;
 #[path = "../examples/go_on.rs"]
@@ -7,6 +7,8 @@ mod go_on;
 mod refused;
 #[path = "../examples/strict_mode.rs"]
 mod strict_mode;
+#[path = "../examples/versions.rs"]
+mod versions;
 #[path = "../examples/wave_file.rs"]
 mod wave_file;
 
@@ -36,6 +38,11 @@ fn the_loop_that_does_not_wait_goes_on() {
 }
 
 #[test]
+fn a_device_is_read_by_its_version() {
+    assert_eq!(versions::main(), Ok(()));
+}
+
+#[test]
 fn the_page_shows_the_texts_that_ran() {
     let page = include_str!("../../../docs/HOST.md");
     let texts = [
@@ -44,6 +51,7 @@ fn the_page_shows_the_texts_that_ran() {
         include_str!("../examples/refused.rs"),
         include_str!("../examples/wave_file.rs"),
         include_str!("../examples/go_on.rs"),
+        include_str!("../examples/versions.rs"),
     ];
     let blocks: Vec<_> = page.split("```").skip(1).step_by(2).collect();
     assert_eq!(blocks.len(), texts.len());

@@ -16,7 +16,7 @@ macro_rules! entries {
     };
 }
 
-/// The 52 entries, in the header's order.
+/// The 54 entries, in the header's order.
 pub const ENTRIES: &[Entry] = entries! {
     snd_state_size [] |_l| ();
     snd_ring_size [] |_l| ();
@@ -68,6 +68,8 @@ pub const ENTRIES: &[Entry] = entries! {
     snd_pending_count [State Result] |l| (&l.state, &mut l.result);
     snd_pending_token [State Result] |l| (&l.state, l.numbers[0] as usize, &mut l.result);
     snd_latest_notification [Result] |l| (&l.event, &mut l.result);
+    snd_config [Config Result] |l| (&l.config, l.version, l.features, &mut l.result);
+    snd_latest_notification_in [Result] |l| (&l.event, l.version, l.features, &mut l.result);
     snd_wav_read [Result] |l| (&l.file, &mut l.result);
     snd_wav_write [File] |l| (l.narrow[0], l.narrow[1], l.narrow[2], &l.samples, &mut l.file);
     snd_model_new [Model Jacks Pcms Maps] |l| (&mut l.model, &l.jacks, &l.pcms, &l.maps);

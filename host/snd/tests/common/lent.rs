@@ -21,6 +21,7 @@ pub struct Lent {
     pub request: Vec<u8>,
     pub answer: Vec<u8>,
     pub event: Vec<u8>,
+    pub config: Vec<u8>,
     /// A WAVE file of [`Lent::samples`], as `narrow` has them.
     pub file: Vec<u8>,
     pub samples: Vec<u8>,
@@ -31,6 +32,8 @@ pub struct Lent {
     pub narrow: [u8; 3],
     pub budget: u64,
     pub written: u64,
+    pub version: u32,
+    pub features: u64,
 }
 
 /// Which slice of [`Lent`].
@@ -45,6 +48,7 @@ pub enum Part {
     Frames,
     Answer,
     File,
+    Config,
     Jacks,
     Pcms,
     Maps,
@@ -122,6 +126,7 @@ impl Lent {
             request: vec![2, 1, 0, 0, 0, 0, 0, 0],
             answer: vec![0xa3; 8],
             event: vec![0, 16, 0, 0, 1, 0, 0, 0],
+            config: vec![2, 0, 0, 0, 2, 0, 0, 0, 1, 0, 0, 0, 4, 0, 0, 0],
             file: file(b"two frames, and one more"),
             samples: b"the same, in other words".to_vec(),
             jacks: vec![0; 2 * 24],
@@ -131,6 +136,8 @@ impl Lent {
             narrow: [2, 5, 7],
             budget: 1000,
             written: PAGE_SIZE as u64,
+            version: 0x0103,
+            features: 1,
         }
     }
 
@@ -145,6 +152,7 @@ impl Lent {
             Part::Frames => &mut self.frames,
             Part::Answer => &mut self.answer,
             Part::File => &mut self.file,
+            Part::Config => &mut self.config,
             Part::Jacks => &mut self.jacks,
             Part::Pcms => &mut self.pcms,
             Part::Maps => &mut self.maps,
