@@ -29,6 +29,7 @@ saysRefusal refusal.Short = says 11 []
 saysRefusal refusal.BadState = says 12 []
 saysRefusal refusal.Full = says 15 []
 saysRefusal refusal.NotYet = says 16 []
+saysRefusal refusal.BadCapture = says 17 []
 
 -- ---- at the C boundary: of 2 and 3 the device's word stands in the high half, and 0x8000 where none caused it (0x8000 is ok and causes none, and 0 may);
 -- of every other refusal the high half is 0
@@ -52,6 +53,7 @@ highHalf refusal.Short = 0
 highHalf refusal.BadState = 0
 highHalf refusal.Full = 0
 highHalf refusal.NotYet = 0
+highHalf refusal.BadCapture = 0
 
 abbrev pub refusalWord : Refusal → ℕ
 refusalWord r = saysRefusal r .number + 4294967296 * highHalf r

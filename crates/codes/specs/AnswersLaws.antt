@@ -25,3 +25,4 @@ numbered refusal.Short = record { least = omega arith; small = omega arith }
 numbered refusal.BadState = record { least = omega arith; small = omega arith }
 numbered refusal.Full = record { least = omega arith; small = omega arith }
 numbered refusal.NotYet = record { least = omega arith; small = omega arith }
+numbered refusal.BadCapture = record { least = omega arith; small = omega arith }

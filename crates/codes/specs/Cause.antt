@@ -49,6 +49,7 @@ Caused refusal.Short = Unit {0}
 Caused refusal.BadState = Unit {0}
 Caused refusal.Full = Unit {0}
 Caused refusal.NotYet = Unit {0}
+Caused refusal.BadCapture = Unit {0}
 
 -- ---- the way back, from the two halves to what is said
 
@@ -79,6 +80,7 @@ says-back refusal.Short h = refl
 says-back refusal.BadState h = refl
 says-back refusal.Full h = refl
 says-back refusal.NotYet h = refl
+says-back refusal.BadCapture h = refl
 
 -- two refusals with one word say the same, number and status
 pub word-back : (a b : Refusal) → Caused a → Caused b → refusalWord a ≡ refusalWord b → saysRefusal a ≡ saysRefusal b

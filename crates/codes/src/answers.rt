@@ -23,6 +23,7 @@ pub enum Refusal {
     BadState,
     Full,
     NotYet,
+    BadCapture,
 }
 
 impl Cause {
@@ -56,6 +57,7 @@ impl Refusal {
             Refusal::BadState => 12,
             Refusal::Full => 15,
             Refusal::NotYet => 16,
+            Refusal::BadCapture => 17,
         }
     }
 
@@ -78,6 +80,7 @@ impl Refusal {
             Refusal::BadState => 0,
             Refusal::Full => 0,
             Refusal::NotYet => 0,
+            Refusal::BadCapture => 0,
         }
     }
 

@@ -8,6 +8,7 @@ use denote.Ref.{now}
 use Rattle.codes.specs.SaysLaws.{same}
 use Rattle.layout.specs.Lent.{Made, made, Shown, shown}
 use Rattle.model_store.specs.Calls as device
+use Rattle.ring_store.specs.Calls.{Caught, caught}
 use Rattle.state_store.specs.Calls.{Told, left}
 use Rattle.state_store.specs.Tokens.{Submitted, submitted}
 use Rattle.console.specs.Entries.{Begun, began}
@@ -38,6 +39,7 @@ use Rattle.console.proofs.calls.snd_feed.Reads as feed
 use Rattle.console.proofs.calls.snd_feed_written.Reads as feed-written
 use Rattle.console.proofs.calls.snd_feed_failure.Reads as feed-failure
 use Rattle.console.proofs.transfer.snd_pcm_xfer_start.Reads as pcm-xfer-start
+use Rattle.console.proofs.capture.snd_pcm_capture_start.Reads as pcm-capture-start
 use Rattle.console.proofs.nonblocking.snd_pcm_xfer_nb.Reads as pcm-xfer-nb
 use Rattle.console.proofs.nonblocking.snd_pcm_xfer_mark.Reads as pcm-xfer-mark
 use Rattle.console.proofs.nonblocking.snd_pcm_xfer_ok.Reads as pcm-xfer-ok
@@ -46,12 +48,15 @@ use Rattle.console.proofs.nonblocking.snd_pending_token.Reads as pendin
 use Rattle.console.proofs.ring.snd_ring_new.Reads as ring-new
 use Rattle.console.proofs.ring.snd_offered.Reads as offered
 use Rattle.console.proofs.ring.snd_turn.Reads as turn
+use Rattle.console.proofs.ring.snd_capture_offered.Reads as capture-offered
+use Rattle.console.proofs.ring.snd_capture_turn.Reads as capture-turn
 use Rattle.console.proofs.ring.snd_drain_turn.Reads as drain-turn
 use Rattle.console.proofs.ring.snd_ring_running.Reads as ring-running
 use Rattle.console.proofs.ring.snd_ring_in_flight.Reads as ring-in-flight
 use Rattle.console.proofs.ring.snd_ring_free_descriptors.Reads as ring-free-descriptors
 use Rattle.console.proofs.ring.snd_ring_turns_run.Reads as ring-turns-run
 use Rattle.console.proofs.ring.snd_ring_stream.Reads as ring-stream
+use Rattle.console.proofs.ring.snd_ring_kept.Reads as ring-kept
 use Rattle.console.proofs.ring.snd_ring_carried.Reads as ring-carried
 use Rattle.console.proofs.ring.snd_ring_oldest.Reads as ring-oldest
 use Rattle.console.proofs.event.snd_latest_notification.Reads as latest-notification
@@ -82,6 +87,9 @@ made-one p q = let e = same p q in (ap (λ (y : Made). y .answer) e, ap (λ (y :
 
 shown-one : {x : Shown} {a b : ℕ} {r u : List ℕ} → shown a r ≡ x → shown b u ≡ x → (a ≡ b) × (r ≡ u)
 shown-one p q = let e = same p q in (ap (λ (y : Shown). y .answer) e, ap (λ (y : Shown). y .result) e)
+
+caught-one : {x : Caught} {a b : ℕ} {s t k l : List ℕ} → caught a s k ≡ x → caught b t l ≡ x → (a ≡ b) × (s ≡ t) × (k ≡ l)
+caught-one p q = let e = same p q in (ap (λ (y : Caught). y .answer) e, ap (λ (y : Caught). y .ring) e, ap (λ (y : Caught). y .recording) e)
 
 pub state-size-one : (κs : _) (a : _) (r₁ r₂ : _) (e₁ e₂ : _) → state-size.Post κs a r₁ e₁ → state-size.Post κs a r₂ e₂ → r₁ ≡ r₂
 state-size-one κs a r₁ r₂ e₁ e₂ p q = same p q
@@ -184,6 +192,10 @@ pub pcm-xfer-start-one : (κs : _) (a : _) (r₁ r₂ : _) (e₁ e₂ : _) → p
     → (r₁ ≡ r₂) × (now (e₁ .0) ≡ now (e₂ .0)) × (now (e₁ .1 .0) ≡ now (e₂ .1 .0)) × (now (e₁ .1 .1 .1 .1 .1 .0) ≡ now (e₂ .1 .1 .1 .1 .1 .0))
 pcm-xfer-start-one κs a r₁ r₂ e₁ e₂ p q = began-one p q
 
+pub pcm-capture-start-one : (κs : _) (a : _) (r₁ r₂ : _) (e₁ e₂ : _) → pcm-capture-start.Post κs a r₁ e₁ → pcm-capture-start.Post κs a r₂ e₂
+    → (r₁ ≡ r₂) × (now (e₁ .0) ≡ now (e₂ .0)) × (now (e₁ .1 .0) ≡ now (e₂ .1 .0)) × (now (e₁ .1 .1 .1 .1 .1 .1 .0) ≡ now (e₂ .1 .1 .1 .1 .1 .1 .0))
+pcm-capture-start-one κs a r₁ r₂ e₁ e₂ p q = began-one p q
+
 -- lent: state, places, message, result
 pub pcm-xfer-nb-one : (κs : _) (a : _) (r₁ r₂ : _) (e₁ e₂ : _) → pcm-xfer-nb.Post κs a r₁ e₁ → pcm-xfer-nb.Post κs a r₂ e₂
     → (r₁ ≡ r₂) × (now (e₁ .0) ≡ now (e₂ .0)) × (now (e₁ .1 .1 .1 .1 .0) ≡ now (e₂ .1 .1 .1 .1 .0)) × (now (e₁ .1 .1 .1 .1 .1 .0) ≡ now (e₂ .1 .1 .1 .1 .1 .0)) × (now (e₁ .1 .1 .1 .1 .1 .1 .0) ≡ now (e₂ .1 .1 .1 .1 .1 .1 .0))
@@ -215,6 +227,11 @@ offered-one κs a r₁ r₂ e₁ e₂ p q = shown-one p q
 pub turn-one : (κs : _) (a : _) (r₁ r₂ : _) (e₁ e₂ : _) → turn.Post κs a r₁ e₁ → turn.Post κs a r₂ e₂ → (r₁ ≡ r₂) × (now (e₁ .0) ≡ now (e₂ .0))
 turn-one κs a r₁ r₂ e₁ e₂ p q = made-one p q
 
+-- lent: ring, recording
+pub capture-turn-one : (κs : _) (a : _) (r₁ r₂ : _) (e₁ e₂ : _) → capture-turn.Post κs a r₁ e₁ → capture-turn.Post κs a r₂ e₂ → (r₁ ≡ r₂) × (now (e₁ .0) ≡ now (e₂ .0)) × (now (e₁ .1 .0) ≡ now (e₂ .1 .0))
+capture-turn-one κs a r₁ r₂ e₁ e₂ p q = caught-one p q
+
+-- lent: ring
 pub drain-turn-one : (κs : _) (a : _) (r₁ r₂ : _) (e₁ e₂ : _) → drain-turn.Post κs a r₁ e₁ → drain-turn.Post κs a r₂ e₂ → (r₁ ≡ r₂) × (now (e₁ .0) ≡ now (e₂ .0))
 drain-turn-one κs a r₁ r₂ e₁ e₂ p q = made-one p q
 
@@ -233,6 +250,12 @@ ring-turns-run-one κs a r₁ r₂ e₁ e₂ p q = shown-one p q
 
 pub ring-stream-one : (κs : _) (a : _) (r₁ r₂ : _) (e₁ e₂ : _) → ring-stream.Post κs a r₁ e₁ → ring-stream.Post κs a r₂ e₂ → (r₁ ≡ r₂) × (now (e₁ .1 .0) ≡ now (e₂ .1 .0))
 ring-stream-one κs a r₁ r₂ e₁ e₂ p q = shown-one p q
+
+pub ring-kept-one : (κs : _) (a : _) (r₁ r₂ : _) (e₁ e₂ : _) → ring-kept.Post κs a r₁ e₁ → ring-kept.Post κs a r₂ e₂ → (r₁ ≡ r₂) × (now (e₁ .1 .0) ≡ now (e₂ .1 .0))
+ring-kept-one κs a r₁ r₂ e₁ e₂ p q = shown-one p q
+
+pub capture-offered-one : (κs : _) (a : _) (r₁ r₂ : _) (e₁ e₂ : _) → capture-offered.Post κs a r₁ e₁ → capture-offered.Post κs a r₂ e₂ → (r₁ ≡ r₂) × (now (e₁ .1 .1 .0) ≡ now (e₂ .1 .1 .0))
+capture-offered-one κs a r₁ r₂ e₁ e₂ p q = shown-one p q
 
 pub ring-carried-one : (κs : _) (a : _) (r₁ r₂ : _) (e₁ e₂ : _) → ring-carried.Post κs a r₁ e₁ → ring-carried.Post κs a r₂ e₂ → (r₁ ≡ r₂) × (now (e₁ .1 .1 .0) ≡ now (e₂ .1 .1 .0))
 ring-carried-one κs a r₁ r₂ e₁ e₂ p q = shown-one p q

@@ -2,6 +2,7 @@
 -- in which the entries take them; a store is bytes, and as long as its size.
 -- Assumes nothing.
 use mathlib.Core.Path.{_≡_, refl, sym, ap, _∙_, subst}
+use mathlib.Core.Bool.{false}
 use mathlib.Core.List.{List, map}
 use Prim.Native.Nat.{ℕ, _+_, _*_, _≤_, _<_, _^_}
 use native.Mathlib.Omega.{arith}
@@ -18,6 +19,7 @@ use Rattle.turns.specs.Log.{turnByTurn}
 use Rattle.turns.specs.Asked.{NoFault, CompletesWithin, Whole}
 use Rattle.turns.specs.declared.ring.Ring.{Ring}
 use Rattle.turns.specs.declared.ring.Said.{Said}
+use Rattle.turns.specs.declared.ring.Step.{Step}
 use Rattle.turns.specs.declared.ring.Said.the-variants.{Going, Done, Ended, Refused}
 use Rattle.turns.specs.declared.reading.Reading.{Reading}
 use Rattle.exchange.specs.Xfer.{startOf, xferWord}
@@ -28,6 +30,7 @@ use Rattle.exchange.specs.Demand as exchange
 use Rattle.exchange.specs.Demand.{periodOf, starting, playing}
 use Rattle.exchange.specs.declared.xfer.XferReply.the-variants.{Says}
 use Rattle.ring_store.specs.Store.{ringSize, trackAt, ringOf}
+use Rattle.ring_store.specs.Calls.{startIn}
 use Rattle.ring_store.specs.Run.{Words, readingBy, turnByTurnIn, Holds, run-holds, start-again}
 use Rattle.state_store.specs.Places.{stateSize}
 use Rattle.state_store.specs.Store.{soundOf}
@@ -35,7 +38,7 @@ use Rattle.state_store.specs.Calls.{openIn}
 use Rattle.state_store.specs.declared.calls.Opening.{Opening}
 use Rattle.state_store.specs.declared.calls.Opening.the-variants as opening
 use Rattle.console.specs.Entries.{Begun, startEntry}
-use Rattle.console.specs.EntryLaws.{startOpening, start-is}
+use Rattle.console.specs.EntryLaws.{startOpening, start-is, plays}
 use Rattle.console.specs.Holds.{entry-is, start-entry-holds}
 
 -- the start entry, and the turn entries after it on the ring's store: the last answer, and what that store holds then
@@ -68,15 +71,20 @@ module _ (s ring m : List ℕ) (b : Bytes s) (c : Bytes ring) (h : stateSize ≤
   abbrev readings : List Reading
   readings = map readingBy script
 
-  opening-again : (x : Opening) (st after : List ℕ) → Again ring (startOpening s ring stream (length frames) budget x st after .ring)
+  abbrev begin : ℕ → Step
+  begin = plays s ring stream (length frames) budget m
+
+  opening-again : (x : Opening) (st after : List ℕ) → Again ring (startOpening false begin s ring stream x st after .ring)
+  unfolding startIn
   opening-again (opening.Says n) st after = (c, refl)
   opening-again (opening.Open period) st after = start-again ring stream (length frames) period budget c
 
   -- what the start leaves is a ring's store again
   again : Again ring (startsIn s ring m stream budget frames .ring)
+  unfolding openIn startEntry startOf ringOf
   again =
       let x = openIn s (trackAt ring) stream m in
-      subst (λ (z : Begun). Again ring (z .ring)) (start-is s ring stream (length frames) budget m b (le-leb ringSize (length ring) k)) (opening-again (x .opening) (x .state) (x .message))
+      subst (λ (z : Begun). Again ring (z .ring)) (start-is false begin s ring stream m b (le-leb ringSize (length ring) k)) (opening-again (x .opening) (x .state) (x .message))
 
   run-is : Holds (playsIn s ring m stream budget frames script) (playing (soundOf s) (ringOf ring) stream budget (length m) frames readings)
   run-is =

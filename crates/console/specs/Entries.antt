@@ -20,7 +20,7 @@ use Rattle.codes.specs.declared.answers.Refusal.the-variants.{IoError}
 use Rattle.turns.specs.Ring.{isRefused}
 use Rattle.records.specs.Config.{configRow, fits}
 use Rattle.records.specs.Notice.{eventRow}
-use Rattle.exchange.specs.Xfer.{startOf, xferMessage, xferWord}
+use Rattle.exchange.specs.Xfer.{startOf, captureOf, xferMessage, xferWord}
 use Rattle.core.specs.declared.state.Call.{Call}
 use Rattle.exchange.specs.declared.xfer.XferReply.{XferReply}
 use Rattle.exchange.specs.declared.xfer.XferReply.the-variants.{Send, Says}
@@ -51,7 +51,7 @@ nbEntry s ring stream payload places m r =
     guard (leb ringSize (length ring)) (submitted 10 s places m r)
     (nbIn s (trackAt ring) stream payload places m r)
 
--- ---- the start of a transfer: `startOf` on the state and the ring that the stores hold
+-- ---- the start of a transfer: `startOf` or, of a capture (2026-09), `captureOf` on the state and the ring that the stores hold
 
 pub record Begun : Type 0 where
   pub answer : ℕ
@@ -77,10 +77,16 @@ begun s ring stream m x =
       message = xferMessage (x .reply) (soundOf s) stream m;
     }
 
-unfoldable pub startEntry : List ℕ → List ℕ → ℕ → ℕ → ℕ → List ℕ → Begun
-startEntry s ring stream len budget m =
+abbrev pub entryOf : List ℕ → List ℕ → ℕ → List ℕ → XferStep → Begun
+entryOf s ring stream m x =
     guard (leb stateSize (length s) && leb ringSize (length ring)) (began 10 s ring m)
-    (begun s ring stream m (startOf (soundOf s) (ringOf ring) stream len budget (length m)))
+    (begun s ring stream m x)
+
+unfoldable pub startEntry : List ℕ → List ℕ → ℕ → ℕ → ℕ → List ℕ → Begun
+startEntry s ring stream len budget m = entryOf s ring stream m (startOf (soundOf s) (ringOf ring) stream len budget (length m))
+
+unfoldable pub captureEntry : List ℕ → List ℕ → ℕ → ℕ → ℕ → ℕ → List ℕ → Begun
+captureEntry s ring stream periods len budget m = entryOf s ring stream m (captureOf (soundOf s) (ringOf ring) stream periods len budget (length m))
 
 -- ---- an event: each number that it gives, 4 bytes in the result; 513 where it says nothing; an unknown code is 2, which no status caused
 

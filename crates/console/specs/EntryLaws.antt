@@ -12,21 +12,24 @@ use Rattle.codes.specs.SaysLaws.{passes, stops}
 use Rattle.codes.specs.Answers.{refusalWord}
 use Rattle.codes.specs.declared.answers.Refusal.{Refusal}
 use Rattle.turns.specs.Calls.{startCall, startedOf}
+use Rattle.turns.specs.Capture.{captureStart}
+use Rattle.turns.specs.declared.ring.Step.{Step}
 use Rattle.turns.specs.declared.ring.Track.{Track}
 use Rattle.pending.specs.Table.{noneIn}
-use Rattle.exchange.specs.Xfer.{xferBy, refusedStep, setUpStep, startStep, startOf}
-use Rattle.exchange.specs.StepLaws.{xfer-ap}
+use Rattle.exchange.specs.Xfer.{xferAs, waitingAs, refusedStep, setUpStepWith, startStep, startAs, startOf, captureOf}
+use Rattle.exchange.specs.StepLaws.{xfer-as-ap}
 use Rattle.ring_store.specs.Store.{ringSize}
 use Rattle.state_store.specs.Places.{stateSize}
 use Rattle.layout.specs.Lent.{messageSize}
 use Rattle.ring_store.specs.Store.{trackAt, ringOf}
-use Rattle.ring_store.specs.Calls.{leftBy, startIn}
+use Rattle.ring_store.specs.Calls.{leftBy, changed}
 use Rattle.state_store.specs.Store.{whole, soundOf, stateAfter}
 use Rattle.state_store.specs.RefusedLaws.{state-kept}
-use Rattle.state_store.specs.Calls.{Opened, opened, shut, settingUp, openIn}
+use Rattle.state_store.specs.Calls.{Opened, opened, shut, settingUpWith, openAs, openIn, openCaptureIn}
 use Rattle.state_store.specs.declared.calls.Opening.{Opening}
 use Rattle.state_store.specs.declared.calls.Opening.the-variants as opening
-use Rattle.console.specs.Entries.{Begun, began, begun, startEntry}
+use Rattle.exchange.specs.declared.xfer.XferStep.{XferStep}
+use Rattle.console.specs.Entries.{Begun, began, begun, entryOf, startEntry, captureEntry}
 
 -- ---- the start of a transfer
 
@@ -35,19 +38,19 @@ no-room true b e = e
 no-room false b e = refl
 
 -- a ring that is too short
-pub short-ring : (s ring : List ℕ) (stream len budget : ℕ) (m : List ℕ) → leb ringSize (length ring) ≡ false → began 10 s ring m ≡ startEntry s ring stream len budget m
-unfolding startEntry
-short-ring s ring stream len budget m e = stops _ _ _ (no-room (leb stateSize (length s)) (leb ringSize (length ring)) e) refl
+pub short-ring : (s ring : List ℕ) (stream : ℕ) (m : List ℕ) (x : XferStep) → leb ringSize (length ring) ≡ false → began 10 s ring m ≡ entryOf s ring stream m x
+short-ring s ring stream m x e = stops _ _ _ (no-room (leb stateSize (length s)) (leb ringSize (length ring)) e) refl
 
 -- a state that is written over the store that holds it
 unchanged : (s : List ℕ) → Bytes s → stateAfter s (soundOf s) ≡ s
 unchanged s b = state-kept s [] [] b (whole s) refl
 
-module _ (s ring : List ℕ) (stream len budget : ℕ) where
+-- of either direction: what the start does to the ring where a period is so long
+module _ (capture : Bool) (begin : ℕ → Step) (s ring : List ℕ) (stream : ℕ) where
   -- what an opening comes to, with the ring's own start where a transfer begins
   abbrev pub startOpening : Opening → List ℕ → List ℕ → Begun
   startOpening (opening.Says n) st m = began n st ring m
-  startOpening (opening.Open period) st m = let l = startIn ring stream len period budget in began (l .answer) st (l .store) m
+  startOpening (opening.Open period) st m = let l = changed ring (startedOf (ringOf ring) (begin period)) in began (l .answer) st (l .store) m
 
   abbrev pub startBy : Opened → Begun
   startBy o = startOpening (o .opening) (o .state) (o .message)
@@ -57,31 +60,60 @@ module _ (s ring : List ℕ) (stream len budget : ℕ) where
     refused-end : (x : Refusal) → startBy (shut s m x) ≡ begun s ring stream m (refusedStep (soundOf s) (ringOf ring) x)
     refused-end x = ap (λ (l : List ℕ). began (refusalWord x) l ring m) (sym (unchanged s bytes))
 
-    set-up-end : startBy (settingUp s stream m) ≡ begun s ring stream m (setUpStep (soundOf s) (ringOf ring) stream)
+    set-up-end : startBy (settingUpWith s (waitingAs capture stream) m) ≡ begun s ring stream m (setUpStepWith (soundOf s) (ringOf ring) (waitingAs capture stream))
     set-up-end = refl
 
-    open-end : (period : ℕ) → startBy (record { opening = opening.Open period; state = s; message = m })
-        ≡ begun s ring stream m (startStep (soundOf s) (ringOf ring) (startedOf (ringOf ring) (startCall (trackAt ring) stream len period budget)))
-    unfolding startIn
+    open-end : (period : ℕ) → startBy (record { opening = opening.Open period; state = s; message = m }) ≡ begun s ring stream m (startStep (soundOf s) (ringOf ring) (startedOf (ringOf ring) (begin period)))
     open-end period =
-        let u = startedOf (ringOf ring) (startCall (trackAt ring) stream len period budget) in
-        let p : startIn ring stream len period budget ≡ leftBy ring u = sym (passes _ _ _ room refl) in
+        let u = startedOf (ringOf ring) (begin period) in
+        let p : changed ring u ≡ leftBy ring u = sym (passes _ _ _ room refl) in
         λ i. began (p i .answer) (sym (unchanged s bytes) i) (p i .store) m
 
-    ends : (a b : Bool) → startBy (xferBy (a && b) (noneIn (soundOf s .pending)) (soundOf s) (trackAt ring) stream (shut s m) (settingUp s stream m) (λ period. record { opening = opening.Open period; state = s; message = m }))
+    ends : (a b : Bool)
+        → startBy (xferAs capture (a && b) (noneIn (soundOf s .pending)) (soundOf s) (trackAt ring) stream (shut s m) (settingUpWith s (waitingAs capture stream) m) (λ period. record { opening = opening.Open period; state = s; message = m }))
         ≡ guard (a && leb ringSize (length ring)) (began 10 s ring m)
-        (begun s ring stream m (xferBy b (noneIn (soundOf s .pending)) (soundOf s) (trackAt ring) stream (refusedStep (soundOf s) (ringOf ring)) (setUpStep (soundOf s) (ringOf ring) stream) (λ period. startStep (soundOf s) (ringOf ring) (startedOf (ringOf ring) (startCall (trackAt ring) stream len period budget)))))
+        (begun s ring stream m (xferAs capture b (noneIn (soundOf s .pending)) (soundOf s) (trackAt ring) stream (refusedStep (soundOf s) (ringOf ring)) (setUpStepWith (soundOf s) (ringOf ring) (waitingAs capture stream)) (λ period. startStep (soundOf s) (ringOf ring) (startedOf (ringOf ring) (begin period)))))
     unfolding guard
     ends true b =
         passes _ _ _ room
-        (xfer-ap startBy b (noneIn (soundOf s .pending)) (soundOf s) (trackAt ring) stream (shut s m) (settingUp s stream m) (λ period. record { opening = opening.Open period; state = s; message = m })
-        ∙ (λ i. xferBy b (noneIn (soundOf s .pending)) (soundOf s) (trackAt ring) stream (λ x. refused-end x i) (set-up-end i) (λ p. open-end p i))
-        ∙ sym (xfer-ap (begun s ring stream m) b (noneIn (soundOf s .pending)) (soundOf s) (trackAt ring) stream (refusedStep (soundOf s) (ringOf ring)) (setUpStep (soundOf s) (ringOf ring) stream) (λ period. startStep (soundOf s) (ringOf ring) (startedOf (ringOf ring) (startCall (trackAt ring) stream len period budget)))))
+        (xfer-as-ap startBy capture b (noneIn (soundOf s .pending)) (soundOf s) (trackAt ring) stream (shut s m) (settingUpWith s (waitingAs capture stream) m) (λ period. record { opening = opening.Open period; state = s; message = m })
+        ∙ (λ i. xferAs capture b (noneIn (soundOf s .pending)) (soundOf s) (trackAt ring) stream (λ x. refused-end x i) (set-up-end i) (λ p. open-end p i))
+        ∙ sym (xfer-as-ap (begun s ring stream m) capture b (noneIn (soundOf s .pending)) (soundOf s) (trackAt ring) stream (refusedStep (soundOf s) (ringOf ring)) (setUpStepWith (soundOf s) (ringOf ring) (waitingAs capture stream)) (λ period. startStep (soundOf s) (ringOf ring) (startedOf (ringOf ring) (begin period)))))
     ends false b = refl
 
-    pub start-is : startBy (openIn s (trackAt ring) stream m) ≡ startEntry s ring stream len budget m
-    unfolding openIn startEntry startOf ringOf
+    pub start-is : startBy (openAs capture (waitingAs capture stream) s (trackAt ring) stream m) ≡ entryOf s ring stream m (startAs capture begin (soundOf s) (ringOf ring) stream (length m))
+    unfolding ringOf
     start-is = ends (leb stateSize (length s)) (leb messageSize (length m))
 
-    pub started : (o q : Opening) (st after : List ℕ) (t : Track) → q ≡ o → t ≡ trackAt ring → opened q st after ≡ openIn s t stream m → startOpening o st after ≡ startEntry s ring stream len budget m
-    started o q st after t d e p = ap (λ (x : Opening). startOpening x st after) (sym d) ∙ ap startBy (p ∙ ap (λ (x : Track). openIn s x stream m) e) ∙ start-is
+    pub started : (o q : Opening) (st after : List ℕ) (t : Track) → q ≡ o → t ≡ trackAt ring → opened q st after ≡ openAs capture (waitingAs capture stream) s t stream m
+        → startOpening o st after ≡ entryOf s ring stream m (startAs capture begin (soundOf s) (ringOf ring) stream (length m))
+    started o q st after t d e p =
+        ap (λ (x : Opening). startOpening x st after) (sym d) ∙ ap startBy (p ∙ ap (λ (x : Track). openAs capture (waitingAs capture stream) s x stream m) e) ∙ start-is
+
+-- ---- a playback, and a capture
+
+module _ (s ring : List ℕ) (stream len budget : ℕ) (m : List ℕ) where
+  abbrev pub plays : ℕ → Step
+  plays period = startCall (trackAt ring) stream len period budget
+
+  pub playback-short : leb ringSize (length ring) ≡ false → began 10 s ring m ≡ startEntry s ring stream len budget m
+  unfolding startEntry
+  playback-short e = short-ring s ring stream m (startOf (soundOf s) (ringOf ring) stream len budget (length m)) e
+
+  pub playback-started : Bytes s → leb ringSize (length ring) ≡ true → (o q : Opening) (st after : List ℕ) (t : Track) → q ≡ o → t ≡ trackAt ring → opened q st after ≡ openIn s t stream m
+      → startOpening false plays s ring stream o st after ≡ startEntry s ring stream len budget m
+  unfolding openIn startEntry startOf ringOf
+  playback-started bytes room o q st after t d e p = started false plays s ring stream m bytes room o q st after t d e p
+
+  module _ (periods : ℕ) where
+    abbrev pub records : ℕ → Step
+    records period = captureStart (trackAt ring) stream periods period len budget
+
+    pub capture-short : leb ringSize (length ring) ≡ false → began 10 s ring m ≡ captureEntry s ring stream periods len budget m
+    unfolding captureEntry
+    capture-short e = short-ring s ring stream m (captureOf (soundOf s) (ringOf ring) stream periods len budget (length m)) e
+
+    pub capture-started : Bytes s → leb ringSize (length ring) ≡ true → (o q : Opening) (st after : List ℕ) (t : Track) → q ≡ o → t ≡ trackAt ring → opened q st after ≡ openCaptureIn s t stream m
+        → startOpening true records s ring stream o st after ≡ captureEntry s ring stream periods len budget m
+    unfolding openCaptureIn captureEntry captureOf ringOf
+    capture-started bytes room o q st after t d e p = started true records s ring stream m bytes room o q st after t d e p

@@ -1,5 +1,6 @@
 // The C entries: numbers and byte slices only. docs/BOUNDARY.md has each with what it answers and writes.
 mod calls;
+mod capture;
 mod device;
 mod event;
 mod nonblocking;

@@ -1,9 +1,10 @@
-// The ring: a new one, what the next turn submits, a turn, a drain turn, and its reads.
+// The ring: a new one, what the next turn submits, a turn, of either direction, a drain turn, and its
+// reads.
 ghost use mathlib.Core.Path.{_≡_};
 ghost use lib.ListN.{length};
-ghost use Rattle.turns.specs.Reads.{runningOf, inFlightOf, freeOf, turnsOf, streamOf, carriedOf};
+ghost use Rattle.turns.specs.Reads.{runningOf, inFlightOf, freeOf, turnsOf, streamOf, keptRead, carriedOf};
 ghost use Rattle.ring_store.specs.Store.{trackAt, ringOf};
-ghost use Rattle.ring_store.specs.Calls.{newIn, turnIn, drainIn, offerIn, toldIn, oldestSays};
+ghost use Rattle.ring_store.specs.Calls.{newIn, turnIn, drainIn, caught, captureIn, offerIn, captureOfferIn, toldIn, oldestSays};
 ghost use Rattle.layout.specs.Lent.{made, shown};
 
 #[no_mangle]
@@ -26,6 +27,30 @@ pub extern "C" fn snd_turn(ring: &mut [u8], frames: &[u8], kind: u32, slot: u32,
     ensures { λ r. ⌜ made r (now (ring .exit)) ≡ turnIn (now (ring .entry)) (length (now (frames .entry))) kind slot status ⌝ }
 {
     ring_store::turn(ring, frames.len(), kind, slot, status)
+}
+
+// What the next turn of a capture submits: lend the device a period to write, with its status, poll,
+// then call `snd_capture_turn`.
+#[no_mangle]
+pub extern "C" fn snd_capture_offered(ring: &[u8], recording: &[u8], result: &mut [u8]) -> u64
+    ensures { λ r. ⌜ shown r (now (result .exit)) ≡ captureOfferIn (now (ring .entry)) (length (now (recording .entry))) (now (result .entry)) ⌝ }
+{
+    ring_store::capture_offered(ring, recording.len(), result)
+}
+
+// `bytes` is what the device wrote: the payload and then the status.
+#[no_mangle]
+pub extern "C" fn snd_capture_turn(
+    ring: &mut [u8],
+    recording: &mut [u8],
+    kind: u32,
+    slot: u32,
+    written: u32,
+    bytes: &[u8],
+) -> u64
+    ensures { λ r. ⌜ caught r (now (ring .exit)) (now (recording .exit)) ≡ captureIn (now (ring .entry)) (now (recording .entry)) kind slot written (now (bytes .entry)) ⌝ }
+{
+    ring_store::capture_turn(ring, recording, kind, slot, written, bytes)
 }
 
 #[no_mangle]
@@ -68,6 +93,14 @@ pub extern "C" fn snd_ring_stream(ring: &[u8], result: &mut [u8]) -> u64
     ensures { λ r. ⌜ shown r (now (result .exit)) ≡ toldIn (now (ring .entry)) (now (result .entry)) (streamOf (trackAt (now (ring .entry)))) ⌝ }
 {
     ring_store::stream(ring, result)
+}
+
+// The bytes of its recording that a capture accepted.
+#[no_mangle]
+pub extern "C" fn snd_ring_kept(ring: &[u8], result: &mut [u8]) -> u64
+    ensures { λ r. ⌜ shown r (now (result .exit)) ≡ toldIn (now (ring .entry)) (now (result .entry)) (keptRead (trackAt (now (ring .entry)))) ⌝ }
+{
+    ring_store::kept(ring, result)
 }
 
 #[no_mangle]

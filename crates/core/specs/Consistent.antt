@@ -3,8 +3,8 @@
 use mathlib.Core.Bool.{Bool, true, false, not, _&&_, _||_}
 use Prim.Native.Nat.{ℕ, _%_}
 use lib.Dec.{leb, ltb, eqb}
-use Rattle.codes.specs.Says.{pick}
-use Rattle.core.specs.Types.{Counts, Params, Call, SetParams, Command, Remap, Streams, Supported, Xfer, Stage, Idle, JacksAsked, StreamsAsked, MapsAsked, Sent, Core}
+use Rattle.codes.specs.Says.{pick, guard}
+use Rattle.core.specs.Types.{Counts, Params, Call, SetParams, Command, Remap, Streams, Supported, Xfer, Capture, Stage, Idle, JacksAsked, StreamsAsked, MapsAsked, Sent, Core}
 
 -- "period 0, period above buffer, or buffer not a multiple of period gives 1"
 abbrev pub periodOk : ℕ → ℕ → Bool
@@ -22,10 +22,16 @@ callOk (Remap jack association sequence) = true
 callOk (Streams direction) = true
 callOk (Supported field stream) = true
 callOk (Xfer stream) = true
+callOk (Capture stream) = true
 
 -- a test that is made under the guard alone: "Guard off, all reads as before"
 abbrev pub heldTo : Bool → Bool → Bool
 heldTo guard test = pick guard test true
+
+-- "stream direction not 1 gives 1": a capture's stream is an input; of a playback that is not asked
+abbrev pub faced : {A : Type 0} → Bool → ℕ → A → A → A
+faced true direction refused rest = guard (eqb direction 1) refused rest
+faced false direction refused rest = rest
 
 -- a call whose own request is out: set parameters that pass every test, a command (under the guard to a stream that there is), or a remap
 abbrev pub sentOk : Bool → Call → ℕ → Bool
@@ -35,6 +41,7 @@ sentOk guard (Remap jack association sequence) streams = true
 sentOk guard (Streams direction) streams = false
 sentOk guard (Supported field stream) streams = false
 sentOk guard (Xfer stream) streams = false
+sentOk guard (Capture stream) streams = false
 
 abbrev pub stageOk : Bool → Stage → ℕ → Bool
 stageOk guard Idle streams = true

@@ -14,11 +14,11 @@ use Rattle.tables.specs.declared.verdict.Verdict.the-variants as verdict
 use Rattle.turns.specs.Calls.{idleOf}
 use Rattle.turns.specs.Consistent as ring
 use Rattle.core.specs.State.{none, withStage}
-use Rattle.core.specs.Consistent.{periodOk, callOk, heldTo, consistentOf}
+use Rattle.core.specs.Consistent.{periodOk, callOk, heldTo, faced, consistentOf}
 use Rattle.core.specs.declared.plan.Request.the-variants as request
 use Rattle.core.specs.declared.plan.Value.the-variants as value
 use Rattle.core.specs.declared.plan.Look.the-variants as look
-use Rattle.core.specs.Types.{Written, Cause, NoStatus, Status, Refusal, InvalidParam, IoError, Unsupported, NoInfo, TooMany, Busy, BadLength, BadState, SetParameters, Verdict, Track, Counts, Params, Kind, Prepare, Release, Start, Stop, Call, SetParams, Command, Remap, Streams, Supported, Xfer, Stage, Idle, JacksAsked, StreamsAsked, MapsAsked, Sent, Core, Request, Value, Look, Say, Send, Done, Refused, Effect, Nothing, FillJacks, FillStreams, FillMaps, Store, Move, Plan}
+use Rattle.core.specs.Types.{Written, Cause, NoStatus, Status, Refusal, InvalidParam, IoError, Unsupported, NoInfo, TooMany, Busy, BadLength, BadState, SetParameters, Verdict, Track, Counts, Params, Kind, Prepare, Release, Start, Stop, Call, SetParams, Command, Remap, Streams, Supported, Xfer, Capture, Stage, Idle, JacksAsked, StreamsAsked, MapsAsked, Sent, Core, Request, Value, Look, Say, Send, Done, Refused, Effect, Nothing, FillJacks, FillStreams, FillMaps, Store, Move, Plan}
 
 -- ---- four ways to go on
 
@@ -71,19 +71,21 @@ setOf stream p =
       zero = 0;
     }
 
--- ---- WHAT ONE LOOK FOUND: a jack's features, the field of a stream's record that is asked for, or where a stream is in its lifecycle
+-- ---- WHAT ONE LOOK FOUND: a jack's features, the field of a stream's record that is asked for, or where a stream is in its lifecycle, for a capture with its direction
 
 abbrev pub canRemap : Look → Bool
 canRemap look.Nothing = false
 canRemap (look.Jack features) = hasBit remapFeature features
 canRemap (look.Stream v) = false
 canRemap (look.Life l) = false
+canRemap (look.Directed l direction) = false
 
 abbrev pub foundOf : Look → Value
 foundOf look.Nothing = value.Nothing
 foundOf (look.Jack features) = value.Nothing
 foundOf (look.Stream v) = v
 foundOf (look.Life l) = value.Nothing
+foundOf (look.Directed l direction) = value.Nothing
 
 -- any other look is no state, which permits nothing
 abbrev pub lifeIn : Look → ℕ
@@ -91,6 +93,15 @@ lifeIn look.Nothing = 5
 lifeIn (look.Jack features) = 5
 lifeIn (look.Stream v) = 5
 lifeIn (look.Life l) = l
+lifeIn (look.Directed l direction) = l
+
+-- any other look is no direction
+abbrev pub directionIn : Look → ℕ
+directionIn look.Nothing = 2
+directionIn (look.Jack features) = 2
+directionIn (look.Stream v) = 2
+directionIn (look.Life l) = 2
+directionIn (look.Directed l direction) = direction
 
 -- ---- THE CALL'S OWN PART, once set-up is done: "the call's own checks in the order written here"
 
@@ -124,12 +135,13 @@ ownRemap c jack association sequence look =
 unfoldable pub ownSupported : Core → ℕ → Look → Plan
 ownSupported c stream look = guard (ltb stream (c .counts .streams)) (refusing c InvalidParam) (endOf c (Done (foundOf look)) Nothing)
 
--- a transfer that had to begin set-up: in a state that calls left no stream has parameters yet (`Kept`), so it never runs
-unfoldable pub ownXfer : Core → ℕ → Look → Plan
-ownXfer c stream look =
+-- a transfer that had to begin set-up, a capture or a playback: in a state that calls left no stream has parameters yet (`Kept`), so it never runs
+unfoldable pub ownXfer : Bool → Core → ℕ → Look → Plan
+ownXfer capture c stream look =
     guard (ltb stream (c .counts .streams)) (refusing c InvalidParam)
     (guard (heldTo (c .guard) (takesOf (lifeIn look))) (refusing c BadState)
-    (refusing c (IoError NoStatus)))
+    (faced capture (directionIn look) (refusing c InvalidParam)
+    (refusing c (IoError NoStatus))))
 
 abbrev pub ownOf : Core → Call → Look → Plan
 ownOf c (SetParams stream to) look = ownSet c stream to look
@@ -137,7 +149,8 @@ ownOf c (Command kind stream) look = ownCommand c kind stream look
 ownOf c (Remap jack association sequence) look = ownRemap c jack association sequence look
 ownOf c (Streams direction) look = endOf c (Done (value.Streams direction)) Nothing
 ownOf c (Supported field stream) look = ownSupported c stream look
-ownOf c (Xfer stream) look = ownXfer c stream look
+ownOf c (Xfer stream) look = ownXfer false c stream look
+ownOf c (Capture stream) look = ownXfer true c stream look
 
 -- ---- A NEW CALL. "Order: BadLength, 1 for a state or ring that fails the consistency test, Busy, format or rate number out of range, set-up,
 -- then the call's own checks."
@@ -219,6 +232,7 @@ effectOf (Remap jack association sequence) = Nothing
 effectOf (Streams direction) = Nothing
 effectOf (Supported field stream) = Nothing
 effectOf (Xfer stream) = Nothing
+effectOf (Capture stream) = Nothing
 
 -- what a status that is not ok says: 3 "remap status not ok", else 2
 abbrev pub statusRefusal : Call → Cause → Refusal
@@ -228,6 +242,7 @@ statusRefusal (Remap jack association sequence) cause = Unsupported cause
 statusRefusal (Streams direction) cause = IoError cause
 statusRefusal (Supported field stream) cause = IoError cause
 statusRefusal (Xfer stream) cause = IoError cause
+statusRefusal (Capture stream) cause = IoError cause
 
 unfoldable pub afterSent : Core → Call → Verdict → Plan
 afterSent c call v = guard (isGood v) (refusing c (refusalOf (statusRefusal call (causeOf v)) v)) (endOf c (Done value.Nothing) (effectOf call))

@@ -11,7 +11,7 @@ pub use Rattle.turns.specs.declared.ring.Track.{Track}
 pub use Rattle.core.specs.declared.state.Counts.{Counts}
 pub use Rattle.core.specs.declared.state.Params.{Params}
 pub use Rattle.core.specs.declared.state.Call.{Call}
-pub use Rattle.core.specs.declared.state.Call.the-variants.{SetParams, Command, Remap, Streams, Supported, Xfer}
+pub use Rattle.core.specs.declared.state.Call.the-variants.{SetParams, Command, Remap, Streams, Supported, Xfer, Capture}
 pub use Rattle.core.specs.declared.state.Stage.{Stage}
 pub use Rattle.core.specs.declared.state.Stage.the-variants.{Idle, JacksAsked, StreamsAsked, MapsAsked, Sent}
 pub use Rattle.core.specs.declared.state.Core.{Core}

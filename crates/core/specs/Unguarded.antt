@@ -31,16 +31,16 @@ module _ (c : Core) (off : c .guard ≡ false) where
   unfolding ownCommand
   off-command kind stream look = unheld _ _ _ ∙ unheld _ _ _
 
-  pub off-xfer : (stream : ℕ) (look : Look) → ownXfer c stream look ≡ guard (ltb stream (c .counts .streams)) (refusing c InvalidParam) (refusing c (IoError NoStatus))
+  pub off-xfer : (stream : ℕ) (look : Look) → ownXfer false c stream look ≡ guard (ltb stream (c .counts .streams)) (refusing c InvalidParam) (refusing c (IoError NoStatus))
   unfolding ownXfer
   off-xfer stream look = ap (guard _ _) (unheld _ _ _)
 
-  pub off-gate : {A : Type 0} (p : Params) (life stream : ℕ) (refuse : Refusal → A) (setUp : A) (go : ℕ → A) → restBy c p life stream refuse setUp go
+  pub off-gate : {A : Type 0} (p : Params) (life direction stream : ℕ) (refuse : Refusal → A) (setUp : A) (go : ℕ → A) → restBy false c p life direction stream refuse setUp go
       ≡ guard (c .ready) setUp
       (guard (ltb stream (c .counts .streams)) (refuse InvalidParam)
       (guard (not (eqb (p .known) 0)) (refuse (IoError NoStatus))
       (go (p .period))))
-  off-gate p life stream refuse setUp go = ap (guard _ _) (ap (guard _ _) (unheld _ _ _))
+  off-gate p life direction stream refuse setUp go = ap (guard _ _) (ap (guard _ _) (unheld _ _ _))
 
   pub off-sent : (kind : Kind) (stream streams : ℕ) → sentOk (c .guard) (Command kind stream) streams ≡ true
   off-sent kind stream streams = ap (λ (g : Bool). heldTo g (ltb stream streams)) off

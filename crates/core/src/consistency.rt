@@ -73,6 +73,7 @@ pub(crate) fn call_ok(call: Call) -> bool
             stream: _,
         } => true,
         Call::Xfer { stream: _ } => true,
+        Call::Capture { stream: _ } => true,
     }
 }
 
@@ -101,6 +102,7 @@ fn sent_ok(guard: bool, call: Call, streams: u32) -> bool
             stream: _,
         } => false,
         Call::Xfer { stream: _ } => false,
+        Call::Capture { stream: _ } => false,
     }
 }
 

@@ -5,7 +5,7 @@ ghost use Rattle.layout.specs.Layout.{size};
 ghost use Rattle.codes.specs.Says.{pick};
 ghost use Rattle.codes.specs.Life.{permitsOf};
 ghost use Rattle.core.specs.Consistent.{heldTo};
-ghost use Rattle.core.specs.Plan.{sendOf, endOf, refuseOf, cutShortOf, queryOf, kindCode, kindLife, setOf, lifeIn, ownSet, ownCommand, ownRemap, ownSupported, ownXfer, ownOf, isIdle, setUpOf, beginOf, refusalOf, afterJacks, afterStreams, afterMaps, storedOf, effectOf, afterSent, answerBy, answerOf, canRemap, foundOf, causeOf, statusRefusal};
+ghost use Rattle.core.specs.Plan.{sendOf, endOf, refuseOf, cutShortOf, queryOf, kindCode, kindLife, setOf, lifeIn, directionIn, ownSet, ownCommand, ownRemap, ownSupported, ownXfer, ownOf, isIdle, setUpOf, beginOf, refusalOf, afterJacks, afterStreams, afterMaps, storedOf, effectOf, afterSent, answerBy, answerOf, canRemap, foundOf, causeOf, statusRefusal};
 ghost use Rattle.core.specs.declared.state.Stage.the-variants.{JacksAsked};
 ghost use Rattle.core.specs.declared.plan.Effect.the-variants as done;
 use crate::consistency::call_ok;
@@ -171,6 +171,20 @@ fn life_in(look: Look) -> u8
         Look::Jack { features: _ } => 5,
         Look::Stream(_) => 5,
         Look::Life(life) => life,
+        Look::Directed { life, direction: _ } => life,
+    }
+}
+
+// The stream's direction; any other look is none.
+fn direction_in(look: Look) -> u8
+    ensures { λ r. ⌜ r ≡ directionIn look ⌝ }
+{
+    match look {
+        Look::Nothing => 2,
+        Look::Jack { features: _ } => 2,
+        Look::Stream(_) => 2,
+        Look::Life(_) => 2,
+        Look::Directed { life: _, direction } => direction,
     }
 }
 
@@ -231,6 +245,10 @@ fn can_remap(look: Look) -> bool
         Look::Jack { features } => JackFeatures::from_bits_retain(features).has_remap(),
         Look::Stream(_) => false,
         Look::Life(_) => false,
+        Look::Directed {
+            life: _,
+            direction: _,
+        } => false,
     }
 }
 
@@ -272,6 +290,10 @@ fn found(look: Look) -> Value
         Look::Jack { features: _ } => Value::Nothing,
         Look::Stream(value) => value,
         Look::Life(_) => Value::Nothing,
+        Look::Directed {
+            life: _,
+            direction: _,
+        } => Value::Nothing,
     }
 }
 
@@ -286,15 +308,19 @@ fn own_supported(c: Core, stream: u32, look: Look) -> Plan
 
 // A transfer that had to begin set-up never runs: in a state that calls left no stream has
 // parameters yet.
-fn own_xfer(c: Core, stream: u32, look: Look) -> Plan
-    ensures { λ r. ⌜ r ≡ ownXfer c stream look ⌝ }
+fn own_xfer(capture: bool, c: Core, stream: u32, look: Look) -> Plan
+    ensures { λ r. ⌜ r ≡ ownXfer capture c stream look ⌝ }
 {
     let taken = held_to(c.guard, life::takes(life_in(look)));
+    let faces = held_to(capture, direction_in(look) == 1);
     if c.counts.streams <= stream {
         return end(c, Say::Refused(Refusal::InvalidParam), Effect::Nothing);
     }
     if !taken {
         return end(c, Say::Refused(Refusal::BadState), Effect::Nothing);
+    }
+    if !faces {
+        return end(c, Say::Refused(Refusal::InvalidParam), Effect::Nothing);
     }
     end(
         c,
@@ -318,7 +344,8 @@ fn own(c: Core, call: Call, look: Look) -> Plan
             end(c, Say::Done(Value::Streams { direction }), Effect::Nothing)
         }
         Call::Supported { field: _, stream } => own_supported(c, stream, look),
-        Call::Xfer { stream } => own_xfer(c, stream, look),
+        Call::Xfer { stream } => own_xfer(false, c, stream, look),
+        Call::Capture { stream } => own_xfer(true, c, stream, look),
     }
 }
 
@@ -521,6 +548,7 @@ fn effect_of(call: Call) -> Effect
             stream: _,
         } => Effect::Nothing,
         Call::Xfer { stream: _ } => Effect::Nothing,
+        Call::Capture { stream: _ } => Effect::Nothing,
     }
 }
 
@@ -542,6 +570,7 @@ fn status_refusal(call: Call, cause: Cause) -> Refusal
             stream: _,
         } => Refusal::IoError(cause),
         Call::Xfer { stream: _ } => Refusal::IoError(cause),
+        Call::Capture { stream: _ } => Refusal::IoError(cause),
     }
 }
 

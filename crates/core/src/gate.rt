@@ -1,4 +1,5 @@
-// The checks of a transfer, on the core, on its stream's own parameters and its place in its lifecycle.
+// The checks of a transfer, on the core, on its stream's own parameters, its place in its lifecycle and
+// its direction.
 ghost use mathlib.Core.Path.{_≡_};
 ghost use Rattle.core.specs.Gate.{gateBy, restBy};
 ghost use Rattle.core.specs.declared.gate.Gate.the-variants.{Shut, SetUp, Open};
@@ -23,11 +24,13 @@ pub enum Gate {
     Open(u32),
 }
 
-// Set-up, then the stream's range, its place in its lifecycle, and its parameters.
-fn checked_by(c: Core, stream: u32, p: Params, life: u8) -> Gate
-    ensures { λ r. ⌜ r ≡ restBy c p life stream Shut SetUp Open ⌝ }
+// Set-up, then the stream's range, its place in its lifecycle, a capture's direction, and its
+// parameters.
+fn checked_by(capture: bool, c: Core, stream: u32, p: Params, life: u8, direction: u8) -> Gate
+    ensures { λ r. ⌜ r ≡ restBy capture c p life direction stream Shut SetUp Open ⌝ }
 {
     let taken = held_to(c.guard, takes(life));
+    let faces = held_to(capture, direction == 1);
     if !c.ready {
         return Gate::SetUp;
     }
@@ -36,6 +39,9 @@ fn checked_by(c: Core, stream: u32, p: Params, life: u8) -> Gate
     }
     if !taken {
         return Gate::Shut(Refusal::BadState);
+    }
+    if !faces {
+        return Gate::Shut(Refusal::InvalidParam);
     }
     if p.known == 0 {
         return Gate::Shut(Refusal::IoError(Cause::NoStatus));
@@ -46,15 +52,17 @@ fn checked_by(c: Core, stream: u32, p: Params, life: u8) -> Gate
 // The checks of a transfer, with the stream's own parameters: lengths, then consistency, then Busy,
 // then the rest. `clear`: nothing is pending, or it plays no part.
 pub fn xfer_gate(
+    capture: bool,
     lengths: bool,
     clear: bool,
     c: Core,
     p: Params,
     life: u8,
+    direction: u8,
     t: Track,
     stream: u32,
 ) -> Gate
-    ensures { λ r. ⌜ r ≡ gateBy lengths clear c p life t stream Shut SetUp Open ⌝ }
+    ensures { λ r. ⌜ r ≡ gateBy capture lengths clear c p life direction t stream Shut SetUp Open ⌝ }
 {
     let stage = c.stage;
     let own = stream_ok(c, stream, p);
@@ -70,5 +78,5 @@ pub fn xfer_gate(
     if !free {
         return Gate::Shut(Refusal::Busy);
     }
-    checked_by(c, stream, p, life)
+    checked_by(capture, c, stream, p, life, direction)
 }

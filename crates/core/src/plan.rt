@@ -24,12 +24,13 @@ pub enum Value {
 }
 
 // What a call looks up in a table before it is decided: a jack's features, the field of a stream's
-// record that is asked for, or where a stream is in its lifecycle.
+// record that is asked for, or where a stream is in its lifecycle; for a capture its direction too.
 pub enum Look {
     Nothing,
     Jack { features: u32 },
     Stream(Value),
     Life(u8),
+    Directed { life: u8, direction: u8 },
 }
 
 pub enum Say {

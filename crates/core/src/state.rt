@@ -62,6 +62,10 @@ pub enum Call {
     Xfer {
         stream: u32,
     },
+    // A capture that had to begin set-up.
+    Capture {
+        stream: u32,
+    },
 }
 
 // The open exchange: which answer is waited for, and the call that waits.

@@ -1,7 +1,8 @@
 -- THE STATUS THAT A REFUSAL CARRIES. "Refusals: 2 and 3 keep number and place and carry the status that caused them, or none."
 -- Assumes nothing.
 use mathlib.Core.Path.{_≡_, refl, sym, subst}
-use mathlib.Core.Bool.{Bool, true, false, false≢true}
+use mathlib.Core.Bool.{Bool, true, false, not, false≢true}
+use lib.Dec.{eqb}
 use mathlib.Core.List.{List, [], _∷_}
 use Prim.Native.Nat.{ℕ}
 use borrow.Author.Tests.{eqb-false}
@@ -13,11 +14,12 @@ use Rattle.codes.specs.Cause.{NotOk, Caused, word-back}
 use Rattle.codes.specs.declared.answers.Refusal.the-variants as refusal
 use Rattle.tables.specs.Tables.{judged, isGood}
 use Rattle.tables.specs.declared.verdict.Verdict.the-variants as verdict
-use Rattle.turns.specs.Rules.{chooseOf, playedOf, isOldest, judgeOf, settle, hear, act, turnOf, submit, sentOf, countedBy, countedOf}
+use Rattle.turns.specs.Rules.{chooseOf, comesTo, playedOf, isOldest, judgeOf, settle, hear, act, turnOf, submit, sentOf, countedBy, countedOf}
 use Rattle.turns.specs.RuleLaws.{Judged, judged as judged-slot, played-fails}
 use Rattle.turns.specs.CaseLaws.{lastOf}
 use Rattle.turns.specs.Consistent as ring
-use Rattle.turns.specs.Calls.{turnCall, drained, drainCall, startCall}
+use Rattle.turns.specs.Calls.{turnCall, drained, drainCall, startCall, startedOf}
+use Rattle.turns.specs.Capture.{captureStart}
 use Rattle.turns.specs.declared.ring.Step as step
 use Rattle.turns.specs.declared.ring.Sent as sends
 use Rattle.turns.specs.declared.ring.Sent.the-variants as sent
@@ -28,16 +30,18 @@ use Rattle.turns.specs.declared.rules.Choice.the-variants.{Submit, Finish, Wait
 use Rattle.turns.specs.declared.rules.Verdict as rules
 use Rattle.turns.specs.declared.rules.Verdict.the-variants as rule
 use Rattle.core.specs.Consistent.{consistentOf}
+use Rattle.core.specs.GateLaws.{faced-by}
+use Rattle.exchange.specs.State.{paramsOf, pcmOf}
 use Rattle.core.specs.Plan.{sendOf, queryOf, ownSet, ownCommand, ownRemap, ownSupported, ownXfer, ownOf, beginOf, causeOf, refusalOf, statusRefusal, readTo, afterJacks, afterStreams, afterMaps, afterSent, answerBy, answerOf, verdictBy}
 use Rattle.core.specs.Reply.{replyOf}
 use Rattle.core.specs.declared.reply.Reply.the-variants as reply
 use Rattle.exchange.specs.Tables.{lookOf, pendingLook}
 use Rattle.exchange.specs.Exchange.{stepOf, callOf, feedOf, failOf}
 use Rattle.exchange.specs.Feed.{Feed, paged, failed, planOf, fedOf, verdictOf}
-use Rattle.exchange.specs.Xfer.{startOf}
+use Rattle.exchange.specs.Xfer.{refusedStep, startStep, startAs, startOf, captureOf}
 use Rattle.exchange.specs.OwnLaws.{picked-by}
 use Rattle.exchange.specs.declared.xfer.XferReply.the-variants as xfer
-use Rattle.exchange.specs.Types.{Written, Cause, NoStatus, Status, Refusal, IoError, Unsupported, Verdict, Counts, Track, Ring, Said, Reading, Kind, Call, SetParams, Command, Remap, Streams, Supported, Xfer, Stage, Idle, JacksAsked, StreamsAsked, MapsAsked, Sent, Core, Sound, Look, Nothing, Refused, Plan, Reply, XferReply, XferStep}
+use Rattle.exchange.specs.Types.{Written, Cause, NoStatus, Status, Refusal, InvalidParam, IoError, Unsupported, Verdict, Counts, Track, Ring, Said, Reading, Kind, Call, SetParams, Command, Remap, Streams, Supported, Xfer, Capture, Stage, Idle, JacksAsked, StreamsAsked, MapsAsked, Sent, Core, Sound, Look, Nothing, Refused, Plan, Reply, XferReply, XferStep}
 
 -- 2 carries what is P, and 3 what is Q; no other refusal carries anything
 abbrev pub Carry : (Cause → Type 0) → (Cause → Type 0) → Refusal → Type 0
@@ -55,6 +59,7 @@ Carry P Q refusal.Short = Unit {0}
 Carry P Q refusal.BadState = Unit {0}
 Carry P Q refusal.Full = Unit {0}
 Carry P Q refusal.NotYet = Unit {0}
+Carry P Q refusal.BadCapture = Unit {0}
 
 abbrev pub Never : Cause → Type 0
 Never c = ⊥
@@ -102,11 +107,11 @@ settle-tells rule.WrongSlot s t slot status j = tt
 settle-tells rule.Good s t slot status j = tt
 settle-tells (rule.Bad r) s t slot status j = let f = played-fails status r (j .2) in subst (Ends (t .tail) (Completed slot status)) (f .1) (j .1, refl, f .0)
 
-hear-tells : (s : sends.Sent) (t : Track) (reading : Reading) → Turns (t .tail) reading (hear s t reading)
+hear-tells : (s : sends.Sent) (t : Track) (reading : Reading) → Turns (t .tail) reading (hear (comesTo playedOf reading) s t reading)
 hear-tells s t Quiet = tt
 hear-tells s t (Completed slot status) = settle-tells (judgeOf t slot (playedOf status)) s t slot status (judged-slot t slot (playedOf status))
 
-act-tells : (c : Choice) (t : Track) (reading : Reading) → Turns (t .tail) reading (act c t reading)
+act-tells : (c : Choice) (t : Track) (reading : Reading) → Turns (t .tail) reading (act c t (comesTo playedOf reading) reading)
 act-tells Submit t reading = hear-tells (sentOf t) (submit t) reading
 act-tells Finish t reading = tt
 act-tells Wait t reading = hear-tells sent.Nothing t reading
@@ -115,7 +120,7 @@ turn-tells : (t : Track) (len : ℕ) (reading : Reading) → Turns (t .tail) rea
 unfolding turnCall countedOf turnOf
 turn-tells t len reading =
     let P : step.Step → Type 0 = Turns (t .tail) reading in
-    let x = act (chooseOf (t .descriptors) t) t reading in
+    let x = act (chooseOf (t .descriptors) t) t (comesTo playedOf reading) reading in
     guarded-by P _ _ _
     (λ _. guarded-by P _ _ _ (λ _. guarded-by P _ _ _ (λ _. counted-tells (t .tail) reading (x .said) (lastOf x) x (act-tells (chooseOf (t .descriptors) t) t reading)) (λ _. tt)) (λ _. tt))
     (λ _. tt)
@@ -166,6 +171,7 @@ own-bare c (Remap jack a q) look = guarded-by AtOnce _ _ _ (λ _. guarded-by AtO
 own-bare c (Streams direction) look = tt
 own-bare c (Supported field stream) look = guarded-by AtOnce _ _ _ (λ _. tt) (λ _. tt)
 own-bare c (Xfer stream) look = guarded-by AtOnce _ _ _ (λ _. guarded-by AtOnce _ _ _ (λ _. refl) (λ _. tt)) (λ _. tt)
+own-bare c (Capture stream) look = guarded-by AtOnce _ _ _ (λ _. guarded-by AtOnce _ _ _ (λ _. guarded-by AtOnce _ _ _ (λ _. refl) (λ _. tt)) (λ _. tt)) (λ _. tt)
 
 call-bare : (s : Sound) (t : Track) (call : Call) (n : ℕ) → AtOnce (callOf s t call n)
 unfolding callOf beginOf
@@ -199,22 +205,47 @@ ring-starts t stream total period budget =
     (λ _. guarded-by Starts _ _ _ (λ _. guarded-by Starts _ _ _ (λ _. guarded-by Starts _ _ _ (λ _. tt) (λ _. tt)) (λ _. tt)) (λ _. tt))
     (λ _. tt)
 
-start-begins : (s : Sound) (r : Ring) (stream len budget n : ℕ) → Begins (startOf s r stream len budget n .reply)
-unfolding startOf
-start-begins s r stream len budget n =
+capture-starts : (t : Track) (stream periods period lent budget : ℕ) → Starts (captureStart t stream periods period lent budget)
+unfolding captureStart
+capture-starts t stream periods period lent budget =
+    guarded-by Starts _ _ _
+    (λ _. guarded-by Starts _ _ _ (λ _. guarded-by Starts _ _ _ (λ _. guarded-by Starts _ _ _ (λ _. guarded-by Starts _ _ _ (λ _. tt) (λ _. tt)) (λ _. tt)) (λ _. tt)) (λ _. tt))
+    (λ _. tt)
+
+-- the start of either direction
+begins-as : (capture : Bool) (begin : ℕ → step.Step) (s : Sound) (r : Ring) (stream n : ℕ) → ((period : ℕ) → Starts (begin period)) → Begins (startAs capture begin s r stream n .reply)
+begins-as capture begin s r stream n h =
     let P : XferStep → Type 0 = λ (u : XferStep). Begins (u .reply) in
     guarded-by P _ _ _
     (λ _. guarded-by P _ _ _
     (λ _. guarded-by P _ _ _
     (λ _. guarded-by P _ _ _
-    (λ _. guarded-by P _ _ _ (λ _. guarded-by P _ _ _ (λ _. guarded-by P _ _ _ (λ _. ring-starts (r .track) stream len _ budget) (λ _. refl)) (λ _. tt)) (λ _. tt))
+    (λ _. guarded-by P _ _ _
+    (λ _. guarded-by P _ _ _
+    (λ _. faced-by P capture (pcmOf s stream .direction) (refusedStep s r InvalidParam)
+    (guard (not (eqb (paramsOf s stream .known) 0)) (refusedStep s r (IoError NoStatus)) (startStep s r (startedOf r (begin (paramsOf s stream .period)))))
+    (λ _. guarded-by P _ _ _ (λ _. h _) (λ _. refl)) tt)
+    (λ _. tt))
+    (λ _. tt))
     (λ _. tt))
     (λ _. tt))
     (λ _. tt))
     (λ _. tt)
 
+start-begins : (s : Sound) (r : Ring) (stream len budget n : ℕ) → Begins (startOf s r stream len budget n .reply)
+unfolding startOf
+start-begins s r stream len budget n = begins-as false (λ period. startCall (r .track) stream len period budget) s r stream n (λ period. ring-starts (r .track) stream len period budget)
+
+capture-begins : (s : Sound) (r : Ring) (stream periods lent budget n : ℕ) → Begins (captureOf s r stream periods lent budget n .reply)
+unfolding captureOf
+capture-begins s r stream periods lent budget n =
+    begins-as true (λ period. captureStart (r .track) stream periods period lent budget) s r stream n (λ period. capture-starts (r .track) stream periods period lent budget)
+
 pub carries-start : (s : Sound) (r : Ring) (stream len budget n : ℕ) (x : Refusal) → startOf s r stream len budget n .reply ≡ xfer.Says (said.Refused x) → Bare x
 carries-start s r stream len budget n x e = subst Begins e (start-begins s r stream len budget n)
+
+pub carries-capture : (s : Sound) (r : Ring) (stream periods lent budget n : ℕ) (x : Refusal) → captureOf s r stream periods lent budget n .reply ≡ xfer.Says (said.Refused x) → Bare x
+carries-capture s r stream periods lent budget n x e = subst Begins e (capture-begins s r stream periods lent budget n)
 
 -- ---- A FEED, by what was asked
 
@@ -277,6 +308,7 @@ neither P Q refusal.Short h = tt
 neither P Q refusal.BadState h = tt
 neither P Q refusal.Full h = tt
 neither P Q refusal.NotYet h = tt
+neither P Q refusal.BadCapture h = tt
 
 module _ (f : Feed) where
   abbrev Told : Refusal → Type 0
@@ -294,6 +326,7 @@ module _ (f : Feed) where
   status-told (Streams direction) c h = h
   status-told (Supported field stream) c h = h
   status-told (Xfer stream) c h = h
+  status-told (Capture stream) c h = h
 
   answer-carries : (g : Stage) (c : Core) (v : Verdict) (look : Look) → Seen f v → Plans (Carries g f) (answerBy g c v look)
   unfolding afterJacks afterStreams afterMaps afterSent
@@ -338,6 +371,7 @@ caused P Q p q refusal.Short h = tt
 caused P Q p q refusal.BadState h = tt
 caused P Q p q refusal.Full h = tt
 caused P Q p q refusal.NotYet h = tt
+caused P Q p q refusal.BadCapture h = tt
 
 explained-not-ok : (tail : ℕ) (reading : Reading) (c : Cause) → Explained tail reading c → NotOk c
 explained-not-ok tail Quiet c h = absurd h
@@ -367,6 +401,9 @@ caused-call s t call n r e = caused Without Without without-not-ok without-not-o
 pub caused-start : (s : Sound) (r : Ring) (stream len budget n : ℕ) (x : Refusal) → startOf s r stream len budget n .reply ≡ xfer.Says (said.Refused x) → Caused x
 caused-start s r stream len budget n x e = caused Without Without without-not-ok without-not-ok x (carries-start s r stream len budget n x e)
 
+pub caused-capture : (s : Sound) (r : Ring) (stream periods lent budget n : ℕ) (x : Refusal) → captureOf s r stream periods lent budget n .reply ≡ xfer.Says (said.Refused x) → Caused x
+caused-capture s r stream periods lent budget n x e = caused Without Without without-not-ok without-not-ok x (carries-capture s r stream periods lent budget n x e)
+
 pub caused-feed : (s : Sound) (f : Feed) (r : Refusal) → fedOf s f .reply ≡ reply.Refused r → Caused r
 caused-feed s f r e = let k = fed-not-ok (s .core .stage) f in caused (CausedBy (s .core .stage) f) (CausedBy (s .core .stage) f) k k r (carries-feed s f r e)
 
@@ -389,7 +426,7 @@ remap-not-supported c jack a q = refl
 
 -- one period of 4 bytes is in flight, in slot 0
 abbrev pub played : Track
-played = record { descriptors = 3; head = 1; tail = 0; inflight = 1; stream = 0; total = 4; period = 4; next = 4; budget = 9; turns = 1; running = true }
+played = record { descriptors = 3; head = 1; tail = 0; inflight = 1; stream = 0; total = 4; period = 4; next = 4; budget = 9; turns = 1; running = true; capture = false; lent = 4; kept = 0 }
 
 pub turn-failed : turnCall played 4 (Completed 0 0x8003) .said ≡ said.Ended (IoError (Status 0x8003))
 unfolding turnCall guard countedOf turnOf chooseOf judgeOf isOldest playedOf ring.placedOf ring.pacedOf

@@ -33,7 +33,7 @@ starting s r stream budget m frames = startOf s r stream (length frames) budget 
 abbrev pub playing : Sound → Ring → ℕ → ℕ → ℕ → List ℕ → List Reading → Ran Ring
 playing s r stream budget m frames script = turnByTurn (length frames) budget (starting s r stream budget m frames .ring) script
 
-idle-ring : (s : Sound) (r : Ring) (stream : ℕ) → Playable s r stream → asked.Idle r
+pub idle-ring : (s : Sound) (r : Ring) (stream : ℕ) → Playable s r stream → asked.Idle r
 idle-ring s r stream o = record { consistent = o .ring; stopped = o .still; empty = o .empty }
 
 -- "Take a state and ring that calls left, lent lengths that answer 10 does not refuse, a stream with parameters set, no exchange or transfer open, nothing in

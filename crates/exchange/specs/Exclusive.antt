@@ -18,6 +18,8 @@ use Rattle.pending.specs.CallLaws.{mark-by, finish-by}
 use Rattle.pending.specs.Count.{none-then, AboveFree, other, completes-above, finishes-above, few-pending}
 use Rattle.turns.specs.Calls as calls
 use Rattle.turns.specs.Calls.{idleOf, turnCall, drainCall, startCall, startedOf}
+use Rattle.turns.specs.Capture.{captureCall}
+use Rattle.turns.specs.declared.capture.Catch.{Catch}
 use Rattle.turns.specs.Script.{transferOf}
 use Rattle.turns.specs.Rules.{isOldest}
 use Rattle.turns.specs.ConsistentLaws.{both, Consistent}
@@ -26,11 +28,11 @@ use Rattle.turns.specs.declared.reading.Reading.the-variants.{Quiet, Completed}
 use Rattle.exchange.specs.Tables.{soundAfter}
 use Rattle.exchange.specs.Exchange.{callOf}
 use Rattle.exchange.specs.Feed.{planOf, pageOf}
-use Rattle.exchange.specs.Xfer.{refusedStep, setUpStep, startStep, doneStep, startOf, xferOf}
-use Rattle.exchange.specs.XferLaws.{xfer-by, start-by, script-by}
+use Rattle.exchange.specs.Xfer.{refusedStep, setUpStep, startStep, doneStep, startOf, xferOf, captureOf}
+use Rattle.exchange.specs.XferLaws.{xfer-by, start-by, script-by, capture-by}
 use Rattle.exchange.specs.Submit.{nbOf, markStep, markBy, finishStep}
 use Rattle.exchange.specs.Submitted.{nb-ends, effect-pending}
-use Rattle.exchange.specs.Reached.{Reached, fresh, called, fed, started, scripted, turned, drained, submitted, marked, finished, begun, ran, renewed, reached-kept}
+use Rattle.exchange.specs.Reached.{Reached, fresh, called, fed, started, scripted, turned, captured, received, drained, submitted, marked, finished, begun, listened, ran, renewed, reached-kept}
 use Rattle.exchange.specs.Types.{Track, Ring, Reading, Pending, Judged, Core, Effect, Sound, XferStep, NbStep, NbEnd}
 
 -- nothing is pending, or no transfer runs and no slot is in flight
@@ -45,11 +47,14 @@ ByCalls (fed f h) = ByCalls h
 ByCalls (started stream len budget n h) = ByCalls h
 ByCalls (scripted stream frames budget script n h) = ByCalls h
 ByCalls (turned len reading h) = ByCalls h
+ByCalls (captured stream periods lent budget n h) = ByCalls h
+ByCalls (received len c h) = ByCalls h
 ByCalls (drained reading h) = ByCalls h
 ByCalls (submitted stream n len m h) = ByCalls h
 ByCalls (marked reading h) = ByCalls h
 ByCalls (finished token h) = ByCalls h
 ByCalls (begun stream len period budget h) = ⊥
+ByCalls (listened stream periods period lent budget h) = ⊥
 ByCalls (ran stream period budget frames script h) = ⊥
 ByCalls (renewed h) = ByCalls h
 
@@ -69,7 +74,15 @@ module _ (t : Track) (idle : idleOf t ≡ true) where
   unfolding turnCall
   turn-idle len reading =
       let P : ring.Step → Type 0 = λ x. x .track ≡ t in
-      guarded-by P _ _ _ (λ _. guarded-by P _ _ _ (λ _. guarded-by P _ _ _ (λ e. absurd (running-not e)) (λ _. refl)) (λ _. refl)) (λ _. refl)
+      guarded-by P _ _ _ (λ _. guarded-by P _ _ _ (λ _. guarded-by P _ _ _ (λ e. absurd (running-not (both (t .running) (not (t .capture)) e .0))) (λ _. refl)) (λ _. refl)) (λ _. refl)
+
+  capture-idle : (len : ℕ) (c : Catch) → captureCall t len c .track ≡ t
+  unfolding captureCall
+  capture-idle len c =
+      let P : ring.Step → Type 0 = λ x. x .track ≡ t in
+      guarded-by P _ _ _
+      (λ _. guarded-by P _ _ _ (λ _. guarded-by P _ _ _ (λ _. guarded-by P _ _ _ (λ e. absurd (running-not (both (t .running) (t .capture) e .0))) (λ _. refl)) (λ _. refl)) (λ _. refl))
+      (λ _. refl)
 
   none-oldest : (slot : ℕ) → isOldest t slot ≡ true → ⊥
   unfolding isOldest
@@ -115,6 +128,10 @@ module _ (s : Sound) (r : Ring) (h : Exclusive (s .pending) (r .track)) where
       xfer-by (λ (x : XferStep). Exclusive (x .sound .pending) (x .ring .track)) (leb messageSize n && eqb (length script % 12) 0) (noneIn (s .pending)) s t stream (refusedStep s r) (setUpStep s r stream)
       (λ period. doneStep s (transferOf r stream len period budget script)) (λ _. h) (λ _ _ _. h) (λ c _. inl c)
 
+  capture-exclusive : (stream periods lent budget n : ℕ) → Exclusive (captureOf s r stream periods lent budget n .sound .pending) (captureOf s r stream periods lent budget n .ring .track)
+  capture-exclusive stream periods lent budget n =
+      capture-by (λ (x : XferStep). Exclusive (x .sound .pending) (x .ring .track)) s r stream periods lent budget n (λ _. h) (λ _ _ _. h) (λ none. inl none)
+
   nb-exclusive : (stream n len m : ℕ) → Exclusive (nbOf s r stream n len m .sound .pending) t
   nb-exclusive stream n len m = nb-ends (λ (u : NbStep). Exclusive (u .sound .pending) t) s r stream n len m (λ _. h) (λ _ _ _. h) (λ g. inr (g .idle))
 
@@ -141,11 +158,14 @@ exclusive (fed {s} {r} f h) b = effect-exclusive s r (exclusive h b) (planOf s f
 exclusive (started {s} {r} stream len budget n h) b = start-exclusive s r (exclusive h b) stream len budget n
 exclusive (scripted {s} {r} stream frames budget script n h) b = script-exclusive s r (exclusive h b) stream (length frames) budget script n
 exclusive (turned {s} {r} len reading h) b = turned-by s r (exclusive h b) (turnCall (r .track) len reading) (λ i. turn-idle (r .track) i len reading)
+exclusive (captured {s} {r} stream periods lent budget n h) b = capture-exclusive s r (exclusive h b) stream periods lent budget n
+exclusive (received {s} {r} len c h) b = turned-by s r (exclusive h b) (captureCall (r .track) len c) (λ i. capture-idle (r .track) i len c)
 exclusive (drained {s} {r} reading h) b = turned-by s r (exclusive h b) (drainCall (r .track) reading) (λ i. drain-idle (r .track) i reading)
 exclusive (submitted {s} {r} stream n len m h) b = nb-exclusive s r (exclusive h b) stream n len m
 exclusive (marked {s} {r} reading h) b = mark-exclusive s r (exclusive h b) reading
 exclusive (finished {s} {r} token h) b = finish-exclusive s r (exclusive h b) token
 exclusive (begun stream len period budget h) b = absurd b
+exclusive (listened stream periods period lent budget h) b = absurd b
 exclusive (ran stream period budget frames script h) b = absurd b
 exclusive (renewed h) b = inr refl
 
@@ -166,12 +186,15 @@ above (fed {s} f h) = subst (AboveFree 16) (sym (effect-pending (planOf s f .eff
 above (started {s} {r} stream len budget n h) = start-by (λ (x : XferStep). Above (x .sound)) s r stream len budget n (λ _. above h) (λ _ _ _. above h) (above h)
 above (scripted {s} {r} stream frames budget script n h) = script-by (λ (x : XferStep). Above (x .sound)) s r stream (length frames) budget n (λ _. above h) (λ _ _ _. above h) script (above h)
 above (turned len reading h) = above h
+above (captured {s} {r} stream periods lent budget n h) = capture-by (λ (x : XferStep). Above (x .sound)) s r stream periods lent budget n (λ _. above h) (λ _ _ _. above h) (λ _. above h)
+above (received len c h) = above h
 above (drained reading h) = above h
 above (submitted {s} {r} stream n len m h) =
     nb-ends (λ (u : NbStep). Above (u .sound)) s r stream n len m (λ _. above h) (λ _ _ _. above h) (λ g. other 16 (s .pending) (above h) (lowestIn (s .pending) 16) waits (g .free))
 above (marked {s} reading h) = guarded-by (λ (u : NbEnd). Above (u .sound)) _ _ _ (λ _. above-by s reading (above h)) (λ _. above h)
 above (finished {s} token h) = guarded-by (λ (u : NbEnd). Above (u .sound)) _ _ _ (λ _. finishes-above 16 (s .pending) (above h) token) (λ _. above h)
 above (begun stream len period budget h) = above h
+above (listened stream periods period lent budget h) = above h
 above (ran stream period budget frames script h) = above h
 above (renewed h) = above h
 

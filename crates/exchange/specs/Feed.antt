@@ -12,7 +12,7 @@ use Rattle.tables.specs.declared.verdict.Verdict.the-variants as verdict
 use Rattle.core.specs.Plan.{verdictBy}
 use Rattle.exchange.specs.Exchange.{stepOf, feedOf, failOf}
 use mathlib.Core.Logic.{_⊎_}
-use Rattle.exchange.specs.Types.{Written, InFull, Verdict, QueueFailed, Sound, Plan, Step, Call, SetParams, Command, Remap, Streams, Supported, Xfer, Stage, Idle, JacksAsked, StreamsAsked, MapsAsked, Sent}
+use Rattle.exchange.specs.Types.{Written, InFull, Verdict, QueueFailed, Sound, Plan, Step, Call, SetParams, Command, Remap, Streams, Supported, Xfer, Capture, Stage, Idle, JacksAsked, StreamsAsked, MapsAsked, Sent}
 
 -- a page, of which so much was written, or a failure; with a message buffer of n bytes
 pub data Feed : Type 0 where
@@ -62,6 +62,7 @@ ownRefusals (Remap jack association sequence) = 1 ∷ 3 ∷ 4 ∷ []
 ownRefusals (Streams direction) = []
 ownRefusals (Supported field stream) = 1 ∷ []
 ownRefusals (Xfer stream) = 1 ∷ 2 ∷ 12 ∷ []
+ownRefusals (Capture stream) = 1 ∷ 2 ∷ 12 ∷ []
 
 -- a query of set-up is out
 abbrev pub asking : Stage → Bool

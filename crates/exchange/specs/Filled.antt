@@ -23,9 +23,9 @@ use Rattle.exchange.specs.Ends.{asked, waits}
 use Rattle.exchange.specs.ResultLaws.{wrong}
 use Rattle.exchange.specs.Feed.{Feed, paged, failed, pageOf, planOf, fedOf, verdictOf, writtenOf}
 use Rattle.exchange.specs.StayLaws.{called-stays, called-quiet, fed-stays}
-use Rattle.exchange.specs.Xfer.{startOf, xferOf}
-use Rattle.exchange.specs.XferLaws.{start-by, script-by}
-use Rattle.exchange.specs.Types.{PcmInfo, Written, Verdict, Track, Ring, Counts, Call, SetParams, Command, Remap, Streams, Supported, Xfer, Stage, StreamsAsked, Core, Sound, Effect, Nothing, FillJacks, FillStreams, FillMaps, Store, Move, Look, Plan}
+use Rattle.exchange.specs.Xfer.{startOf, xferOf, captureOf}
+use Rattle.exchange.specs.XferLaws.{start-by, script-by, capture-by}
+use Rattle.exchange.specs.Types.{PcmInfo, Written, Verdict, Track, Ring, Counts, Call, SetParams, Command, Remap, Streams, Supported, Xfer, Capture, Stage, StreamsAsked, Core, Sound, Effect, Nothing, FillJacks, FillStreams, FillMaps, Store, Move, Look, Plan}
 
 -- the stream table is that of a page
 abbrev pub Filled : Sound → List ℕ → Type 0
@@ -66,6 +66,7 @@ effect-leaves (Remap jack association sequence) = refl
 effect-leaves (Streams direction) = refl
 effect-leaves (Supported field stream) = refl
 effect-leaves (Xfer stream) = refl
+effect-leaves (Capture stream) = refl
 
 others-leave : (n : ℕ) (good : Bool) → (fills (pick good (FillJacks n) Nothing) ≡ false) × (fills (pick good (FillMaps n) Nothing) ≡ false)
 others-leave n true = (refl, refl)
@@ -129,6 +130,9 @@ filled-call s old t call n f =
 module _ (s : Sound) (r : Ring) (stream len budget n : ℕ) (old : List ℕ) (f : Filled s old) where
   pub filled-start : Filled (startOf s r stream len budget n .sound) old
   filled-start = start-by (λ x. Filled (x .sound) old) s r stream len budget n (λ _. f) (λ _ _ _. f) f
+
+  pub filled-capture : (periods : ℕ) → Filled (captureOf s r stream periods len budget n .sound) old
+  filled-capture periods = capture-by (λ x. Filled (x .sound) old) s r stream periods len budget n (λ _. f) (λ _ _ _. f) (λ _. f)
 
   pub filled-script : (script : List ℕ) → Filled (xferOf s r stream len budget script n .sound) old
   filled-script script = script-by (λ x. Filled (x .sound) old) s r stream len budget n (λ _. f) (λ _ _ _. f) script f

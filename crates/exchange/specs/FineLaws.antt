@@ -18,7 +18,7 @@ use Rattle.exchange.specs.OwnLaws.{Own, sets, commands, remaps, lists, t
 use Rattle.exchange.specs.PlanLaws.{Begun, bars, asks, goes, begun, counted, Answered, short, idle, asks-streams, asks-maps, cuts, finishes, ends, fails, fed}
 use Rattle.exchange.specs.Exchange.{callOf}
 use Rattle.exchange.specs.Feed.{Feed, paged, failed, planOf, verdictOf}
-use Rattle.exchange.specs.Types.{Written, Verdict, Track, Counts, Params, Kind, Call, SetParams, Command, Remap, Streams, Supported, Xfer, Stage, Idle, JacksAsked, StreamsAsked, MapsAsked, Sent, Core, Sound, Effect, Nothing, FillJacks, FillStreams, FillMaps, Store, Move, Look, Plan}
+use Rattle.exchange.specs.Types.{Written, Verdict, Track, Counts, Params, Kind, Call, SetParams, Command, Remap, Streams, Supported, Xfer, Capture, Stage, Idle, JacksAsked, StreamsAsked, MapsAsked, Sent, Core, Sound, Effect, Nothing, FillJacks, FillStreams, FillMaps, Store, Move, Look, Plan}
 
 abbrev pub Allowed : Core → Effect → Type 0
 Allowed c Nothing = Unit {0}
@@ -105,6 +105,7 @@ effect-fine c (Remap jack association sequence) a = tt
 effect-fine c (Streams direction) a = tt
 effect-fine c (Supported field stream) a = tt
 effect-fine c (Xfer stream) a = tt
+effect-fine c (Capture stream) a = tt
 
 module _ (c : Core) (v : Verdict) (e : consistentOf c ≡ true) (room : isGood v ≡ true → Room (c .stage) (c .counts)) where
   streams-fine : (call : Call) → c .stage ≡ JacksAsked call → consistentOf (withStage (readTo c (counted v (c .counts .jacks)) 0 0 false) (StreamsAsked call)) ≡ true

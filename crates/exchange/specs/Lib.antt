@@ -26,6 +26,7 @@ pub mod Exclusive
 pub mod SubmitFull
 pub mod Sequence
 pub mod Demand
+pub mod CaptureDemand
 pub mod Lifecycle
 pub mod Carries
 -- laws
@@ -36,6 +37,7 @@ pub mod ResultLaws
 pub mod StayLaws
 pub mod FineLaws
 pub mod KeptLaws
+pub mod CaptureLaws
 pub mod XferLaws
 pub mod ListLaws
 pub mod StepLaws

@@ -30,14 +30,14 @@ use Rattle.exchange.specs.ConsistentLaws.{facts-at, full, ready-tables}
 use Rattle.exchange.specs.OwnLaws.{Own, sets, commands, remaps, lists, tells, refuses}
 use Rattle.exchange.specs.PlanLaws.{Begun, bars, asks, goes as begins, begun, Answered, short, idle, asks-streams, asks-maps, cuts, finishes, ends, fails, fed as answers}
 use Rattle.exchange.specs.StayLaws.{called-stays, called-quiet, fed-stays, after-core}
-use Rattle.exchange.specs.XferLaws.{start-by, script-by}
+use Rattle.exchange.specs.XferLaws.{start-by, script-by, capture-by}
 use Rattle.exchange.specs.Submitted.{nb-sound, mark-sound, finish-sound}
-use Rattle.exchange.specs.Reached.{Reached, fresh, called, fed, started, scripted, turned, drained, submitted, marked, finished, begun as restarted, ran, renewed, reached-kept, reached-playable}
+use Rattle.exchange.specs.Reached.{Reached, fresh, called, fed, started, scripted, turned, captured, received, drained, submitted, marked, finished, begun as restarted, listened, ran, renewed, reached-kept, reached-playable}
 use Rattle.exchange.specs.Ends.{after}
 use Rattle.turns.specs.Consistent.{placedOf, pacedOf}
 use Rattle.turns.specs.Ring.{direct, newTrack, newRing}
 use Rattle.turns.specs.ConsistentLaws.{both}
-use Rattle.exchange.specs.Types.{InFull, Verdict, Track, Ring, Kind, Counts, Call, SetParams, Command, Remap, Streams, Supported, Xfer, Stage, Idle, JacksAsked, StreamsAsked, MapsAsked, Sent, Core, Sound, Say, Send, Done, Refused, Effect, Nothing, FillJacks, FillStreams, FillMaps, Store, Move, Look, Plan, XferStep}
+use Rattle.exchange.specs.Types.{InFull, Verdict, Track, Ring, Kind, Counts, Call, SetParams, Command, Remap, Streams, Supported, Xfer, Capture, Stage, Idle, JacksAsked, StreamsAsked, MapsAsked, Sent, Core, Sound, Say, Send, Done, Refused, Effect, Nothing, FillJacks, FillStreams, FillMaps, Store, Move, Look, Plan, XferStep}
 
 -- ---- A WAY THROUGH THE TABLE: each command is permitted from the state before it, and is the state after it
 
@@ -68,6 +68,7 @@ commandTo i (Remap jack association sequence) = []
 commandTo i (Streams direction) = []
 commandTo i (Supported field stream) = []
 commandTo i (Xfer stream) = []
+commandTo i (Capture stream) = []
 
 abbrev pub outTo : ℕ → Stage → List ℕ
 outTo i Idle = []
@@ -91,11 +92,14 @@ oksOf (fed {s} f h) i = oksOf h i ++ okOf s f i
 oksOf (started stream len budget n h) i = oksOf h i
 oksOf (scripted stream frames budget script n h) i = oksOf h i
 oksOf (turned len reading h) i = oksOf h i
+oksOf (captured stream periods lent budget n h) i = oksOf h i
+oksOf (received len c h) i = oksOf h i
 oksOf (drained reading h) i = oksOf h i
 oksOf (submitted stream n len m h) i = oksOf h i
 oksOf (marked reading h) i = oksOf h i
 oksOf (finished token h) i = oksOf h i
 oksOf (restarted stream len period budget h) i = oksOf h i
+oksOf (listened stream periods period lent budget h) i = oksOf h i
 oksOf (ran stream period budget frames script h) i = oksOf h i
 oksOf (renewed h) i = oksOf h i
 
@@ -253,6 +257,7 @@ module _ (s : Sound) (page : List ℕ) (i l : ℕ) {ks : List ℕ} (h : Walk l k
   ended-walk c on n (Streams direction) w = stay refl refl
   ended-walk c on n (Supported field stream) w = stay refl refl
   ended-walk c on n (Xfer stream) w = stay refl refl
+  ended-walk c on n (Capture stream) w = stay refl refl
 
   answered-walk : s .core .guard ≡ true → length (s .lives) ≡ 127 → Waits (s .lives) (s .core .stage) → {v : Verdict} {look : Look} {long : Bool} {p : Plan} → Answered (s .core) v look long p
       → Walk l (ks ++ okIn (p .say) (outTo i (s .core .stage))) (getD (soundAfter (p .effect) (p .core) s page .lives) i 0)
@@ -277,11 +282,14 @@ guardOf (fed f h) = guardOf h
 guardOf (started stream len budget n h) = guardOf h
 guardOf (scripted stream frames budget script n h) = guardOf h
 guardOf (turned len reading h) = guardOf h
+guardOf (captured stream periods lent budget n h) = guardOf h
+guardOf (received len c h) = guardOf h
 guardOf (drained reading h) = guardOf h
 guardOf (submitted stream n len m h) = guardOf h
 guardOf (marked reading h) = guardOf h
 guardOf (finished token h) = guardOf h
 guardOf (restarted stream len period budget h) = guardOf h
+guardOf (listened stream periods period lent budget h) = guardOf h
 guardOf (ran stream period budget frames script h) = guardOf h
 guardOf (renewed h) = guardOf h
 
@@ -301,11 +309,15 @@ guard-stays (started {s} {r} stream len budget n h) =
 guard-stays (scripted {s} {r} stream frames budget script n h) =
     script-by (λ (x : XferStep). x .sound .core .guard ≡ guardOf h) s r stream (length frames) budget n (λ _. guard-stays h) (λ _ _ _. guard-stays h) script (guard-stays h)
 guard-stays (turned len reading h) = guard-stays h
+guard-stays (captured {s} {r} stream periods lent budget n h) =
+    capture-by (λ (x : XferStep). x .sound .core .guard ≡ guardOf h) s r stream periods lent budget n (λ _. guard-stays h) (λ _ _ _. guard-stays h) (λ _. guard-stays h)
+guard-stays (received len c h) = guard-stays h
 guard-stays (drained reading h) = guard-stays h
 guard-stays (submitted {s} {r} stream n len m h) = nb-sound (λ (x : Sound). x .core .guard ≡ guardOf h) s r stream n len m (guard-stays h) (λ _ _ _. guard-stays h) (λ _. guard-stays h)
 guard-stays (marked {s} reading h) = mark-sound (λ (x : Sound). x .core .guard ≡ guardOf h) s (guard-stays h) (λ _. guard-stays h) reading
 guard-stays (finished {s} token h) = finish-sound (λ (x : Sound). x .core .guard ≡ guardOf h) s (guard-stays h) (λ _. guard-stays h) token
 guard-stays (restarted stream len period budget h) = guard-stays h
+guard-stays (listened stream periods period lent budget h) = guard-stays h
 guard-stays (ran stream period budget frames script h) = guard-stays h
 guard-stays (renewed h) = guard-stays h
 
@@ -341,11 +353,15 @@ reached-waits (started {s} {r} stream len budget n h) on =
 reached-waits (scripted {s} {r} stream frames budget script n h) on =
     script-by (λ (x : XferStep). Waiting (x .sound)) s r stream (length frames) budget n (λ _ o. reached-waits h o) (λ _ _ _ _ i k e. empty e) script (λ o. reached-waits h o) on
 reached-waits (turned len reading h) on = reached-waits h on
+reached-waits (captured {s} {r} stream periods lent budget n h) on =
+    capture-by (λ (x : XferStep). Waiting (x .sound)) s r stream periods lent budget n (λ _ o. reached-waits h o) (λ _ _ _ _ i k e. empty e) (λ _ o. reached-waits h o) on
+reached-waits (received len c h) on = reached-waits h on
 reached-waits (drained reading h) on = reached-waits h on
 reached-waits (submitted {s} {r} stream n len m h) on = nb-sound Waiting s r stream n len m (λ o. reached-waits h o) (λ _ _ _ _ i k e. empty e) (λ _ o. reached-waits h o) on
 reached-waits (marked {s} reading h) on = mark-sound Waiting s (λ o. reached-waits h o) (λ _ o. reached-waits h o) reading on
 reached-waits (finished {s} token h) on = finish-sound Waiting s (λ o. reached-waits h o) (λ _ o. reached-waits h o) token on
 reached-waits (restarted stream len period budget h) on = reached-waits h on
+reached-waits (listened stream periods period lent budget h) on = reached-waits h on
 reached-waits (ran stream period budget frames script h) on = reached-waits h on
 reached-waits (renewed h) on = reached-waits h on
 
@@ -363,12 +379,16 @@ lifecycle (started {s} {r} stream len budget n h) i on =
 lifecycle (scripted {s} {r} stream frames budget script n h) i on =
     script-by (λ (x : XferStep). x .sound .core .guard ≡ true → Walk 0 (oksOf h i) (lifeOf (x .sound) i)) s r stream (length frames) budget n (λ _ o. lifecycle h i o) (λ _ _ _ o. lifecycle h i o) script (λ o. lifecycle h i o) on
 lifecycle (turned len reading h) i on = lifecycle h i on
+lifecycle (captured {s} {r} stream periods lent budget n h) i on =
+    capture-by (λ (x : XferStep). x .sound .core .guard ≡ true → Walk 0 (oksOf h i) (lifeOf (x .sound) i)) s r stream periods lent budget n (λ _ o. lifecycle h i o) (λ _ _ _ o. lifecycle h i o) (λ _ o. lifecycle h i o) on
+lifecycle (received len c h) i on = lifecycle h i on
 lifecycle (drained reading h) i on = lifecycle h i on
 lifecycle (submitted {s} {r} stream n len m h) i on =
     nb-sound (λ (x : Sound). x .core .guard ≡ true → Walk 0 (oksOf h i) (lifeOf x i)) s r stream n len m (λ o. lifecycle h i o) (λ _ _ _ o. lifecycle h i o) (λ _ o. lifecycle h i o) on
 lifecycle (marked {s} reading h) i on = mark-sound (λ (x : Sound). x .core .guard ≡ true → Walk 0 (oksOf h i) (lifeOf x i)) s (λ o. lifecycle h i o) (λ _ o. lifecycle h i o) reading on
 lifecycle (finished {s} token h) i on = finish-sound (λ (x : Sound). x .core .guard ≡ true → Walk 0 (oksOf h i) (lifeOf x i)) s (λ o. lifecycle h i o) (λ _ o. lifecycle h i o) token on
 lifecycle (restarted stream len period budget h) i on = lifecycle h i on
+lifecycle (listened stream periods period lent budget h) i on = lifecycle h i on
 lifecycle (ran stream period budget frames script h) i on = lifecycle h i on
 lifecycle (renewed h) i on = lifecycle h i on
 

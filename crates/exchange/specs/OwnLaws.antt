@@ -14,7 +14,7 @@ use Rattle.core.specs.Consistent.{periodOk, heldTo}
 use Rattle.core.specs.Plan.{sendOf, endOf, kindCode, kindLife, setOf, canRemap, foundOf, lifeIn, refusing, ownSet, ownCommand, ownRemap, ownSupported, ownXfer, ownOf}
 use Rattle.core.specs.declared.plan.Request.the-variants as request
 use Rattle.core.specs.declared.plan.Value.the-variants as value
-use Rattle.exchange.specs.Types.{NoStatus, Refusal, InvalidParam, IoError, Unsupported, NoInfo, BadState, Params, Kind, Field, Call, SetParams, Command, Remap, Streams, Supported, Xfer, Sent, Core, Look, Done, Nothing, Plan}
+use Rattle.exchange.specs.Types.{NoStatus, Refusal, InvalidParam, IoError, Unsupported, NoInfo, BadState, Params, Kind, Field, Call, SetParams, Command, Remap, Streams, Supported, Xfer, Capture, Sent, Core, Look, Done, Nothing, Plan}
 use Rattle.exchange.specs.Feed.{One, ownRefusals}
 
 -- what holds of both ends of a choice holds of it
@@ -71,3 +71,9 @@ module _ (c : Core) (look : Look) where
   own (Xfer stream) =
       let P = Own c look (Xfer stream) in
       guarded-by P _ _ _ (λ _. guarded-by P _ _ _ (λ _. refuses (IoError NoStatus) (inr (inl refl))) (λ _. refuses BadState (inr (inr (inl refl))))) (λ _. refuses InvalidParam (inl refl))
+  own (Capture stream) =
+      let P = Own c look (Capture stream) in
+      guarded-by P _ _ _
+      (λ _. guarded-by P _ _ _
+      (λ _. guarded-by P _ _ _ (λ _. refuses (IoError NoStatus) (inr (inl refl))) (λ _. refuses InvalidParam (inl refl))) (λ _. refuses BadState (inr (inr (inl refl)))))
+      (λ _. refuses InvalidParam (inl refl))

@@ -22,7 +22,7 @@ use Rattle.core.specs.Reply.{messageAfter, replyOf}
 use Rattle.exchange.specs.Exchange.{stepOf, callOf}
 use Rattle.exchange.specs.Feed.{Feed, paged, failed, pageOf, planOf, fedOf, verdictOf, longOf, One, ownRefusals, asking}
 use Rattle.exchange.specs.StayLaws.{own-stays}
-use Rattle.exchange.specs.Types.{Written, Cause, Refusal, IoError, Verdict, Track, Call, SetParams, Command, Remap, Streams, Supported, Xfer, Stage, Idle, MapsAsked, Sent, Core, Sound, Say, Send, Done, Refused, Effect, Nothing, FillMaps, Look, Plan}
+use Rattle.exchange.specs.Types.{Written, Cause, Refusal, IoError, Verdict, Track, Call, SetParams, Command, Remap, Streams, Supported, Xfer, Capture, Stage, Idle, MapsAsked, Sent, Core, Sound, Say, Send, Done, Refused, Effect, Nothing, FillMaps, Look, Plan}
 use Rattle.core.specs.declared.reply.Reply.the-variants as reply
 
 -- `refusalOf` has the verdict's own number and values (of a remap, a status that is not ok says 3 instead)
@@ -114,6 +114,7 @@ status-number (Remap jack association sequence) cause = inr (inl refl)
 status-number (Streams direction) cause = inl refl
 status-number (Supported field stream) cause = inl refl
 status-number (Xfer stream) cause = inl refl
+status-number (Capture stream) cause = inl refl
 
 sent-number : (call : Call) (v : Verdict) → Failing v → refusedBy 5 v ≡ false → One (saysRefusal (refusalOf (statusRefusal call (causeOf v)) v) .number) (2 ∷ 3 ∷ 7 ∷ 11 ∷ [])
 sent-number call verdict.Good a b = status-number call _

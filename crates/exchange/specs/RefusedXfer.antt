@@ -5,30 +5,31 @@ use mathlib.Core.List.{List}
 use Prim.Native.Nat.{ℕ, zero, suc}
 use Rattle.codes.specs.SaysLaws.{guarded-by}
 use Rattle.turns.specs.Calls.{startCall, startedOf}
-use Rattle.turns.specs.Rules.{turnOf}
-use Rattle.turns.specs.Log.{Ran, loop, firstOf, restOf, ruled, run}
+use Rattle.turns.specs.Rules.{comesTo, playedOf}
+use Rattle.turns.specs.Log.{Ran, loopOf, firstOf, restOf, played, ruled, run}
 use Rattle.turns.specs.Script.{scriptOf, transferBy, transferOf}
-use Rattle.turns.specs.CaseLaws.{Plain, plain, over-plain, counted-cases, onward-cases}
-use Rattle.turns.specs.KeepLaws.{turn-plain}
+use Rattle.turns.specs.CaseLaws.{Plain, plain, onward-cases}
+use Rattle.turns.specs.RefusalLaws.{turn-answers}
 use Rattle.turns.specs.HostLaws.{begins, Runs, link}
 use Rattle.turns.specs.Demand as turns
+use Rattle.exchange.specs.CaptureLaws.{capture-start-refusal}
 use Rattle.turns.specs.declared.ring.Said.the-variants.{Done, Refused}
 use Rattle.exchange.specs.State.{paramsOf}
-use Rattle.exchange.specs.Xfer.{startOf, xferOf}
-use Rattle.exchange.specs.XferLaws.{start-by, script-by}
+use Rattle.exchange.specs.Xfer.{startOf, xferOf, captureOf}
+use Rattle.exchange.specs.XferLaws.{start-by, script-by, capture-by}
 use Rattle.exchange.specs.ResultLaws.{wrong, says-said}
 use Rattle.exchange.specs.Types.{Refusal, Track, Ring, Said, Going, Ended, Reading, Transferred, Sound, Says, XferStep}
 
 -- ---- a transfer that runs is answered, never refused
 
-run-plain : (least fuel : ℕ) (t : Track) (script : List Reading) → Plain (run least fuel t script .said)
-unfolding loop
+run-plain : (least fuel : ℕ) (t : Track) (script : List Reading) → Plain (run played least fuel t script .said)
+unfolding loopOf
 run-plain least zero t script = tt
 run-plain least (suc fuel) t script =
-    let s = ruled least t (firstOf script) in
-    onward-cases (λ (o : Ran Track). Plain (o .said)) (s .line .said) (s .line) (s .left) (run least fuel (s .left) (restOf script))
-    (λ _. run-plain least fuel (s .left) (restOf script))
-    (λ _. counted-cases (λ x. Plain (x .said)) (turnOf least t (firstOf script)) (turn-plain least t (firstOf script)) (λ _. tt) over-plain)
+    let x = firstOf script in
+    let s = ruled played least t x in
+    onward-cases (λ (o : Ran Track). Plain (o .said)) (s .line .said) (s .line) (s .left) (run played least fuel (s .left) (restOf script))
+    (λ _. run-plain least fuel (s .left) (restOf script)) (λ _. turn-answers least t (comesTo playedOf x) x)
 
 module _ (r : Ring) (stream len period budget : ℕ) (bytes : List ℕ) (x : Refusal) where
   abbrev start : Said
@@ -63,6 +64,11 @@ module _ (s : Sound) (r : Ring) (stream len budget n : ℕ) (x : Refusal) where
   refused-start =
       start-by Unchanged s r stream len budget n (λ _ _. (refl, refl, refl)) (λ _ _ _ e. absurd (wrong (cc)))
       (λ e. (refl, turns.start-refusal r x stream len (paramsOf s stream .period) budget (says-said e), refl))
+
+  pub refused-capture : (periods : ℕ) → Unchanged (captureOf s r stream periods len budget n)
+  refused-capture periods =
+      capture-by Unchanged s r stream periods len budget n (λ _ _. (refl, refl, refl)) (λ _ _ _ e. absurd (wrong (cc)))
+      (λ _ e. (refl, capture-start-refusal r x stream periods (paramsOf s stream .period) len budget (says-said e), refl))
 
   pub refused-script : (bytes : List ℕ) → Unchanged (xferOf s r stream len budget bytes n)
   refused-script bytes =

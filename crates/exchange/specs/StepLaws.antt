@@ -13,12 +13,14 @@ use Rattle.codes.specs.Says as answers
 use Rattle.codes.specs.Says.{says, guard}
 use Rattle.codes.specs.SaysLaws.{guard-ap}
 use Rattle.turns.specs.Calls.{startCall, startedOf}
+use Rattle.turns.specs.Capture.{captureStart}
 use Rattle.turns.specs.Script.{transferOf}
+use Rattle.turns.specs.declared.ring.Step as ring
 use Rattle.pending.specs.Table.{noneIn}
 use Rattle.core.specs.Reply.{messageAfter, replyOf}
 use Rattle.exchange.specs.State.{pcmsOf}
 use Rattle.exchange.specs.Exchange.{idsBy, listOf, stepOf, listValues, saysBeside, saysStep, saysSay, Stepped}
-use Rattle.exchange.specs.Xfer.{xferBy, refusedStep, setUpStep, startStep, doneStep, startOf, xferOf, xferMessage, saysXfer, startSays, xferSays, Transfers}
+use Rattle.exchange.specs.Xfer.{xferAs, xferBy, waitingAs, refusedStep, setUpStepWith, setUpStep, startStep, doneStep, startAs, startOf, xferOf, captureOf, xferMessage, saysXfer, startSaysAs, startSays, xferSays, captureSays, Transfers}
 use Rattle.exchange.specs.Types.{Refusal, Track, Ring, PcmInfo, Say, Send, Done, Refused, Sound, Plan, Step, Gate, Shut, SetUp, Open, XferStep}
 
 -- a list of ids is told as it is
@@ -40,27 +42,43 @@ moved q s page l {n} {r} e h = subst (λ (p : Plan). Stepped p s page l n r) e h
 -- ---- the checks of a transfer
 
 -- what is made of the outcome of the checks is made at each end of them
+pub xfer-as-ap : {A B : Type 0} (f : A → B) (capture lengths clear : Bool) (s : Sound) (t : Track) (stream : ℕ) (refuse : Refusal → A) (setUp : A) (go : ℕ → A)
+    → f (xferAs capture lengths clear s t stream refuse setUp go) ≡ xferAs capture lengths clear s t stream (λ x. f (refuse x)) (f setUp) (λ p. f (go p))
+xfer-as-ap f true lengths clear s t stream refuse setUp go = simp (guard-ap f)
+xfer-as-ap f false lengths clear s t stream refuse setUp go = simp (guard-ap f)
+
 pub xfer-ap : {A B : Type 0} (f : A → B) (lengths clear : Bool) (s : Sound) (t : Track) (stream : ℕ) (refuse : Refusal → A) (setUp : A) (go : ℕ → A)
     → f (xferBy lengths clear s t stream refuse setUp go) ≡ xferBy lengths clear s t stream (λ x. f (refuse x)) (f setUp) (λ p. f (go p))
-xfer-ap f lengths clear s t stream refuse setUp go = simp (guard-ap f)
+xfer-ap f lengths clear s t stream refuse setUp go = xfer-as-ap f false lengths clear s t stream refuse setUp go
 
 -- set-up is begun only where the lengths are right
-pub set-up-long : (lengths clear : Bool) (s : Sound) (t : Track) (stream : ℕ) → SetUp ≡ xferBy lengths clear s t stream Shut SetUp Open → lengths ≡ true
+pub set-up-long : (capture lengths clear : Bool) (s : Sound) (t : Track) (stream : ℕ) → SetUp ≡ xferAs capture lengths clear s t stream Shut SetUp Open → lengths ≡ true
 unfolding guard
-set-up-long true clear s t stream e = refl
-set-up-long false clear s t stream e = let z : _≡_ {A = ℕ} 0 1 = cc in absurd (omega arith)
+set-up-long capture true clear s t stream e = refl
+set-up-long capture false clear s t stream e = let z : _≡_ {A = ℕ} 0 1 = cc in absurd (omega arith)
 
-module _ (s : Sound) (r : Ring) (stream len budget : ℕ) where
+-- the start of either direction
+module _ (capture : Bool) (begin : ℕ → ring.Step) (s : Sound) (r : Ring) (stream : ℕ) where
   abbrev pub startBy : Gate → XferStep
   startBy (Shut x) = refusedStep s r x
-  startBy SetUp = setUpStep s r stream
-  startBy (Open period) = startStep s r (startedOf r (startCall (r .track) stream len period budget))
+  startBy SetUp = setUpStepWith s r (waitingAs capture stream)
+  startBy (Open period) = startStep s r (startedOf r (begin period))
 
-  pub started-by : (n : ℕ) (clear : Bool) (g : Gate) → clear ≡ noneIn (s .pending) → g ≡ xferBy (leb messageSize n) clear s (r .track) stream Shut SetUp Open → startBy g ≡ startOf s r stream len budget n
+  pub started-as : (n : ℕ) (clear : Bool) (g : Gate) → clear ≡ noneIn (s .pending) → g ≡ xferAs capture (leb messageSize n) clear s (r .track) stream Shut SetUp Open → startBy g ≡ startAs capture begin s r stream n
+  started-as n clear g z e =
+      ap startBy (e ∙ ap (λ (t : Bool). xferAs capture (leb messageSize n) t s (r .track) stream Shut SetUp Open) z)
+      ∙ xfer-as-ap startBy capture (leb messageSize n) (noneIn (s .pending)) s (r .track) stream Shut SetUp Open
+
+  start-as-says : (n : ℕ) → saysXfer (startAs capture begin s r stream n .reply) ≡ startSaysAs capture begin s r stream n
+  start-as-says n =
+      xfer-as-ap (λ (x : XferStep). saysXfer (x .reply)) capture (leb messageSize n) (noneIn (s .pending)) s (r .track) stream (refusedStep s r) (setUpStepWith s r (waitingAs capture stream))
+      (λ period. startStep s r (startedOf r (begin period)))
+
+module _ (s : Sound) (r : Ring) (stream len budget : ℕ) where
+  pub started-by : (n : ℕ) (clear : Bool) (g : Gate) → clear ≡ noneIn (s .pending) → g ≡ xferBy (leb messageSize n) clear s (r .track) stream Shut SetUp Open
+      → startBy false (λ period. startCall (r .track) stream len period budget) s r stream g ≡ startOf s r stream len budget n
   unfolding startOf
-  started-by n clear g z e =
-      ap startBy (e ∙ ap (λ (t : Bool). xferBy (leb messageSize n) t s (r .track) stream Shut SetUp Open) z)
-      ∙ xfer-ap startBy (leb messageSize n) (noneIn (s .pending)) s (r .track) stream Shut SetUp Open
+  started-by n clear g z e = started-as false (λ period. startCall (r .track) stream len period budget) s r stream n clear g z e
 
   abbrev pub runBy : List ℕ → Gate → XferStep
   runBy script (Shut x) = refusedStep s r x
@@ -77,9 +95,21 @@ module _ (s : Sound) (r : Ring) (stream len budget : ℕ) where
 -- what the checks say is what they come to
 pub start-says : (s : Sound) (r : Ring) (stream len budget n : ℕ) → saysXfer (startOf s r stream len budget n .reply) ≡ startSays s r stream len budget n
 unfolding startOf
-start-says s r stream len budget n =
-    xfer-ap (λ (x : XferStep). saysXfer (x .reply)) (leb messageSize n) (noneIn (s .pending)) s (r .track) stream (refusedStep s r) (setUpStep s r stream)
-    (λ period. startStep s r (startedOf r (startCall (r .track) stream len period budget)))
+start-says s r stream len budget n = start-as-says false (λ period. startCall (r .track) stream len period budget) s r stream n
+
+-- of a capture
+module _ (s : Sound) (r : Ring) (stream periods lent budget : ℕ) where
+  abbrev pub begins : ℕ → ring.Step
+  begins period = captureStart (r .track) stream periods period lent budget
+
+  pub captured-by : (n : ℕ) (clear : Bool) (g : Gate) → clear ≡ noneIn (s .pending) → g ≡ xferAs true (leb messageSize n) clear s (r .track) stream Shut SetUp Open
+      → startBy true begins s r stream g ≡ captureOf s r stream periods lent budget n
+  unfolding captureOf
+  captured-by n clear g z e = started-as true begins s r stream n clear g z e
+
+  pub capture-says : (n : ℕ) → saysXfer (captureOf s r stream periods lent budget n .reply) ≡ captureSays s r stream periods lent budget n
+  unfolding captureOf
+  capture-says n = start-as-says true begins s r stream n
 
 pub xfer-says : (s : Sound) (r : Ring) (stream len budget : ℕ) (script : List ℕ) (n : ℕ) → saysXfer (xferOf s r stream len budget script n .reply) ≡ xferSays s r stream len budget script n
 unfolding xferOf

@@ -16,11 +16,11 @@ use Rattle.core.specs.Plan.{storedOf, effectOf, verdictBy}
 use Rattle.exchange.specs.Tables.{soundAfter}
 use Rattle.exchange.specs.PlanLaws.{Answered, short, idle, asks-streams, asks-maps, cuts, finishes, ends, fails, fed}
 use Rattle.exchange.specs.Exchange.{stepOf, callOf}
-use Rattle.exchange.specs.Xfer.{startOf, xferOf}
-use Rattle.exchange.specs.XferLaws.{start-by, script-by}
+use Rattle.exchange.specs.Xfer.{startOf, xferOf, captureOf}
+use Rattle.exchange.specs.XferLaws.{start-by, script-by, capture-by}
 use Rattle.exchange.specs.Feed.{Feed, paged, failed, pageOf, planOf, fedOf, verdictOf}
 use Rattle.exchange.specs.StayLaws.{Stays, called-stays, called-quiet, fed-stays, after-core}
-use Rattle.exchange.specs.Types.{Verdict, Track, Ring, Params, Call, SetParams, Command, Remap, Streams, Supported, Xfer, Stage, Sent, Core, Sound, Effect, Nothing, FillJacks, FillMaps, Look, Plan}
+use Rattle.exchange.specs.Types.{Verdict, Track, Ring, Params, Call, SetParams, Command, Remap, Streams, Supported, Xfer, Capture, Stage, Sent, Core, Sound, Effect, Nothing, FillJacks, FillMaps, Look, Plan}
 
 -- ---- "A set-up finished in a call stays done however that call ends."
 
@@ -36,6 +36,9 @@ setup-stays-done-feed s f = done-after s (planOf s f) (pageOf f) (fed-stays s f)
 module _ (s : Sound) (r : Ring) (stream len budget n : ℕ) (done : s .core .ready ≡ true) where
   pub setup-stays-done-start : startOf s r stream len budget n .sound .core .ready ≡ true
   setup-stays-done-start = start-by (λ x. x .sound .core .ready ≡ true) s r stream len budget n (λ _. done) (λ _ _ _. done) done
+
+  pub setup-stays-done-capture : (periods : ℕ) → captureOf s r stream periods len budget n .sound .core .ready ≡ true
+  setup-stays-done-capture periods = capture-by (λ x. x .sound .core .ready ≡ true) s r stream periods len budget n (λ _. done) (λ _ _ _. done) (λ _. done)
 
   pub setup-stays-done-script : (script : List ℕ) → xferOf s r stream len budget script n .sound .core .ready ≡ true
   setup-stays-done-script script = script-by (λ x. x .sound .core .ready ≡ true) s r stream len budget n (λ _. done) (λ _ _ _. done) script done
@@ -66,6 +69,7 @@ stored s page i c (Remap jack association sequence) g ok = inl refl
 stored s page i c (Streams direction) g ok = inl refl
 stored s page i c (Supported field stream) g ok = inl refl
 stored s page i c (Xfer stream) g ok = inl refl
+stored s page i c (Capture stream) g ok = inl refl
 
 filled : (s : Sound) (page : List ℕ) (i n : ℕ) (good : Bool) (c : Core) → Changed s page i (pick good (FillJacks n) Nothing) c × Changed s page i (pick good (FillMaps n) Nothing) c
 filled s page i n true c = (inl refl, inl refl)
@@ -98,6 +102,9 @@ params-by-call s t call n i = ap (λ (x : Effect). paramsOf (soundAfter x (callO
 module _ (s : Sound) (r : Ring) (stream len budget n i : ℕ) where
   pub params-by-start : paramsOf (startOf s r stream len budget n .sound) i ≡ paramsOf s i
   params-by-start = start-by (λ x. paramsOf (x .sound) i ≡ paramsOf s i) s r stream len budget n (λ _. refl) (λ _ _ _. refl) refl
+
+  pub params-by-capture : (periods : ℕ) → paramsOf (captureOf s r stream periods len budget n .sound) i ≡ paramsOf s i
+  params-by-capture periods = capture-by (λ x. paramsOf (x .sound) i ≡ paramsOf s i) s r stream periods len budget n (λ _. refl) (λ _ _ _. refl) (λ _. refl)
 
   pub params-by-script : (script : List ℕ) → paramsOf (xferOf s r stream len budget script n .sound) i ≡ paramsOf s i
   params-by-script script = script-by (λ x. paramsOf (x .sound) i ≡ paramsOf s i) s r stream len budget n (λ _. refl) (λ _ _ _. refl) script refl

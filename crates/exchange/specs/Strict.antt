@@ -27,7 +27,7 @@ use Rattle.exchange.specs.Tables.{pendingLook, soundAfter}
 use Rattle.exchange.specs.Exchange.{stepOf, feedOf, failOf}
 use Rattle.exchange.specs.Feed.{paged, longOf, Long}
 use Rattle.exchange.specs.PlanLaws.{Answered, short, idle, asks-streams, asks-maps, cuts, finishes, ends, fails, fed, long-of, long-verdict}
-use Rattle.exchange.specs.Types.{Cause, Refusal, Written, InFull, Short, QueueFailed, InvalidParam, BadLength, Verdict, Call, SetParams, Command, Remap, Streams, Supported, Xfer, Stage, Idle, JacksAsked, StreamsAsked, MapsAsked, Sent, Counts, Core, Look, Plan, Say, Send, Done, Refused, Sound, Effect, Nothing, FillJacks, FillStreams, FillMaps, Store, Move}
+use Rattle.exchange.specs.Types.{Cause, Refusal, Written, InFull, Short, QueueFailed, InvalidParam, BadLength, Verdict, Call, SetParams, Command, Remap, Streams, Supported, Xfer, Capture, Stage, Idle, JacksAsked, StreamsAsked, MapsAsked, Sent, Counts, Core, Look, Plan, Say, Send, Done, Refused, Sound, Effect, Nothing, FillJacks, FillStreams, FillMaps, Store, Move}
 
 -- how much of a page is read, by what was asked: the header, and the records of a table
 abbrev pub readsOf : Stage → Counts → ℕ
@@ -80,6 +80,7 @@ module _ (w : ℕ) where
   reads-own (Streams direction) = tt
   reads-own (Supported field stream) = tt
   reads-own (Xfer stream) = tt
+  reads-own (Capture stream) = tt
 
   reads-if : (good : Bool) (x : Effect) → (good ≡ true → Reads x) → Reads (pick good x Nothing)
   reads-if true x h = h refl
@@ -189,6 +190,7 @@ eleven refusal.BadLength e = absurd (omega arith)
 eleven refusal.BadState e = absurd (omega arith)
 eleven refusal.Full e = absurd (omega arith)
 eleven refusal.NotYet e = absurd (omega arith)
+eleven refusal.BadCapture e = absurd (omega arith)
 eleven refusal.Short e = refl
 
 -- the number of what is said, 0 where it is no refusal
@@ -204,6 +206,7 @@ status-else (Remap jack association sequence) cause e = omega arith
 status-else (Streams direction) cause e = omega arith
 status-else (Supported field stream) cause e = omega arith
 status-else (Xfer stream) cause e = omega arith
+status-else (Capture stream) cause e = omega arith
 
 streams-only : (c : Core) (call : Call) (v : Verdict) → numberOf (afterStreams c call v .say) ≡ 11 → v ≡ verdict.Refused Short
 unfolding afterStreams guard

@@ -19,6 +19,7 @@ use Rattle.pending.specs.Full.{lowest-below, full-if}
 use Rattle.pending.specs.Count.{none-then}
 use Rattle.pending.specs.Ledger.{mark-sized, finish-sized, put-sized}
 use Rattle.turns.specs.Calls.{idleOf, startCall, startedOf}
+use Rattle.turns.specs.Capture.{captureStart}
 use Rattle.turns.specs.Script.{transferOf}
 use Rattle.turns.specs.Consistent as ring
 use Rattle.turns.specs.declared.reading.Reading.the-variants.{Quiet, Completed}
@@ -27,13 +28,13 @@ use Rattle.core.specs.Plan.{isIdle}
 use Rattle.core.specs.State.{withStage}
 use Rattle.exchange.specs.State.{paramsOf, lifeOf, withCore}
 use Rattle.exchange.specs.Tables.{soundAfter}
-use Rattle.exchange.specs.Xfer.{xferBy, refusedStep, setUpStep, startStep, doneStep, startOf, xferOf, setUpPlan}
+use Rattle.exchange.specs.Xfer.{xferAs, refusedStep, setUpStepWith, setUpStep, startStep, doneStep, startOf, xferOf, captureOf, setUpPlan}
 use Rattle.exchange.specs.XferLaws.{xfer-by, set-up-kept}
 use Rattle.exchange.specs.Kept.{Kept}
 use Rattle.exchange.specs.Unrun as unrun
 use Rattle.exchange.specs.Submit.{withPending, refusedNb, setUpNb, tokenNb, submitOf, nbOf, nbStore, nbMessage, saysNb, markBy, markStep, finishStep, endBy, barredEnd}
 use Rattle.exchange.specs.declared.nonblocking.NbReply.the-variants.{Send, Token, Refused}
-use Rattle.exchange.specs.Types.{Refusal, InvalidParam, BadLength, Busy, Track, Ring, Reading, Pending, Core, Idle, Sound, Effect, Nothing, FillJacks, FillStreams, FillMaps, Store, Move, NbReply, NbStep, NbEnd}
+use Rattle.exchange.specs.Types.{Refusal, InvalidParam, BadLength, Busy, Track, Ring, Reading, Pending, Core, Capture, Idle, Sound, Effect, Nothing, FillJacks, FillStreams, FillMaps, Store, Move, NbReply, NbStep, NbEnd}
 
 -- ---- a submission, by its ends
 
@@ -108,10 +109,10 @@ nb-refused s r stream n len m payload store message x =
 
 -- set-up that a submission begins takes no token and copies nothing; it waits as a transfer does, which never runs at a feed (Unrun)
 pub nb-set-up-never-submits : (s : Sound) (r : Ring) (stream n len m k : ℕ) (payload store : List ℕ) → nbOf s r stream n len m .reply ≡ Send k
-    → (nbOf s r stream n len m .sound .pending ≡ s .pending) × (nbStore (nbOf s r stream n len m .reply) stream payload store ≡ store) × unrun.Pending (nbOf s r stream n len m .sound .core .stage) stream
+    → (nbOf s r stream n len m .sound .pending ≡ s .pending) × (nbStore (nbOf s r stream n len m .reply) stream payload store ≡ store) × unrun.Pending false (nbOf s r stream n len m .sound .core .stage) stream
 unfolding sent?
 nb-set-up-never-submits s r stream n len m k payload store =
-    nb-ends (λ (u : NbStep). u .reply ≡ Send k → (u .sound .pending ≡ s .pending) × (nbStore (u .reply) stream payload store ≡ store) × unrun.Pending (u .sound .core .stage) stream) s r stream n len m
+    nb-ends (λ (u : NbStep). u .reply ≡ Send k → (u .sound .pending ≡ s .pending) × (nbStore (u .reply) stream payload store ≡ store) × unrun.Pending false (u .sound .core .stage) stream) s r stream n len m
     (λ _ e. absurd (false≢true (ap sent? e))) (λ _ _ _ _. (refl, refl, record { asks = refl; call = refl })) (λ _ e. absurd (false≢true (ap sent? e)))
 
 -- "A submission is stream id and one whole period in one buffer .. It is copied into the lowest free of 16 equal places of a lent store, whose number is its token"
@@ -144,9 +145,9 @@ submit-writes s r stream m k payload store =
 -- ---- what is Busy
 
 module _ (s : Sound) (t : Track) (stream : ℕ) (sound : (consistentOf (s .core) && (ring.consistentOf t && streamOk (s .core) (paramsOf s stream) stream)) ≡ true) where
-  busy-by : {A : Type 0} (lengths clear : Bool) (refuse : Refusal → A) (setUp : A) (go : ℕ → A) → lengths ≡ true → (isIdle (s .core .stage) && (idleOf t && clear)) ≡ false
-      → refuse Busy ≡ xferBy lengths clear s t stream refuse setUp go
-  busy-by lengths clear refuse setUp go long taken = passes _ _ _ long (passes _ _ _ sound (stops _ _ _ taken refl))
+  busy-by : {A : Type 0} (capture lengths clear : Bool) (refuse : Refusal → A) (setUp : A) (go : ℕ → A) → lengths ≡ true → (isIdle (s .core .stage) && (idleOf t && clear)) ≡ false
+      → refuse Busy ≡ xferAs capture lengths clear s t stream refuse setUp go
+  busy-by capture lengths clear refuse setUp go long taken = passes _ _ _ long (passes _ _ _ sound (stops _ _ _ taken refl))
 
 third : (a b c : Bool) → c ≡ false → (a && (b && c)) ≡ false
 third true true c e = e
@@ -166,7 +167,7 @@ some-by p k false e h = refl
 pub some-pending : (p : Pending) (k : ℕ) → pendingAt p k ≡ true → noneIn p ≡ false
 some-pending p k = some-by p k (noneIn p) refl
 
--- "A blocking transfer while any is pending is Busy": a start, and a transfer over a script
+-- "A blocking transfer while any is pending is Busy": a start of either direction, and a transfer over a script
 module _ (s : Sound) (r : Ring) (stream len budget n : ℕ) (sound : (consistentOf (s .core) && (ring.consistentOf (r .track) && streamOk (s .core) (paramsOf s stream) stream)) ≡ true)
     (long : messageSize ≤ n) (k : ℕ) (taken : pendingAt (s .pending) k ≡ true) where
   full : (isIdle (s .core .stage) && (idleOf (r .track) && noneIn (s .pending))) ≡ false
@@ -175,21 +176,27 @@ module _ (s : Sound) (r : Ring) (stream len budget n : ℕ) (sound : (consistent
   pub start-busy-pending : refusedStep s r Busy ≡ startOf s r stream len budget n
   unfolding startOf
   start-busy-pending =
-      busy-by s (r .track) stream sound (leb messageSize n) (noneIn (s .pending)) (refusedStep s r) (setUpStep s r stream)
+      busy-by s (r .track) stream sound false (leb messageSize n) (noneIn (s .pending)) (refusedStep s r) (setUpStep s r stream)
       (λ period. startStep s r (startedOf r (startCall (r .track) stream len period budget))) (le-leb messageSize n long) full
 
   pub script-busy-pending : (script : List ℕ) → eqb (length script % 12) 0 ≡ true → refusedStep s r Busy ≡ xferOf s r stream len budget script n
   unfolding xferOf
   script-busy-pending script whole =
-      busy-by s (r .track) stream sound (leb messageSize n && eqb (length script % 12) 0) (noneIn (s .pending)) (refusedStep s r) (setUpStep s r stream)
+      busy-by s (r .track) stream sound false (leb messageSize n && eqb (length script % 12) 0) (noneIn (s .pending)) (refusedStep s r) (setUpStep s r stream)
       (λ period. doneStep s (transferOf r stream len period budget script)) (rw (le-leb messageSize n long, whole)) full
+
+  pub capture-busy-pending : (periods : ℕ) → refusedStep s r Busy ≡ captureOf s r stream periods len budget n
+  unfolding captureOf
+  capture-busy-pending periods =
+      busy-by s (r .track) stream sound true (leb messageSize n) (noneIn (s .pending)) (refusedStep s r) (setUpStepWith s r (Capture stream))
+      (λ period. startStep s r (startedOf r (captureStart (r .track) stream periods period len budget))) (le-leb messageSize n long) full
 
 -- "as is a submission while a transfer's slots are owed"
 pub nb-busy-owed : (s : Sound) (r : Ring) (stream n len m : ℕ) → (consistentOf (s .core) && (ring.consistentOf (r .track) && streamOk (s .core) (paramsOf s stream) stream)) ≡ true → messageSize ≤ m
     → idleOf (r .track) ≡ false → refusedNb s Busy ≡ nbOf s r stream n len m
 unfolding nbOf
 nb-busy-owed s r stream n len m sound long taken =
-    busy-by s (r .track) stream sound (leb messageSize m) true (refusedNb s) (setUpNb s stream) (submitOf s n len) (le-leb messageSize m long)
+    busy-by s (r .track) stream sound false (leb messageSize m) true (refusedNb s) (setUpNb s stream) (submitOf s n len) (le-leb messageSize m long)
     (second (isIdle (s .core .stage)) (idleOf (r .track)) true taken)
 
 -- ---- they keep the invariant

@@ -11,9 +11,9 @@ use Rattle.tables.specs.Tables.{jacksPlace, pcmsPlace, mapsPlace, copiedIn}
 use Rattle.core.specs.declared.plan.Value.the-variants as value
 use Rattle.core.specs.declared.plan.Look.the-variants as look
 use Rattle.exchange.specs.State.{jacksOf, pcmsOf, withCore}
-use Rattle.exchange.specs.Types.{JackInfo, PcmInfo, Field, Rates, Formats, Channels, Features, Call, SetParams, Command, Remap, Streams, Supported, Xfer, Stage, Idle, JacksAsked, StreamsAsked, MapsAsked, Sent, Core, Value, Look, Effect, Nothing, FillJacks, FillStreams, FillMaps, Store, Move, Sound}
+use Rattle.exchange.specs.Types.{JackInfo, PcmInfo, Field, Rates, Formats, Channels, Features, Call, SetParams, Command, Remap, Streams, Supported, Xfer, Capture, Stage, Idle, JacksAsked, StreamsAsked, MapsAsked, Sent, Core, Value, Look, Effect, Nothing, FillJacks, FillStreams, FillMaps, Store, Move, Sound}
 
--- ---- what a call looks up in a table: a jack's features, the field of a stream's record that is asked for, or where a stream is in its lifecycle
+-- ---- what a call looks up in a table: a jack's features, the field of a stream's record that is asked for, or where a stream is in its lifecycle, for a capture with its direction
 
 abbrev pub fieldOf : Field → PcmInfo → Value
 fieldOf Rates p = value.Number (p .rates)
@@ -29,6 +29,7 @@ lookBy jacks pcms lives (Remap jack association sequence) = look.Jack (getD jack
 lookBy jacks pcms lives (Streams direction) = look.Nothing
 lookBy jacks pcms lives (Supported field stream) = look.Stream (fieldOf field (getD pcms stream (pcmInfoOf [])))
 lookBy jacks pcms lives (Xfer stream) = look.Life (getD lives stream 0)
+lookBy jacks pcms lives (Capture stream) = look.Directed (getD lives stream 0) (getD pcms stream (pcmInfoOf []) .direction)
 
 abbrev pub lookOf : Sound → Call → Look
 lookOf s call = lookBy (jacksOf s) (pcmsOf s) (s .lives) call

@@ -8,36 +8,41 @@ use lib.Dec.{leb, ltb, eqb}
 use lib.ListN.{length}
 use borrow.Author.Tests.{le-leb, ltb-false, eqb-true, eq-eqb, ne-eqb}
 use Rattle.layout.specs.Lent.{messageSize}
+use Rattle.codes.specs.Says.{guard}
 use Rattle.codes.specs.SaysLaws.{guarded-by, passes}
 use Rattle.codes.specs.Life.{takesOf}
 use Rattle.turns.specs.Calls.{idleOf, startCall, startedOf}
+use Rattle.turns.specs.Capture.{captureStart}
 use Rattle.turns.specs.Script.{transferOf}
+use Rattle.core.specs.GateLaws.{faces, faced-by}
 use Rattle.turns.specs.Consistent as ring
 use Rattle.turns.specs.ConsistentLaws.{both}
 use Rattle.pending.specs.Table.{noneIn}
-use Rattle.exchange.specs.State.{paramsOf, lifeOf, withCore}
-use Rattle.core.specs.Consistent.{numbersOk, periodOk, paramsOk, consistentOf, streamOk, heldTo}
+use Rattle.exchange.specs.State.{paramsOf, lifeOf, pcmOf, withCore}
+use Rattle.core.specs.Consistent.{callOk, numbersOk, periodOk, paramsOk, consistentOf, streamOk, heldTo}
 use Rattle.exchange.specs.ConsistentLaws.{both-of, either-of, Paced, period-facts}
 use Rattle.core.specs.Plan.{isIdle}
 use Rattle.exchange.specs.PlanLaws.{idle-is}
-use Rattle.exchange.specs.Xfer.{xferBy, setUpPlan, refusedStep, setUpStep, startStep, doneStep, startOf, xferOf}
+use Rattle.exchange.specs.Xfer.{xferAs, xferBy, setUpWith, setUpPlan, refusedStep, setUpStepWith, setUpStep, startStep, doneStep, startOf, xferOf, captureOf}
 use Rattle.exchange.specs.Kept.{Kept, Playable}
 use Rattle.exchange.specs.FineLaws.{ask-fine}
 use Rattle.exchange.specs.KeptLaws.{step-kept}
-use Rattle.exchange.specs.Types.{Refusal, Track, Ring, Params, Xfer, Idle, Sound, XferStep}
+use Rattle.exchange.specs.Types.{NoStatus, Refusal, InvalidParam, IoError, Track, Ring, Params, Call, Xfer, Capture, Idle, Sound, XferStep}
 
 -- what holds of each end of the checks holds of what they come to
-pub xfer-by : {A : Type 0} (P : A → Type 0) (lengths clear : Bool) (s : Sound) (t : Track) (stream : ℕ) (refuse : Refusal → A) (setUp : A) (go : ℕ → A) →
+pub xfer-as-by : {A : Type 0} (P : A → Type 0) (capture lengths clear : Bool) (s : Sound) (t : Track) (stream : ℕ) (refuse : Refusal → A) (setUp : A) (go : ℕ → A) →
     ((x : Refusal) → P (refuse x)) → (consistentOf (s .core) ≡ true → s .core .stage ≡ Idle → s .core .ready ≡ false → P setUp)
-    → (clear ≡ true → idleOf t ≡ true → P (go (paramsOf s stream .period))) → P (xferBy lengths clear s t stream refuse setUp go)
-xfer-by P lengths clear s t stream refuse setUp go a b g =
+    → (clear ≡ true → idleOf t ≡ true → P (go (paramsOf s stream .period))) → P (xferAs capture lengths clear s t stream refuse setUp go)
+xfer-as-by P capture lengths clear s t stream refuse setUp go a b g =
     guarded-by P _ _ _
     (λ _. guarded-by P _ _ _
     (λ ok. guarded-by P _ _ _
     (λ free. guarded-by P _ _ _
     (λ _. guarded-by P _ _ _
     (λ _. guarded-by P _ _ _
-    (λ _. guarded-by P _ _ _ (λ _. let f = both (idleOf t) clear (both (isIdle (s .core .stage)) (idleOf t && clear) free .1) in g (f .1) (f .0)) (λ _. a _)) (λ _. a _)) (λ _. a _))
+    (λ _. faced-by P capture (pcmOf s stream .direction) (refuse InvalidParam) (guard (not (eqb (paramsOf s stream .known) 0)) (refuse (IoError NoStatus)) (go (paramsOf s stream .period)))
+    (λ _. guarded-by P _ _ _ (λ _. let f = both (idleOf t) clear (both (isIdle (s .core .stage)) (idleOf t && clear) free .1) in g (f .1) (f .0)) (λ _. a _))
+    (a InvalidParam)) (λ _. a _)) (λ _. a _))
     (λ r.
     let e = both (consistentOf (s .core)) (ring.consistentOf t && streamOk (s .core) (paramsOf s stream) stream) ok .0 in
     let i = idle-is (s .core .stage) (both (isIdle (s .core .stage)) (idleOf t && clear) free .0) in
@@ -46,7 +51,21 @@ xfer-by P lengths clear s t stream refuse setUp go a b g =
     (λ _. a _))
     (λ _. a _)
 
--- the same of the start, and of a transfer over a script
+pub xfer-by : {A : Type 0} (P : A → Type 0) (lengths clear : Bool) (s : Sound) (t : Track) (stream : ℕ) (refuse : Refusal → A) (setUp : A) (go : ℕ → A) →
+    ((x : Refusal) → P (refuse x)) → (consistentOf (s .core) ≡ true → s .core .stage ≡ Idle → s .core .ready ≡ false → P setUp)
+    → (clear ≡ true → idleOf t ≡ true → P (go (paramsOf s stream .period))) → P (xferBy lengths clear s t stream refuse setUp go)
+xfer-by P lengths clear s t stream refuse setUp go a b g = xfer-as-by P false lengths clear s t stream refuse setUp go a b g
+
+-- the same of the start of a capture
+pub capture-by : (P : XferStep → Type 0) (s : Sound) (r : Ring) (stream periods lent budget n : ℕ) → ((x : Refusal) → P (refusedStep s r x))
+    → (consistentOf (s .core) ≡ true → s .core .stage ≡ Idle → s .core .ready ≡ false → P (setUpStepWith s r (Capture stream)))
+    → (noneIn (s .pending) ≡ true → P (startStep s r (startedOf r (captureStart (r .track) stream periods (paramsOf s stream .period) lent budget)))) → P (captureOf s r stream periods lent budget n)
+unfolding captureOf
+capture-by P s r stream periods lent budget n a b g =
+    xfer-as-by P true (leb messageSize n) (noneIn (s .pending)) s (r .track) stream (refusedStep s r) (setUpStepWith s r (Capture stream))
+    (λ period. startStep s r (startedOf r (captureStart (r .track) stream periods period lent budget))) a b (λ none _. g none)
+
+-- of the start of a playback, and of one over a script
 module _ (P : XferStep → Type 0) (s : Sound) (r : Ring) (stream len budget n : ℕ) (a : (x : Refusal) → P (refusedStep s r x))
     (b : consistentOf (s .core) ≡ true → s .core .stage ≡ Idle → s .core .ready ≡ false → P (setUpStep s r stream)) where
   pub start-by : P (startStep s r (startedOf r (startCall (r .track) stream len (paramsOf s stream .period) budget))) → P (startOf s r stream len budget n)
@@ -60,8 +79,14 @@ module _ (P : XferStep → Type 0) (s : Sound) (r : Ring) (stream len budget n :
 
 -- ---- they keep the invariant
 
+with-set-up-kept : (s : Sound) (call : Call) → callOk call ≡ true → Kept s → consistentOf (s .core) ≡ true → s .core .stage ≡ Idle → s .core .ready ≡ false → Kept (withCore (setUpWith s call .core) s)
+with-set-up-kept s call ok k e g f = step-kept s (setUpWith s call) [] k (record { counts = refl; guard = refl; ready = λ h. h }) (record { consistent = ask-fine (s .core) call e g f ok; effect = tt })
+
 pub set-up-kept : (s : Sound) (stream : ℕ) → Kept s → consistentOf (s .core) ≡ true → s .core .stage ≡ Idle → s .core .ready ≡ false → Kept (withCore (setUpPlan s stream .core) s)
-set-up-kept s stream k e g f = step-kept s (setUpPlan s stream) [] k (record { counts = refl; guard = refl; ready = λ h. h }) (record { consistent = ask-fine (s .core) (Xfer stream) e g f refl; effect = tt })
+set-up-kept s stream = with-set-up-kept s (Xfer stream) refl
+
+pub capture-kept : (s : Sound) (r : Ring) (stream periods lent budget n : ℕ) → Kept s → Kept (captureOf s r stream periods lent budget n .sound)
+capture-kept s r stream periods lent budget n k = capture-by (λ x. Kept (x .sound)) s r stream periods lent budget n (λ _. k) (with-set-up-kept s (Capture stream) refl k) (λ _. k)
 
 module _ (s : Sound) (r : Ring) (stream len budget n : ℕ) (k : Kept s) where
   pub start-kept : Kept (startOf s r stream len budget n .sound)
@@ -111,16 +136,29 @@ pub held : (guard test : Bool) → (guard ≡ true → test ≡ true) → heldTo
 held true test h = h refl
 held false test h = refl
 
-pub passed-all : {A : Type 0} (lengths : Bool) (s : Sound) (r : Ring) (stream : ℕ) (refuse : Refusal → A) (setUp : A) (go : ℕ → A) → lengths ≡ true → Playable s r stream
-    → go (paramsOf s stream .period) ≡ xferBy lengths (noneIn (s .pending)) s (r .track) stream refuse setUp go
-passed-all lengths s r stream refuse setUp go long o =
+pub passed-as : {A : Type 0} (capture lengths : Bool) (s : Sound) (r : Ring) (stream : ℕ) (refuse : Refusal → A) (setUp : A) (go : ℕ → A) → lengths ≡ true → Playable s r stream
+    → heldTo capture (eqb (pcmOf s stream .direction) 1) ≡ true → go (paramsOf s stream .period) ≡ xferAs capture lengths (noneIn (s .pending)) s (r .track) stream refuse setUp go
+passed-as capture lengths s r stream refuse setUp go long o turned =
     let k = o .state in
     let fine = stream-fine s stream k in
     let ok = both-of (consistentOf (s .core)) (ring.consistentOf (r .track) && streamOk (s .core) (paramsOf s stream) stream) (k .consistent) (both-of (ring.consistentOf (r .track)) (streamOk (s .core) (paramsOf s stream) stream) (o .ring) fine) in
     let idle : idleOf (r .track) ≡ true = both-of (not (r .track .running)) (eqb (r .track .inflight) 0) (ap not (o .still)) (eq-eqb _ _ (o .empty)) in
     let free : (isIdle (s .core .stage) && (idleOf (r .track) && noneIn (s .pending))) ≡ true = both-of (isIdle (s .core .stage)) (idleOf (r .track) && noneIn (s .pending)) (ap isIdle (o .closed)) (both-of (idleOf (r .track)) (noneIn (s .pending)) idle (o .clear)) in
     let known : not (eqb (paramsOf s stream .known) 0) ≡ true = ap not (ne-eqb _ _ (o .set)) in
-    passes _ _ _ long (passes _ _ _ ok (passes _ _ _ free (passes _ _ _ (set-ready s k stream (o .set)) (passes _ _ _ (set-range s k stream (o .set)) (passes _ _ _ (held (s .core .guard) (takesOf (lifeOf s stream)) (o .live)) (passes _ _ _ known refl))))))
+    passes _ _ _ long (passes _ _ _ ok (passes _ _ _ free (passes _ _ _ (set-ready s k stream (o .set)) (passes _ _ _ (set-range s k stream (o .set)) (passes _ _ _ (held (s .core .guard) (takesOf (lifeOf s stream)) (o .live))
+    (faces capture (pcmOf s stream .direction) (refuse InvalidParam) (guard (not (eqb (paramsOf s stream .known) 0)) (refuse (IoError NoStatus)) (go (paramsOf s stream .period))) turned (passes _ _ _ known refl)))))))
+
+pub passed-all : {A : Type 0} (lengths : Bool) (s : Sound) (r : Ring) (stream : ℕ) (refuse : Refusal → A) (setUp : A) (go : ℕ → A) → lengths ≡ true → Playable s r stream
+    → go (paramsOf s stream .period) ≡ xferBy lengths (noneIn (s .pending)) s (r .track) stream refuse setUp go
+passed-all lengths s r stream refuse setUp go long o = passed-as false lengths s r stream refuse setUp go long o refl
+
+-- and those of a capture, where its stream is an input
+pub capture-is : (s : Sound) (r : Ring) (stream periods lent budget n : ℕ) → Playable s r stream → pcmOf s stream .direction ≡ 1 → messageSize ≤ n
+    → startStep s r (startedOf r (captureStart (r .track) stream periods (paramsOf s stream .period) lent budget)) ≡ captureOf s r stream periods lent budget n
+unfolding captureOf
+capture-is s r stream periods lent budget n o input long =
+    passed-as true (leb messageSize n) s r stream (refusedStep s r) (setUpStepWith s r (Capture stream)) (λ period. startStep s r (startedOf r (captureStart (r .track) stream periods period lent budget)))
+    (le-leb messageSize n long) o (eq-eqb _ _ input)
 
 module _ (s : Sound) (r : Ring) (stream len budget n : ℕ) (o : Playable s r stream) (long : messageSize ≤ n) where
   pub start-is : startStep s r (startedOf r (startCall (r .track) stream len (paramsOf s stream .period) budget)) ≡ startOf s r stream len budget n

@@ -7,7 +7,7 @@ ghost use Rattle.layout.specs.Layout.{size};
 ghost use Rattle.records.specs.Records.{jackInfoOf, pcmInfo, pcmInfoOf};
 ghost use Rattle.tables.specs.Tables.{pcmsPlace, jacksIn, pcmsIn, copiedIn};
 ghost use Rattle.core.specs.State.{unset};
-ghost use Rattle.exchange.specs.State.{paramsOf, lifeOf};
+ghost use Rattle.exchange.specs.State.{paramsOf, lifeOf, pcmOf};
 ghost use Rattle.exchange.specs.Tables.{fieldOf, lookBy, pendingBy, moved, soundAfter};
 use crate::fields;
 use crate::state::Sound;
@@ -81,7 +81,7 @@ fn stream_field(tables: &[u8], stream: u32, field: Field) -> Value
     field_at(tables, stream, STREAMS + i * PcmInfo::SIZE, field)
 }
 
-// The direction of a stream.
+// The direction of a stream, in the bytes of all tables.
 pub fn direction_at(tables: &[u8], stream: u32) -> u8
     ensures { λ r. ⌜ r ≡ getD (pcmsIn (now (tables .entry))) stream (pcmInfoOf []) .direction ⌝ }
 {
@@ -119,6 +119,10 @@ pub fn look(tables: &[u8], lives: &[u8], call: Call) -> Look
         Call::Streams { direction: _ } => Look::Nothing,
         Call::Supported { field, stream } => Look::Stream(stream_field(tables, stream, field)),
         Call::Xfer { stream } => Look::Life(life_at(lives, stream)),
+        Call::Capture { stream } => Look::Directed {
+            life: life_at(lives, stream),
+            direction: direction_at(tables, stream),
+        },
     }
 }
 
@@ -141,6 +145,14 @@ pub(crate) fn life_of(s: Sound, stream: u32) -> u8
 {
     let lives = s.lives;
     life_at(&lives, stream)
+}
+
+// The direction of a stream.
+pub(crate) fn direction_of(s: Sound, stream: u32) -> u8
+    ensures { λ r. ⌜ r ≡ pcmOf s stream .direction ⌝ }
+{
+    let tables = s.tables;
+    direction_at(&tables, stream)
 }
 
 fn params_at(params: [Params; 127], stream: u32) -> Params

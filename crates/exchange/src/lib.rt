@@ -40,5 +40,6 @@ pub use state::Configured;
 pub use state::Sound;
 pub use xfer::XferReply;
 pub use xfer::XferStep;
+pub use xfer::pcm_capture_start;
 pub use xfer::pcm_xfer;
 pub use xfer::pcm_xfer_start;

@@ -12,6 +12,7 @@ use crate::state::count_told;
 use crate::xfer::checked;
 use crate::xfer::set_up;
 use codes::Refusal;
+use core::Call;
 use core::Gate;
 use core::MESSAGE;
 use core::consistent;
@@ -92,7 +93,7 @@ fn set_up_nb(s: Sound, ring: Ring, stream: u32, message: &mut [u8]) -> NbStep
     requires { ⌜ messageSize ≤ length (now message) ⌝ }
     ensures { λ r. ⌜ (r ≡ setUpNb s stream) × (now (message .exit) ≡ nbMessage (setUpNb s stream .reply) s stream (now (message .entry))) ⌝ }
 {
-    let x = set_up(s, ring, stream, message);
+    let x = set_up(s, ring, Call::Xfer { stream }, message);
     let sound = x.sound;
     NbStep {
         sound,
@@ -111,7 +112,7 @@ pub fn pcm_xfer_nb(
 ) -> NbStep
     ensures { λ r. ⌜ Submits (nbOf s ring stream (length (now (payload .entry))) (length (now (store .entry))) (length (now (message .entry)))) (nbSays s ring stream (length (now (payload .entry))) (length (now (store .entry))) (length (now (message .entry)))) s stream (now (payload .entry)) (now (store .entry)) (now (store .exit)) (now (message .entry)) (now (message .exit)) r ⌝ }
 {
-    let outcome = checked(MESSAGE <= message.len(), true, s, ring.track, stream);
+    let outcome = checked(false, MESSAGE <= message.len(), true, s, ring.track, stream);
     match outcome {
         Gate::Shut(refusal) => refused_nb(s, refusal),
         Gate::SetUp => set_up_nb(s, ring, stream, message),

@@ -1,11 +1,12 @@
-// The start of a transfer, and a transfer over a whole script.
+// The start of a transfer, of a playback or a capture, and a playback over a whole script.
 ghost use mathlib.Core.Path.{_≡_};
 ghost use Prim.Native.Nat.{_≤_};
 ghost use lib.ListN.{length};
 ghost use Rattle.layout.specs.Lent.{messageSize};
 ghost use Rattle.core.specs.Reply.{messageAfter};
 ghost use Rattle.core.specs.declared.gate.Gate.the-variants.{Shut, SetUp, Open};
-ghost use Rattle.exchange.specs.Xfer.{xferBy, setUpPlan, refusedStep, setUpStep, startStep, doneStep, startOf, xferOf, startSays, xferSays, Transfers};
+ghost use Rattle.exchange.specs.Xfer.{xferAs, setUpWith, refusedStep, setUpStepWith, startStep, doneStep, startOf, xferOf, captureOf, startSays, xferSays, captureSays, Transfers};
+use crate::effect::direction_of;
 use crate::effect::life_of;
 use crate::effect::params_of;
 use crate::state::Sound;
@@ -25,6 +26,7 @@ use turns::Said;
 use turns::Track;
 use turns::Transferred;
 use turns::Turned;
+use turns::capture_start;
 use turns::start;
 use turns::transfer;
 
@@ -41,12 +43,31 @@ pub struct XferStep {
     pub turns: u64,
 }
 
-pub(crate) fn checked(lengths: bool, clear: bool, s: Sound, t: Track, stream: u32) -> Gate
-    ensures { λ r. ⌜ r ≡ xferBy lengths clear s t stream Shut SetUp Open ⌝ }
+// The checks of a capture, or of any other transfer.
+pub(crate) fn checked(
+    capture: bool,
+    lengths: bool,
+    clear: bool,
+    s: Sound,
+    t: Track,
+    stream: u32,
+) -> Gate
+    ensures { λ r. ⌜ r ≡ xferAs capture lengths clear s t stream Shut SetUp Open ⌝ }
 {
     let params = params_of(s, stream);
     let life = life_of(s, stream);
-    xfer_gate(lengths, clear, s.core, params, life, t, stream)
+    let direction = direction_of(s, stream);
+    xfer_gate(
+        capture,
+        lengths,
+        clear,
+        s.core,
+        params,
+        life,
+        direction,
+        t,
+        stream,
+    )
 }
 
 fn refused(s: Sound, ring: Ring, refusal: Refusal) -> XferStep
@@ -61,11 +82,11 @@ fn refused(s: Sound, ring: Ring, refusal: Refusal) -> XferStep
 }
 
 // The transfer waits for set-up, and its first query goes out.
-pub(crate) fn set_up(s: Sound, ring: Ring, stream: u32, message: &mut [u8]) -> XferStep
+pub(crate) fn set_up(s: Sound, ring: Ring, waiting: Call, message: &mut [u8]) -> XferStep
     requires { ⌜ messageSize ≤ length (now message) ⌝ }
-    ensures { λ r. ⌜ (r ≡ setUpStep s ring stream) × (now (message .exit) ≡ messageAfter (setUpPlan s stream .say) (now (message .entry))) ⌝ }
+    ensures { λ r. ⌜ (r ≡ setUpStepWith s ring waiting) × (now (message .exit) ≡ messageAfter (setUpWith s waiting .say) (now (message .entry))) ⌝ }
 {
-    let plan = ask_jacks(s.core, Call::Xfer { stream });
+    let plan = ask_jacks(s.core, waiting);
     let core = plan.core;
     let say = plan.say;
     tell(say, message);
@@ -115,12 +136,39 @@ pub fn pcm_xfer_start(
     ensures { λ r. ⌜ Transfers (startOf s ring stream (length (now (frames .entry))) budget (length (now (message .entry)))) (startSays s ring stream (length (now (frames .entry))) budget (length (now (message .entry)))) s stream (now (message .entry)) (now (message .exit)) r ⌝ }
 {
     let clear = is_none(s.pending);
-    let outcome = checked(MESSAGE <= message.len(), clear, s, ring.track, stream);
+    let long = MESSAGE <= message.len();
+    let outcome = checked(false, long, clear, s, ring.track, stream);
     match outcome {
         Gate::Shut(refusal) => refused(s, ring, refusal),
-        Gate::SetUp => set_up(s, ring, stream, message),
+        Gate::SetUp => set_up(s, ring, Call::Xfer { stream }, message),
         Gate::Open(period) => {
             let t = start(ring, stream, frames, period as usize, budget);
+            started(s, ring, t)
+        }
+    }
+}
+
+// The start of a capture of so many periods into a recording: it goes on, is refused, or begins
+// set-up.
+pub fn pcm_capture_start(
+    s: Sound,
+    ring: Ring,
+    stream: u32,
+    periods: usize,
+    recording: &[u8],
+    budget: u64,
+    message: &mut [u8],
+) -> XferStep
+    ensures { λ r. ⌜ Transfers (captureOf s ring stream periods (length (now (recording .entry))) budget (length (now (message .entry)))) (captureSays s ring stream periods (length (now (recording .entry))) budget (length (now (message .entry)))) s stream (now (message .entry)) (now (message .exit)) r ⌝ }
+{
+    let clear = is_none(s.pending);
+    let long = MESSAGE <= message.len();
+    let outcome = checked(true, long, clear, s, ring.track, stream);
+    match outcome {
+        Gate::Shut(refusal) => refused(s, ring, refusal),
+        Gate::SetUp => set_up(s, ring, Call::Capture { stream }, message),
+        Gate::Open(period) => {
+            let t = capture_start(ring, stream, periods, period as usize, recording, budget);
             started(s, ring, t)
         }
     }
@@ -141,10 +189,10 @@ pub fn pcm_xfer(
     let whole = script.len() % Reading::SIZE == 0;
     let lengths = both(MESSAGE <= message.len(), whole);
     let clear = is_none(s.pending);
-    let outcome = checked(lengths, clear, s, ring.track, stream);
+    let outcome = checked(false, lengths, clear, s, ring.track, stream);
     match outcome {
         Gate::Shut(refusal) => refused(s, ring, refusal),
-        Gate::SetUp => set_up(s, ring, stream, message),
+        Gate::SetUp => set_up(s, ring, Call::Xfer { stream }, message),
         Gate::Open(period) => {
             let d = transfer(ring, stream, frames, period as usize, budget, script);
             ended(s, d)

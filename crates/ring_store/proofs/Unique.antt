@@ -7,18 +7,23 @@ use Prim.Native.Nat.{ℕ}
 use denote.Ref.{now}
 use Rattle.layout.specs.Lent.{Made, made, Shown, shown}
 use Rattle.codes.specs.SaysLaws.{same}
+use Rattle.ring_store.specs.Calls.{Caught, caught}
 use Rattle.ring_store.proofs.size.Reads as size
 use Rattle.ring_store.proofs.store.track.Reads as track
 use Rattle.ring_store.proofs.calls.new.Reads as new
 use Rattle.ring_store.proofs.calls.turn.Reads as turn
 use Rattle.ring_store.proofs.calls.drain_turn.Reads as drain-turn
 use Rattle.ring_store.proofs.calls.start.Reads as start
+use Rattle.ring_store.proofs.calls.capture_turn.Reads as capture-turn
+use Rattle.ring_store.proofs.calls.capture_start.Reads as capture-start
 use Rattle.ring_store.proofs.reads.offered.Reads as offered
+use Rattle.ring_store.proofs.reads.capture_offered.Reads as capture-offered
 use Rattle.ring_store.proofs.reads.running.Reads as running
 use Rattle.ring_store.proofs.reads.in_flight.Reads as in-flight
 use Rattle.ring_store.proofs.reads.free_descriptors.Reads as free-descriptors
 use Rattle.ring_store.proofs.reads.turns_run.Reads as turns-run
 use Rattle.ring_store.proofs.reads.stream.Reads as stream
+use Rattle.ring_store.proofs.reads.kept.Reads as kept
 use Rattle.ring_store.proofs.reads.carried.Reads as carried
 use Rattle.ring_store.proofs.reads.oldest.Reads as oldest
 
@@ -28,6 +33,9 @@ changes p q = (ap (λ (l : Made). l .answer) (same p q), ap (λ (l : Made). l .s
 
 tells : {m n : ℕ} {x y : List ℕ} {l : Shown} → shown m x ≡ l → shown n y ≡ l → (m ≡ n) × (x ≡ y)
 tells p q = (ap (λ (l : Shown). l .answer) (same p q), ap (λ (l : Shown). l .result) (same p q))
+
+catches : {m n : ℕ} {x y v w : List ℕ} {l : Caught} → caught m x v ≡ l → caught n y w ≡ l → (m ≡ n) × (x ≡ y) × (v ≡ w)
+catches p q = let e = same p q in (ap (λ (l : Caught). l .answer) e, ap (λ (l : Caught). l .ring) e, ap (λ (l : Caught). l .recording) e)
 
 pub size-one : (κs : _) (a : _) (r₁ r₂ : _) (e₁ e₂ : _) → size.Post κs a r₁ e₁ → size.Post κs a r₂ e₂ → r₁ ≡ r₂
 size-one κs a r₁ r₂ e₁ e₂ p q = same p q
@@ -47,8 +55,17 @@ drain-turn-one κs a r₁ r₂ e₁ e₂ p q = changes p q
 pub start-one : (κs : _) (a : _) (r₁ r₂ : _) (e₁ e₂ : _) → start.Post κs a r₁ e₁ → start.Post κs a r₂ e₂ → (r₁ ≡ r₂) × (now (e₁ .0) ≡ now (e₂ .0))
 start-one κs a r₁ r₂ e₁ e₂ p q = changes p q
 
+pub capture-turn-one : (κs : _) (a : _) (r₁ r₂ : _) (e₁ e₂ : _) → capture-turn.Post κs a r₁ e₁ → capture-turn.Post κs a r₂ e₂ → (r₁ ≡ r₂) × (now (e₁ .0) ≡ now (e₂ .0)) × (now (e₁ .1 .0) ≡ now (e₂ .1 .0))
+capture-turn-one κs a r₁ r₂ e₁ e₂ p q = catches p q
+
+pub capture-start-one : (κs : _) (a : _) (r₁ r₂ : _) (e₁ e₂ : _) → capture-start.Post κs a r₁ e₁ → capture-start.Post κs a r₂ e₂ → (r₁ ≡ r₂) × (now (e₁ .0) ≡ now (e₂ .0))
+capture-start-one κs a r₁ r₂ e₁ e₂ p q = changes p q
+
 pub offered-one : (κs : _) (a : _) (r₁ r₂ : _) (e₁ e₂ : _) → offered.Post κs a r₁ e₁ → offered.Post κs a r₂ e₂ → (r₁ ≡ r₂) × (now (e₁ .1 .1 .0) ≡ now (e₂ .1 .1 .0))
 offered-one κs a r₁ r₂ e₁ e₂ p q = tells p q
+
+pub capture-offered-one : (κs : _) (a : _) (r₁ r₂ : _) (e₁ e₂ : _) → capture-offered.Post κs a r₁ e₁ → capture-offered.Post κs a r₂ e₂ → (r₁ ≡ r₂) × (now (e₁ .1 .1 .0) ≡ now (e₂ .1 .1 .0))
+capture-offered-one κs a r₁ r₂ e₁ e₂ p q = tells p q
 
 pub running-one : (κs : _) (a : _) (r₁ r₂ : _) (e₁ e₂ : _) → running.Post κs a r₁ e₁ → running.Post κs a r₂ e₂ → (r₁ ≡ r₂) × (now (e₁ .1 .0) ≡ now (e₂ .1 .0))
 running-one κs a r₁ r₂ e₁ e₂ p q = tells p q
@@ -64,6 +81,9 @@ turns-run-one κs a r₁ r₂ e₁ e₂ p q = tells p q
 
 pub stream-one : (κs : _) (a : _) (r₁ r₂ : _) (e₁ e₂ : _) → stream.Post κs a r₁ e₁ → stream.Post κs a r₂ e₂ → (r₁ ≡ r₂) × (now (e₁ .1 .0) ≡ now (e₂ .1 .0))
 stream-one κs a r₁ r₂ e₁ e₂ p q = tells p q
+
+pub kept-one : (κs : _) (a : _) (r₁ r₂ : _) (e₁ e₂ : _) → kept.Post κs a r₁ e₁ → kept.Post κs a r₂ e₂ → (r₁ ≡ r₂) × (now (e₁ .1 .0) ≡ now (e₂ .1 .0))
+kept-one κs a r₁ r₂ e₁ e₂ p q = tells p q
 
 pub carried-one : (κs : _) (a : _) (r₁ r₂ : _) (e₁ e₂ : _) → carried.Post κs a r₁ e₁ → carried.Post κs a r₂ e₂ → (r₁ ≡ r₂) × (now (e₁ .1 .1 .0) ≡ now (e₂ .1 .1 .0))
 carried-one κs a r₁ r₂ e₁ e₂ p q = tells p q

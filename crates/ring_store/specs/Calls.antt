@@ -14,11 +14,12 @@ use Rattle.codes.specs.Says.{Says, says, pick, guard}
 use Rattle.codes.specs.Answers.{refusalWord}
 use Rattle.turns.specs.Ring.{direct, newRing, saidWord, isRefused}
 use Rattle.turns.specs.Reads.{readOf}
-use Rattle.turns.specs.Calls.{startCall, startedOf, offerCall, saysSent}
+use Rattle.turns.specs.Calls.{startCall, startedOf, turnedOf, offerCall, saysSent}
+use Rattle.turns.specs.Capture.{catchOf, captureCall, recordingAfter, captureStart, captureOffer}
 use Rattle.turns.specs.InPlace.{turnWords, drainWords}
 use Rattle.turns.specs.declared.calls.Offer.{Offer}
 use Rattle.turns.specs.declared.calls.Offer.the-variants as offer
-use Rattle.ring_store.specs.Types.{Track, Turned}
+use Rattle.ring_store.specs.Types.{Track, Turned, Sent, Nothing, Period, Step}
 use Rattle.ring_store.specs.Store.{ringSize, trackAt, ringOf, ringBytes}
 
 -- ---- calls that change the ring
@@ -45,6 +46,32 @@ drainIn s kind slot status = changed s (drainWords (ringOf s) kind slot status)
 unfoldable pub startIn : List ℕ → ℕ → ℕ → ℕ → ℕ → Made
 startIn s stream len period budget = changed s (startedOf (ringOf s) (startCall (trackAt s) stream len period budget))
 
+-- ---- the calls of a capture (2026-09)
+
+-- what a turn answers, and what it leaves of the ring's store and of the recording
+pub record Caught : Type 0 where
+  pub answer : ℕ
+  pub ring : List ℕ
+  pub recording : List ℕ
+
+abbrev pub caught : ℕ → List ℕ → List ℕ → Caught
+caught answer ring recording = record { answer = answer; ring = ring; recording = recording }
+
+abbrev pub caughtBy : Made → List ℕ → Caught
+caughtBy l recording = caught (l .answer) (l .store) recording
+
+abbrev pub captureStep : List ℕ → ℕ → ℕ → ℕ → ℕ → List ℕ → Step
+captureStep s len kind slot written bytes = captureCall (trackAt s) len (catchOf kind slot written bytes)
+
+unfoldable pub captureIn : List ℕ → List ℕ → ℕ → ℕ → ℕ → List ℕ → Caught
+captureIn s recording kind slot written bytes =
+    let x = captureStep s (length recording) kind slot written bytes in
+    guard (leb ringSize (length s)) (caught 10 s recording)
+    (caughtBy (leftBy s (turnedOf (ringOf s) x)) (recordingAfter (trackAt s) x bytes recording))
+
+unfoldable pub captureStartIn : List ℕ → ℕ → ℕ → ℕ → ℕ → ℕ → Made
+captureStartIn s stream periods period len budget = changed s (startedOf (ringOf s) (captureStart (trackAt s) stream periods period len budget))
+
 -- ---- calls that only look: their values stand in the result slice, 8 bytes each
 
 abbrev pub words : List ℕ → List ℕ
@@ -60,12 +87,20 @@ toldIn s r x =
     (shown (x .number) (sets r 0 (words (x .values))))
 
 -- what an offer says here: a refusal by its word
-abbrev pub offerWord : Offer → Says
-offerWord (offer.Is sent) = saysSent sent
-offerWord (offer.Refused x) = says (refusalWord x) []
+abbrev pub offerWord : (Sent → Says) → Offer → Says
+offerWord told (offer.Is sent) = told sent
+offerWord told (offer.Refused x) = says (refusalWord x) []
 
 abbrev pub offerIn : List ℕ → ℕ → List ℕ → Shown
-offerIn s len r = toldIn s r (offerWord (offerCall (trackAt s) len))
+offerIn s len r = toldIn s r (offerWord saysSent (offerCall (trackAt s) len))
+
+-- what a capture submits has no offset: 1, slot and length; or three zeros
+abbrev pub saysRoom : Sent → Says
+saysRoom Nothing = says 0 (0 ∷ 0 ∷ 0 ∷ [])
+saysRoom (Period slot offset len) = says 0 (1 ∷ slot ∷ len ∷ [])
+
+abbrev pub captureOfferIn : List ℕ → ℕ → List ℕ → Shown
+captureOfferIn s len r = toldIn s r (offerWord saysRoom (captureOffer (trackAt s) len))
 
 -- the oldest in flight: 1 and its slot, or 0 twice
 abbrev pub oldestSays : Track → Says

@@ -15,17 +15,18 @@ use Rattle.codes.specs.SaysLaws.{picks, skips, passes, stops}
 use Rattle.turns.specs.Ring.{direct, newTrack, saidWord, isRefused}
 use Rattle.turns.specs.Calls.{refusedOf, turnCall, turnedOf}
 use Rattle.turns.specs.CallLaws.{no-transfer}
+use Rattle.turns.specs.Capture.{catchOf, captureCall, recordingAfter}
 use Rattle.ring_store.specs.Types.{Track, Step, Reading}
 use Rattle.codes.specs.declared.answers.Refusal.the-variants.{InvalidParam}
-use Rattle.ring_store.specs.Store.{ringSize, ringOf, trackBytes}
-use Rattle.ring_store.specs.Calls.{leftBy, changed, newIn}
+use Rattle.ring_store.specs.Store.{ringSize, trackAt, ringOf}
+use Rattle.ring_store.specs.Calls.{leftBy, changed, newIn, caught, caughtBy, captureIn}
 use Rattle.ring_store.specs.StoreLaws.{sent-over, new-over}
-use Rattle.ring_store.specs.Private.{sentOver, blankOver, stepOver}
+use Rattle.ring_store.specs.Private.{trackOver, sentOver, blankOver, stepOver}
 
 -- what a step leaves, by place: nothing where it was refused, else the track and what was sent
 module _ (s : List ℕ) (x : Step) (n : ℕ) (e : n ≡ saidWord (x .said)) where
   abbrev over : List ℕ
-  over = sentOver (sets s 0 (trackBytes (x .track))) (x .sent)
+  over = sentOver (trackOver s (x .track)) (x .sent)
 
   pub refused-over : isRefused (x .said) ≡ true → made n s ≡ stepOver s x
   refused-over h = λ j. made (e j) (sym (picks (isRefused (x .said)) s over h) j)
@@ -51,7 +52,25 @@ stepped s x y b h e p = p ∙ step-over s x b ∙ ap (λ (z : Step). leftBy s (t
 
 pub turn-idle : (t : Track) (len : ℕ) (reading : Reading) → t .running ≡ false → refusedOf InvalidParam t ≡ turnCall t len reading
 unfolding turnCall
-turn-idle t len reading e = no-transfer t len _ _ _ e
+turn-idle t len reading e = no-transfer false t len _ _ _ e
 
-pub made-new : (s : List ℕ) (t : Track) (l : List ℕ) → ringSize ≤ length s → t ≡ newTrack direct → l ≡ blankOver (sets s 0 (trackBytes t)) → made 0 l ≡ newIn s
-made-new s t l h e p = ap (made 0) (p ∙ ap (λ (u : Track). blankOver (sets s 0 (trackBytes u))) e ∙ new-over s) ∙ long s _ h
+pub made-new : (s : List ℕ) (t : Track) (l : List ℕ) → Bytes s → ringSize ≤ length s → t ≡ newTrack direct → l ≡ blankOver (trackOver s t) → made 0 l ≡ newIn s
+made-new s t l b h e p = ap (made 0) (p ∙ ap (λ (u : Track). blankOver (trackOver s u)) e ∙ new-over s b) ∙ long s _ h
+
+-- ---- and of a turn of a capture
+
+module _ (s recording : List ℕ) (kind slot written : ℕ) (bytes : List ℕ) where
+  pub caught-short : length s < ringSize → caught 10 s recording ≡ captureIn s recording kind slot written bytes
+  unfolding captureIn
+  caught-short h = stops _ _ _ (lt-leb ringSize (length s) h) refl
+
+  -- x is the step that the call took, on the track t; l and n are what it left
+  pub caught-stepped : (t : Track) (x : Step) {l : Made} {n : List ℕ} → Bytes s → ringSize ≤ length s → t ≡ trackAt s → x ≡ captureCall t (length recording) (catchOf kind slot written bytes)
+      → l ≡ stepOver s x → n ≡ recordingAfter t x bytes recording → caughtBy l n ≡ captureIn s recording kind slot written bytes
+  unfolding captureIn
+  caught-stepped t x b h e p q m =
+      let c = catchOf kind slot written bytes in
+      let y : x ≡ captureCall (trackAt s) (length recording) c = p ∙ ap (λ (u : Track). captureCall u (length recording) c) e in
+      (λ i. caughtBy ((q ∙ step-over s x b) i) ((m ∙ ap (λ (u : Track). recordingAfter u x bytes recording) e) i))
+      ∙ ap (λ (z : Step). caughtBy (leftBy s (turnedOf (ringOf s) z)) (recordingAfter (trackAt s) z bytes recording)) y
+      ∙ passes _ _ _ (le-leb ringSize (length s) h) refl

@@ -3,10 +3,10 @@
 use mathlib.Core.Path.{_≡_, refl, sym, ap, _∙_, subst}
 use mathlib.Core.Bool.{Bool, true, false}
 use mathlib.Core.List.{List}
-use Prim.Native.Nat.{ℕ, zero, suc, _≤_, _<_, _^_}
+use Prim.Native.Nat.{ℕ, zero, suc, _*_, _≤_, _<_, _^_}
 use native.Mathlib.Omega.{arith}
 use lib.Dec.{leb}
-use borrow.Author.Tests.{leb-false}
+use borrow.Author.Tests.{le-leb, leb-false}
 use lib.ListN.{length, replicate}
 use lib.Seq.{sets}
 use Rattle.layout.specs.Bytes.{Bytes}
@@ -16,7 +16,7 @@ use Rattle.layout.specs.Rows.{rowsAt}
 use Rattle.layout.specs.AllLaws.{set-ok, rows-ok}
 use Rattle.layout.specs.LayoutLaws.{read-fits}
 use Rattle.codes.specs.Says.{pick}
-use Rattle.codes.specs.SaysLaws.{guarded-by}
+use Rattle.codes.specs.SaysLaws.{passes, guarded-by}
 use Rattle.turns.specs.Ring.{blankSlot, direct, newRing, isRefused}
 use Rattle.turns.specs.Rules.{chooseOf, submit, sentOf, release, act, turnOf, countedOf}
 use Rattle.turns.specs.CaseLaws.{Plain, hear-cases, counted-cases}
@@ -24,18 +24,20 @@ use Rattle.turns.specs.Consistent.{consistentOf}
 use Rattle.turns.specs.ConsistentLaws.{Consistent, consistent-facts, few}
 use Rattle.turns.specs.KeepLaws.{fixed, turn-plain, turn-keeps, turn-after}
 use Rattle.turns.specs.RefusalLaws.{Untouched, turn-refused, drain-refused, start-refused, ring-untouched}
-use Rattle.turns.specs.Calls.{turnCall, drained, drainCall, startCall, carry, ringAfter, startedOf}
+use Rattle.turns.specs.Calls.{turnCall, drained, drainCall, begunAs, startCall, carry, ringAfter, turnedOf, startedOf}
+use Rattle.turns.specs.Capture.{catchOf, caughtOf, captureCall, recordingAfter, captureStart}
 use Rattle.turns.specs.InPlace.{turnWords, drainWords}
 use Rattle.turns.specs.Script.{readingOf}
-use Rattle.ring_store.specs.Types.{Slot, Track, Sent, Nothing, Period, Said, Going, Done, Ended, Refused, Step, Reading, Quiet, Completed, Choice, Submit, Finish, Wait}
-use Rattle.ring_store.specs.Store.{trackSize, slotSize, ringSize, trackRow, trackValues, trackAt, slotRow, slotAt, ringOf, ringBytes}
-use Rattle.ring_store.specs.Calls.{newIn, turnIn, drainIn, startIn}
+use Rattle.ring_store.specs.Types.{Slot, Track, Sent, Nothing, Period, Said, Going, Done, Ended, Refused, Step, Reading, Quiet, Completed, Choice, Submit, Finish, Wait, Outcome, Catch}
+use Rattle.ring_store.specs.Store.{trackSize, slotSize, sidePlace, ringSize, trackRow, trackValues, sideRow, sideValues, trackAt, slotRow, slotAt, ringOf, ringBytes}
+use Rattle.ring_store.specs.Calls.{newIn, turnIn, drainIn, startIn, Caught, captureStep, captureIn, captureStartIn}
 use Rattle.ring_store.specs.StoreLaws.{slots-long}
-use Rattle.ring_store.specs.RoundLaws.{SlotFits, SlotsFit, Fits, track-values, store-back}
-use Rattle.ring_store.specs.KeepLaws.{turnStep, drainStep, startStep, leaves, turn-leaves, drain-leaves, start-leaves, carry-long, whole-consistent}
+use Rattle.ring_store.specs.RoundLaws.{SlotFits, SlotsFit, Fits, track-values, side-values, store-back}
+use Rattle.ring_store.specs.KeepLaws.{turnStep, drainStep, startStep, captureStartStep, leaves, turn-leaves, drain-leaves, start-leaves, capture-leaves, capture-start-leaves, carry-long, whole-consistent}
+use Rattle.ring_store.specs.AdmitLaws.{admitted, readied, captured, capture-started, capture-refused, capture-start-refused, kept-within}
 
 abbrev pub TrackFits : Track → Type 0
-TrackFits t = Fit trackRow (trackValues t)
+TrackFits t = Fit trackRow (trackValues t) × Fit sideRow (sideValues t)
 
 abbrev pub SentFits : Sent → Type 0
 SentFits Nothing = Unit {0}
@@ -48,7 +50,9 @@ unfolding slotAt
 slots-fit o n s b = rows-ok SlotFits slotAt slotSize (λ o s b. read-fits o slotRow s b) o n s b
 
 track-fits : (s : List ℕ) → Bytes s → consistentOf (trackAt s) ≡ true → TrackFits (trackAt s)
-track-fits s b c = subst (Fit trackRow) (sym (track-values s (whole-consistent s c))) (read-fits 0 trackRow s b)
+track-fits s b c =
+    let w = whole-consistent s c in
+    (subst (Fit trackRow) (sym (track-values s w)) (read-fits 0 trackRow s b), subst (Fit sideRow) (sym (side-values s w)) (read-fits sidePlace sideRow s b))
 
 -- ---- a step that fits is held
 
@@ -63,7 +67,7 @@ StepFits x = Plain (x .said) → TrackFits (x .track) × SentFits (x .sent)
 module _ (s : List ℕ) (x : Step) (b : Bytes s) (h : ringSize ≤ length s) (f : StepFits x) (u : Untouched (trackAt s) x) where
   after-fits : Plain (x .said) → Fits (ringAfter (ringOf s) x)
   unfolding ringOf
-  after-fits p = record { track = f p .0; slots = carry-fits (ringOf s .slots) (x .sent) (slots-fit trackSize 32 s b) (f p .1); long = carry-long (ringOf s .slots) (x .sent) (slots-long s) }
+  after-fits p = record { track = f p .0 .0; side = f p .0 .1; slots = carry-fits (ringOf s .slots) (x .sent) (slots-fit trackSize 32 s b) (f p .1); long = carry-long (ringOf s .slots) (x .sent) (slots-long s) }
 
   unless-holds : (said : Said) → x .said ≡ said → ringOf (pick (isRefused said) s (sets s 0 (ringBytes (ringAfter (ringOf s) x)))) ≡ ringAfter (ringOf s) x
   unfolding ringOf
@@ -85,8 +89,8 @@ flag-fits true = omega arith
 flag-fits false = omega arith
 
 -- a consistent track of the same transfer
-same-fits : (t n : Track) → TrackFits t → Consistent n → fixed n ≡ fixed t → n .turns ≤ t .budget → TrackFits n
-same-fits t n f c e k =
+same-fits : (t n : Track) → TrackFits t → Consistent n → fixed n ≡ fixed t → n .lent ≡ t .lent → n .turns ≤ t .budget → TrackFits n
+same-fits t n f c e l k =
     let size : n .descriptors ≡ t .descriptors = ap (λ (x : ℕ × ℕ × ℕ × ℕ × ℕ). x .0) e in
     let stream : n .stream ≡ t .stream = ap (λ (x : ℕ × ℕ × ℕ × ℕ × ℕ). x .1) e in
     let total : n .total ≡ t .total = ap (λ (x : ℕ × ℕ × ℕ × ℕ × ℕ). x .2) e in
@@ -96,41 +100,55 @@ same-fits t n f c e k =
     let head : n .head < 32 = c .placed .head-in in
     let tail : n .tail < 32 = c .placed .tail-in in
     let within : n .next ≤ n .total = c .paced .within in
-    (omega arith, (omega arith, (omega arith, (omega arith, (omega arith, (omega arith, (omega arith, (omega arith, (omega arith, (omega arith, (flag-fits (n .running), (omega arith, (omega arith, tt)))))))))))))
+    let kept : n .kept ≤ n .lent = c .kept in
+    let g = f .0 in
+    let lent : t .lent < 256 ^ 8 = f .1 .0 in (
+      (omega arith, (omega arith, (omega arith, (omega arith, (omega arith, (omega arith, (omega arith, (omega arith, (omega arith, (omega arith, (flag-fits (n .running), (omega arith, (omega arith, tt))))))))))))),
+      (omega arith, (omega arith, (flag-fits (n .capture), tt))),
+    )
 
 sent-fits : (t : Track) → TrackFits t → SentFits (sentOf t)
-sent-fits t f = (f .1 .1 .1 .1 .1 .1 .0, (omega arith, tt))
+sent-fits t f =
+    let total : t .total < 256 ^ 8 = f .0 .1 .1 .1 .1 .0 in
+    (f .0 .1 .1 .1 .1 .1 .1 .0, (omega arith, tt))
 
-act-fits : (c : Choice) (t : Track) (reading : Reading) → TrackFits t → SentFits (act c t reading .sent)
-act-fits Submit t reading f = hear-cases (λ x. SentFits (x .sent)) (sentOf t) (submit t) reading (λ _ _. sent-fits t f) (λ _ _ _ _ _. sent-fits t f)
-act-fits Finish t reading f = tt
-act-fits Wait t reading f = hear-cases (λ x. SentFits (x .sent)) Nothing t reading (λ _ _. tt) (λ _ _ _ _ _. tt)
+act-fits : (c : Choice) (t : Track) (o : Outcome) (reading : Reading) → TrackFits t → SentFits (act c t o reading .sent)
+act-fits Submit t o reading f = hear-cases (λ x. SentFits (x .sent)) (sentOf t) (submit t) o reading (λ _ _. sent-fits t f) (λ _ _ _ _ _. sent-fits t f)
+act-fits Finish t o reading f = tt
+act-fits Wait t o reading f = hear-cases (λ x. SentFits (x .sent)) Nothing t o reading (λ _ _. tt) (λ _ _ _ _ _. tt)
 
-counted-sent : (t : Track) (reading : Reading) → TrackFits t → SentFits (countedOf (turnOf (t .descriptors) t reading) .sent)
+counted-sent : (t : Track) (o : Outcome) (reading : Reading) → TrackFits t → SentFits (countedOf (turnOf (t .descriptors) t o reading) .sent)
 unfolding turnOf
-counted-sent t reading f =
-    let p = act-fits (chooseOf (t .descriptors) t) t reading f in
-    counted-cases (λ x. SentFits (x .sent)) (turnOf (t .descriptors) t reading) (turn-plain (t .descriptors) t reading) (λ _. p) (λ _ _. p)
+counted-sent t o reading f =
+    let p = act-fits (chooseOf (t .descriptors) t) t o reading f in
+    counted-cases (λ x. SentFits (x .sent)) (turnOf (t .descriptors) t o reading) (turn-plain (t .descriptors) t o reading) (λ _. p) (λ _ _. p)
 
 module _ (t : Track) (f : consistentOf t ≡ true → TrackFits t) where
+  -- a counted turn, of either direction
+  counted-fits : (o : Outcome) (reading : Reading) → consistentOf t ≡ true → t .running ≡ true → let x = countedOf (turnOf (t .descriptors) t o reading) in
+      TrackFits (x .track) × SentFits (x .sent)
+  counted-fits o reading c on =
+      let k = consistent-facts t c in
+      let a = turn-after (t .descriptors) t o reading in
+      let left = k .paced .left on in
+      (same-fits t _ (f c) (turn-keeps (t .descriptors) t o reading (omega arith) k on) (a .0) (ap (λ (x : Bool × ℕ × ℕ). x .1) (a .2)) (omega arith), counted-sent t o reading (f c))
+
   turn-step-fits : (len : ℕ) (reading : Reading) → StepFits (turnCall t len reading)
   unfolding turnCall
-  turn-step-fits len reading =
-      guarded-by StepFits _ _ _
-      (λ _. guarded-by StepFits _ _ _
-      (λ c. guarded-by StepFits _ _ _ (λ on _. runs c on) (λ _ p. absurd p))
-      (λ _ p. absurd p))
-      (λ _ p. absurd p)
-    where
-      runs : consistentOf t ≡ true → t .running ≡ true → TrackFits (countedOf (turnOf (t .descriptors) t reading) .track) × SentFits (countedOf (turnOf (t .descriptors) t reading) .sent)
-      runs c on =
-          let k = consistent-facts t c in
-          let a = turn-after (t .descriptors) t reading in
-          let left = k .paced .left on in
-          (same-fits t _ (f c) (turn-keeps (t .descriptors) t reading (omega arith) k on) (a .0) (omega arith), counted-sent t reading (f c))
+  turn-step-fits len reading = admitted StepFits t (λ _ p. absurd p) false len _ (λ c on _. counted-fits _ reading c on)
+
+  -- what is accepted of a capture stays within what is lent
+  capture-step-fits : (len : ℕ) (c : Catch) → StepFits (captureCall t len c)
+  capture-step-fits len c =
+      captured StepFits t (λ _ p. absurd p) len c
+      (λ ok on _.
+      let g = counted-fits (caughtOf t c) (c .reading) ok on in
+      let within = kept-within t c (consistent-facts t ok) in
+      let lent : t .lent < 256 ^ 8 = f ok .1 .0 in
+      ((g .0 .0, (g .0 .1 .0, (omega arith, g .0 .1 .1 .1))), g .1))
 
   release-fits : TrackFits t → TrackFits (release t)
-  release-fits f = (f .0, (f .1 .0, (omega arith, (omega arith, f .1 .1 .1 .1))))
+  release-fits f = ((f .0 .0, (f .0 .1 .0, (omega arith, (omega arith, f .0 .1 .1 .1 .1)))), f .1)
 
   drained-fits : (reading : Reading) → TrackFits t → StepFits (drained t reading)
   drained-fits Quiet f = λ _. (f, tt)
@@ -140,16 +158,22 @@ module _ (t : Track) (f : consistentOf t ≡ true → TrackFits t) where
   unfolding drainCall
   drain-step-fits reading = guarded-by StepFits _ _ _ (λ c. guarded-by StepFits _ _ _ (λ _ p. absurd p) (λ _. drained-fits reading (f c))) (λ _ p. absurd p)
 
+  -- a transfer that begins, of either direction
+  begun-fits : (capture : Bool) (lent stream total period budget : ℕ) → consistentOf t ≡ true → lent < 256 ^ 8 → stream < 256 ^ 4 → total < 256 ^ 8 → period < 256 ^ 8 → budget < 256 ^ 8
+      → TrackFits (begunAs capture lent t stream total period budget)
+  begun-fits capture lent stream total period budget c l m n p q = (
+    (f c .0 .0, (omega arith, (omega arith, (omega arith, (n, (p, (omega arith, (q, (omega arith, (m, (omega arith, (omega arith, (omega arith, tt))))))))))))),
+    (l, (omega arith, (flag-fits capture, tt))),
+  )
+
   start-step-fits : (stream total period budget : ℕ) → stream < 256 ^ 4 → total < 256 ^ 8 → period < 256 ^ 8 → budget < 256 ^ 8 → StepFits (startCall t stream total period budget)
   unfolding startCall
-  start-step-fits stream total period budget m n p q =
-      guarded-by StepFits _ _ _
-      (λ c. guarded-by StepFits _ _ _
-      (λ _. guarded-by StepFits _ _ _
-      (λ _. guarded-by StepFits _ _ _ (λ _ _. ((f c .0, (omega arith, (omega arith, (omega arith, (n, (p, (omega arith, (q, (omega arith, (m, (omega arith, (omega arith, (omega arith, tt))))))))))))), tt)) (λ _ p. absurd p))
-      (λ _ p. absurd p))
-      (λ _ p. absurd p))
-      (λ _ p. absurd p)
+  start-step-fits stream total period budget m n p q = readied StepFits t (λ _ p. absurd p) period budget _ (λ c _. (begun-fits false total stream total period budget c n m n p q, tt))
+
+  capture-start-step-fits : (stream periods period lent budget : ℕ) → stream < 256 ^ 4 → period < 256 ^ 8 → lent < 256 ^ 8 → budget < 256 ^ 8 → StepFits (captureStart t stream periods period lent budget)
+  capture-start-step-fits stream periods period lent budget m p l q =
+      capture-started StepFits t (λ _ p. absurd p) stream periods period lent budget
+      (λ c enough _. (begun-fits true lent stream (periods * period) period budget c l m (omega arith) p q, tt))
 
 -- ---- THE RING THAT A CALL LEAVES IN A STORE is the one that the call by value leaves
 
@@ -174,14 +198,40 @@ start-holds s stream len period budget b h m n p q =
     ap (λ (l : Made). ringOf (l .store)) (start-leaves s stream len period budget)
     ∙ holds s (startStep s stream len period budget) b h (start-step-fits (trackAt s) (track-fits s b) stream len period budget m n p q) (start-refused (trackAt s) stream len period budget)
 
+-- of a capture's turn, the recording too
+module _ (s recording : List ℕ) (kind slot written : ℕ) (bytes : List ℕ) (b : Bytes s) (h : ringSize ≤ length s) where
+  abbrev called : Step
+  called = captureCall (ringOf s .track) (length recording) (catchOf kind slot written bytes)
+
+  pub capture-holds : ringOf (captureIn s recording kind slot written bytes .ring) ≡ turnedOf (ringOf s) called .ring
+  unfolding ringOf
+  capture-holds =
+      let c = catchOf kind slot written bytes in
+      ap (λ (l : Made). ringOf (l .store)) (capture-leaves s recording kind slot written bytes)
+      ∙ holds s (captureStep s (length recording) kind slot written bytes) b h (capture-step-fits (trackAt s) (track-fits s b) (length recording) c) (capture-refused (trackAt s) (length recording) c)
+
+  pub recording-holds : captureIn s recording kind slot written bytes .recording ≡ recordingAfter (ringOf s .track) called bytes recording
+  unfolding captureIn ringOf
+  recording-holds = ap (λ (x : Caught). x .recording) (sym (passes _ _ _ (le-leb ringSize (length s) h) refl))
+
+pub capture-start-holds : (s : List ℕ) (stream periods period len budget : ℕ) → Bytes s → ringSize ≤ length s → stream < 256 ^ 4 → period < 256 ^ 8 → len < 256 ^ 8 → budget < 256 ^ 8
+    → ringOf (captureStartIn s stream periods period len budget .store) ≡ startedOf (ringOf s) (captureStart (trackAt s) stream periods period len budget) .ring
+capture-start-holds s stream periods period len budget b h m p n q =
+    ap (λ (l : Made). ringOf (l .store)) (capture-start-leaves s stream periods period len budget)
+    ∙ holds s (captureStartStep s stream periods period len budget) b h (capture-start-step-fits (trackAt s) (track-fits s b) stream periods period len budget m p n q)
+    (capture-start-refused (trackAt s) stream periods period len budget)
+
 pub new-holds : (s : List ℕ) → ringSize ≤ length s → ringOf (newIn s .store) ≡ newRing direct
 new-holds s h =
     guarded-by (λ (l : Made). ringOf (l .store) ≡ newRing direct) (leb ringSize (length s)) _ _
-    (λ _. store-back s (newRing direct) (record { track = new-track; slots = blank-fits 32; long = refl }) h)
+    (λ _. store-back s (newRing direct) (record { track = new-track .0; side = new-track .1; slots = blank-fits 32; long = refl }) h)
     (λ e. absurd (omega (arith, leb-false ringSize (length s) e)))
   where
     new-track : TrackFits (newRing direct .track)
-    new-track = (omega arith, (omega arith, (omega arith, (omega arith, (omega arith, (omega arith, (omega arith, (omega arith, (omega arith, (omega arith, (omega arith, (omega arith, (omega arith, tt)))))))))))))
+    new-track = (
+      (omega arith, (omega arith, (omega arith, (omega arith, (omega arith, (omega arith, (omega arith, (omega arith, (omega arith, (omega arith, (omega arith, (omega arith, (omega arith, tt))))))))))))),
+      (omega arith, (omega arith, (omega arith, tt))),
+    )
 
     blank-fits : (n : ℕ) → SlotsFit (replicate n blankSlot)
     blank-fits zero = tt

@@ -1,33 +1,39 @@
 -- What calls leave: a store that holds a ring again, and after a refusal the very bytes that stood there.
 -- Assumes nothing.
-use mathlib.Core.Path.{_≡_, refl, _∙_, subst}
+use mathlib.Core.Path.{_≡_, refl, sym, ap, _∙_, subst}
 use mathlib.Core.Bool.{Bool, true, false}
 use mathlib.Core.Logic.{_⊎_, inl, inr}
 use mathlib.Core.List.{List}
 use Prim.Native.Nat.{ℕ, _+_, _*_, _≤_}
 use native.Mathlib.Omega.{arith}
-use lib.Dec.{leb}
+use lib.Dec.{leb, eqb}
 use borrow.Author.Tests.{leb-true, leb-false}
 use lib.ListN.{length, length-set}
 use Rattle.layout.specs.Bytes.{numAt}
 use Rattle.layout.specs.Lent.{Made}
 use Rattle.codes.specs.Says.{pick}
-use Rattle.codes.specs.SaysLaws.{guarded-by}
+use Rattle.codes.specs.SaysLaws.{guard-ap, guarded-by}
 use Rattle.codes.specs.Answers.{refusalWord}
+use Rattle.codes.specs.declared.answers.Cause.the-variants.{Status}
 use Rattle.codes.specs.declared.answers.Refusal.{Refusal}
+use Rattle.codes.specs.declared.answers.Refusal.the-variants.{IoError, BadCapture}
 use Rattle.turns.specs.Ring.{direct, newRing, going, saidWord, isRefused}
-use Rattle.turns.specs.Rules.{chooseOf, playedOf, judgeOf, settle, hear, act, turnOf, submit, sentOf, countedBy, countedOf}
-use Rattle.turns.specs.RuleLaws.{Judged, judged, played-fails}
+use Rattle.turns.specs.Rules.{chooseOf, comesTo, playedOf, judgeOf, settle, hear, act, turnOf, submit, sentOf, countedBy, countedOf}
+use Rattle.turns.specs.RuleLaws.{Judged, judged}
 use Rattle.turns.specs.CaseLaws.{lastOf}
 use Rattle.turns.specs.Consistent.{consistentOf}
 use Rattle.turns.specs.ConsistentLaws.{consistent-facts}
 use Rattle.turns.specs.Calls.{turnCall, drained, drainCall, startCall, carry, turnedOf}
+use Rattle.turns.specs.Capture.{catchOf, lengthGood, capturedOf, caughtOf, recordingAfter, captureCall, captureStart}
+use Rattle.turns.specs.CaptureLaws.{copy-nothing}
+use Rattle.turns.specs.RefusalLaws.{Untouched}
 use Rattle.turns.specs.InPlace.{turnWords, drainWords}
 use Rattle.turns.specs.Script.{readingOf}
-use Rattle.ring_store.specs.Types.{Slot, Track, Sent, Nothing, Period, Said, Going, Done, Ended, Refused, Step, Reading, Quiet, Completed, Choice, Submit, Finish, Wait, Verdict, WrongSlot, Good, Bad}
+use Rattle.ring_store.specs.Types.{Slot, Track, Sent, Nothing, Period, Said, Going, Done, Ended, Refused, Step, Reading, Quiet, Completed, Choice, Submit, Finish, Wait, Outcome, Fine, Fails, Verdict, WrongSlot, Good, Bad, Catch}
 use Rattle.ring_store.specs.Store.{ringSize, trackAt, ringOf}
-use Rattle.ring_store.specs.Calls.{changed, newIn, turnIn, drainIn, startIn}
+use Rattle.ring_store.specs.Calls.{changed, newIn, turnIn, drainIn, startIn, Caught, captureStep, captureIn, captureStartIn}
 use Rattle.ring_store.specs.StoreLaws.{slots-long}
+use Rattle.ring_store.specs.AdmitLaws.{admitted, readied, captured, capture-started, capture-refused}
 use Rattle.ring_store.specs.RoundLaws.{wholeAt, whole-written}
 
 -- ---- each call is a step of the track that the store holds
@@ -40,6 +46,9 @@ drainStep s kind slot status = drainCall (trackAt s) (readingOf kind slot status
 
 abbrev pub startStep : List ℕ → ℕ → ℕ → ℕ → ℕ → Step
 startStep s stream len period budget = startCall (trackAt s) stream len period budget
+
+abbrev pub captureStartStep : List ℕ → ℕ → ℕ → ℕ → ℕ → ℕ → Step
+captureStartStep s stream periods period len budget = captureStart (trackAt s) stream periods period len budget
 
 abbrev pub leaves : List ℕ → Step → Made
 leaves s x = changed s (turnedOf (ringOf s) x)
@@ -55,6 +64,19 @@ drain-leaves s kind slot status = refl
 pub start-leaves : (s : List ℕ) (stream len period budget : ℕ) → startIn s stream len period budget ≡ leaves s (startStep s stream len period budget)
 unfolding startIn
 start-leaves s stream len period budget = refl
+
+-- of a capture's turn: its answer, and the ring's store
+abbrev pub ringLeft : Caught → Made
+ringLeft x = record { answer = x .answer; store = x .ring }
+
+pub capture-leaves : (s recording : List ℕ) (kind slot written : ℕ) (bytes : List ℕ)
+    → ringLeft (captureIn s recording kind slot written bytes) ≡ leaves s (captureStep s (length recording) kind slot written bytes)
+unfolding captureIn
+capture-leaves s recording kind slot written bytes = guard-ap ringLeft (leb ringSize (length s)) _ _
+
+pub capture-start-leaves : (s : List ℕ) (stream periods period len budget : ℕ) → captureStartIn s stream periods period len budget ≡ leaves s (captureStartStep s stream periods period len budget)
+unfolding captureStartIn
+capture-start-leaves s stream periods period len budget = refl
 
 -- ---- a whole store stays whole
 
@@ -83,6 +105,12 @@ drain-fits s kind slot status p = rw (drain-leaves s kind slot status) (left-fit
 
 pub start-fits : (s : List ℕ) (stream len period budget : ℕ) → wholeAt s ≡ true → wholeAt (startIn s stream len period budget .store) ≡ true
 start-fits s stream len period budget p = rw (start-leaves s stream len period budget) (left-fits s (startStep s stream len period budget) p)
+
+pub capture-fits : (s recording : List ℕ) (kind slot written : ℕ) (bytes : List ℕ) → wholeAt s ≡ true → wholeAt (captureIn s recording kind slot written bytes .ring) ≡ true
+capture-fits s recording kind slot written bytes p = subst Whole (sym (capture-leaves s recording kind slot written bytes)) (left-fits s (captureStep s (length recording) kind slot written bytes) p)
+
+pub capture-start-fits : (s : List ℕ) (stream periods period len budget : ℕ) → wholeAt s ≡ true → wholeAt (captureStartIn s stream periods period len budget .store) ≡ true
+capture-start-fits s stream periods period len budget p = rw (capture-start-leaves s stream periods period len budget) (left-fits s (captureStartStep s stream periods period len budget) p)
 
 pub new-fits : (s : List ℕ) → ringSize ≤ length s → wholeAt (newIn s .store) ≡ true
 new-fits s h = guarded-by Whole (leb ringSize (length s)) _ _ (λ _. whole-written s (newRing direct) refl h) (λ e. absurd (omega (arith, leb-false ringSize (length s) e)))
@@ -113,11 +141,14 @@ other : (n : ℕ) → (n ≡ 10 → ⊥) → (n ≡ 1 → ⊥) → Barred n → 
 other n p q (inl e) = p e
 other n p q (inr e) = q e
 
+barred : {A : Type 0} (said : Said) → Telling said → Barred (saidWord said) → ((r : Refusal) → said ≡ Refused r → A) → A
+barred Going p b f = absurd (other going (λ e. omega arith) (λ e. omega arith) b)
+barred Done p b f = absurd (other 0 (λ e. omega arith) (λ e. omega arith) b)
+barred (Ended r) p b f = absurd (p b)
+barred (Refused r) p b f = f r refl
+
 unless-barred : (said : Said) (old new : List ℕ) → Telling said → Barred (saidWord said) → pick (isRefused said) old new ≡ old
-unless-barred Going old new p b = absurd (other going (λ e. omega arith) (λ e. omega arith) b)
-unless-barred Done old new p b = absurd (other 0 (λ e. omega arith) (λ e. omega arith) b)
-unless-barred (Ended r) old new p b = absurd (p b)
-unless-barred (Refused r) old new p b = refl
+unless-barred said old new p b = barred said p b (λ r e. ap (λ (x : Said). pick (isRefused x) old new) e)
 
 abbrev Begins : Said → Type 0
 Begins Going = Unit {0}
@@ -135,19 +166,44 @@ refused-unchanged s x p =
     (λ _ b. unless-barred (x .said) s _ p b)
     (λ _ _. refl)
 
-settle-tells : (v : Verdict) (sent : Sent) (t : Track) (slot status : ℕ) → Judged t slot (playedOf status) v → Telling (settle v sent t slot status .said)
-settle-tells WrongSlot sent t slot status j = other 6 (λ e. omega arith) (λ e. omega arith)
-settle-tells Good sent t slot status j = tt
-settle-tells (Bad r) sent t slot status j = subst (λ (x : Refusal). Barred (refusalWord x) → ⊥) (played-fails status r (j .2) .1) (other (2 + 4294967296 * status) (λ e. omega arith) (λ e. omega arith))
+-- what a completion comes to has another number too: 2 or 17
+abbrev Comes : Outcome → Type 0
+Comes Fine = Unit {0}
+Comes (Fails r) = Barred (refusalWord r) → ⊥
 
-hear-tells : (sent : Sent) (t : Track) (reading : Reading) → Telling (hear sent t reading .said)
-hear-tells sent t Quiet = tt
-hear-tells sent t (Completed slot status) = settle-tells (judgeOf t slot (playedOf status)) sent t slot status (judged t slot (playedOf status))
+comes-by : (status : ℕ) (ok : Bool) → Comes (pick ok Fine (Fails (IoError (Status status))))
+comes-by status true = tt
+comes-by status false = other (2 + 4294967296 * status) (λ e. omega arith) (λ e. omega arith)
 
-act-tells : (c : Choice) (t : Track) (reading : Reading) → Telling (act c t reading .said)
-act-tells Submit t reading = hear-tells (sentOf t) (submit t) reading
-act-tells Finish t reading = tt
-act-tells Wait t reading = hear-tells Nothing t reading
+played-comes : (status : ℕ) → Comes (playedOf status)
+unfolding playedOf
+played-comes status = comes-by status (eqb status 0x8000)
+
+good-comes : (status : ℕ) (good : Bool) → Comes (pick good (playedOf status) (Fails BadCapture))
+good-comes status true = played-comes status
+good-comes status false = other 17 (λ e. omega arith) (λ e. omega arith)
+
+captured-comes : (period written status : ℕ) → Comes (capturedOf period written status)
+unfolding capturedOf
+captured-comes period written status = good-comes status (lengthGood period written)
+
+comes : (judge : ℕ → Outcome) → ((status : ℕ) → Comes (judge status)) → (reading : Reading) → Comes (comesTo judge reading)
+comes judge h Quiet = tt
+comes judge h (Completed slot status) = h status
+
+settle-tells : (v : Verdict) (sent : Sent) (t : Track) (slot status : ℕ) (o : Outcome) → Comes o → Judged t slot o v → Telling (settle v sent t slot status .said)
+settle-tells WrongSlot sent t slot status o k j = other 6 (λ e. omega arith) (λ e. omega arith)
+settle-tells Good sent t slot status o k j = tt
+settle-tells (Bad r) sent t slot status o k j = subst Comes (j .2) k
+
+hear-tells : (sent : Sent) (t : Track) (o : Outcome) (reading : Reading) → Comes o → Telling (hear o sent t reading .said)
+hear-tells sent t o Quiet k = tt
+hear-tells sent t o (Completed slot status) k = settle-tells (judgeOf t slot o) sent t slot status o k (judged t slot o)
+
+act-tells : (c : Choice) (t : Track) (o : Outcome) (reading : Reading) → Comes o → Telling (act c t o reading .said)
+act-tells Submit t o reading k = hear-tells (sentOf t) (submit t) o reading k
+act-tells Finish t o reading k = tt
+act-tells Wait t o reading k = hear-tells Nothing t o reading k
 
 counted-by : (said : Said) (last : Bool) (x : Step) → Telling said → Telling (countedBy said last x .said)
 counted-by Going true x p = other 9 (λ e. omega arith) (λ e. omega arith)
@@ -156,11 +212,11 @@ counted-by Done last x p = tt
 counted-by (Ended r) last x p = p
 counted-by (Refused r) last x p = tt
 
-counted-tells : (least : ℕ) (t : Track) (reading : Reading) → Telling (countedOf (turnOf least t reading) .said)
+counted-tells : (least : ℕ) (t : Track) (o : Outcome) (reading : Reading) → Comes o → Telling (countedOf (turnOf least t o reading) .said)
 unfolding countedOf turnOf
-counted-tells least t reading =
-    let u = act (chooseOf least t) t reading in
-    counted-by (u .said) (lastOf u) u (act-tells (chooseOf least t) t reading)
+counted-tells least t o reading k =
+    let u = act (chooseOf least t) t o reading in
+    counted-by (u .said) (lastOf u) u (act-tells (chooseOf least t) t o reading k)
 
 abbrev Tells : Step → Type 0
 Tells x = Telling (x .said)
@@ -171,8 +227,10 @@ drained-tells t (Completed slot status) = guarded-by Tells _ _ _ (λ _. tt) (λ 
 
 turn-tells : (t : Track) (len : ℕ) (reading : Reading) → Tells (turnCall t len reading)
 unfolding turnCall
-turn-tells t len reading =
-    guarded-by Tells _ _ _ (λ _. guarded-by Tells _ _ _ (λ _. guarded-by Tells _ _ _ (λ _. counted-tells (t .descriptors) t reading) (λ _. tt)) (λ _. tt)) (λ _. tt)
+turn-tells t len reading = admitted Tells t (λ _. tt) false len _ (λ _ _. counted-tells (t .descriptors) t _ reading (comes playedOf played-comes reading))
+
+capture-tells : (t : Track) (len : ℕ) (c : Catch) → Tells (captureCall t len c)
+capture-tells t len c = captured Tells t (λ _. tt) len c (λ _ _. counted-tells (t .descriptors) t (caughtOf t c) (c .reading) (comes (capturedOf (t .period) (c .written)) (captured-comes (t .period) (c .written)) (c .reading)))
 
 drain-call-tells : (t : Track) (reading : Reading) → Tells (drainCall t reading)
 unfolding drainCall
@@ -184,10 +242,10 @@ Starts x = Begins (x .said)
 
 start-begins : (t : Track) (stream total period budget : ℕ) → Starts (startCall t stream total period budget)
 unfolding startCall
-start-begins t stream total period budget =
-    guarded-by Starts _ _ _
-    (λ _. guarded-by Starts _ _ _ (λ _. guarded-by Starts _ _ _ (λ _. guarded-by Starts _ _ _ (λ _. tt) (λ _. tt)) (λ _. tt)) (λ _. tt))
-    (λ _. tt)
+start-begins t stream total period budget = readied Starts t (λ _. tt) period budget _ (λ _. tt)
+
+capture-start-begins : (t : Track) (stream periods period lent budget : ℕ) → Starts (captureStart t stream periods period lent budget)
+capture-start-begins t stream periods period lent budget = capture-started Starts t (λ _. tt) stream periods period lent budget (λ _ _. tt)
 
 pub turn-unchanged : (s : List ℕ) (len kind slot status : ℕ) → Barred (turnIn s len kind slot status .answer) → turnIn s len kind slot status .store ≡ s
 turn-unchanged s len kind slot status = rw (turn-leaves s len kind slot status) (refused-unchanged s (turnStep s len kind slot status) (turn-tells (trackAt s) len (readingOf kind slot status)))
@@ -195,11 +253,38 @@ turn-unchanged s len kind slot status = rw (turn-leaves s len kind slot status) 
 pub drain-unchanged : (s : List ℕ) (kind slot status : ℕ) → Barred (drainIn s kind slot status .answer) → drainIn s kind slot status .store ≡ s
 drain-unchanged s kind slot status = rw (drain-leaves s kind slot status) (refused-unchanged s (drainStep s kind slot status) (drain-call-tells (trackAt s) (readingOf kind slot status)))
 
+-- the same of a capture, and of its recording
+
+recording-barred : (t : Track) (x : Step) (bytes recording : List ℕ) → Untouched t x → Telling (x .said) → Barred (saidWord (x .said)) → recordingAfter t x bytes recording ≡ recording
+recording-barred t x bytes recording u p b =
+    barred (x .said) p b (λ r e. let same : x .track .kept ≡ t .kept = ap (λ (y : Step). y .track .kept) (u r e) in sym (copy-nothing t x bytes recording (omega arith)))
+
+module _ (s recording : List ℕ) (kind slot written : ℕ) (bytes : List ℕ) where
+  abbrev step : Step
+  step = captureStep s (length recording) kind slot written bytes
+
+  capture-step-tells : Tells step
+  capture-step-tells = capture-tells (trackAt s) (length recording) (catchOf kind slot written bytes)
+
+  pub capture-unchanged : Barred (captureIn s recording kind slot written bytes .answer) → captureIn s recording kind slot written bytes .ring ≡ s
+  capture-unchanged =
+      subst (λ (l : Made). Barred (l .answer) → l .store ≡ s) (sym (capture-leaves s recording kind slot written bytes)) (refused-unchanged s step capture-step-tells)
+
+  pub recording-unchanged : Barred (captureIn s recording kind slot written bytes .answer) → captureIn s recording kind slot written bytes .recording ≡ recording
+  unfolding captureIn
+  recording-unchanged =
+      guarded-by (λ (x : Caught). Barred (x .answer) → x .recording ≡ recording) (leb ringSize (length s)) _ _
+      (λ _ b. recording-barred (trackAt s) step bytes recording (capture-refused (trackAt s) (length recording) (catchOf kind slot written bytes)) capture-step-tells b)
+      (λ _ _. refl)
+
 -- a start that does not go on, whatever it answers: 10, 1, 8 or 9
+start-refused-unchanged : (s : List ℕ) (x : Step) → Starts x → (leaves s x .answer ≡ going → ⊥) → leaves s x .store ≡ s
+start-refused-unchanged s x p = guarded-by (λ (l : Made). (l .answer ≡ going → ⊥) → l .store ≡ s) (leb ringSize (length s)) _ _ (λ _ n. unless-begun (x .said) s _ p n) (λ _ _. refl)
+
 pub start-unchanged : (s : List ℕ) (stream len period budget : ℕ) → (startIn s stream len period budget .answer ≡ going → ⊥) → startIn s stream len period budget .store ≡ s
 start-unchanged s stream len period budget =
-    let x = startStep s stream len period budget in
-    rw (start-leaves s stream len period budget)
-    (guarded-by (λ (l : Made). (l .answer ≡ going → ⊥) → l .store ≡ s) (leb ringSize (length s)) _ _
-    (λ _ n. unless-begun (x .said) s _ (start-begins (trackAt s) stream len period budget) n)
-    (λ _ _. refl))
+    rw (start-leaves s stream len period budget) (start-refused-unchanged s (startStep s stream len period budget) (start-begins (trackAt s) stream len period budget))
+
+pub capture-start-unchanged : (s : List ℕ) (stream periods period len budget : ℕ) → (captureStartIn s stream periods period len budget .answer ≡ going → ⊥) → captureStartIn s stream periods period len budget .store ≡ s
+capture-start-unchanged s stream periods period len budget =
+    rw (capture-start-leaves s stream periods period len budget) (start-refused-unchanged s (captureStartStep s stream periods period len budget) (capture-start-begins (trackAt s) stream periods period len budget))

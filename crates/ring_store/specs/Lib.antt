@@ -9,6 +9,7 @@ pub mod Run
 -- laws
 pub mod StoreLaws
 pub mod CallsLaws
+pub mod AdmitLaws
 pub mod ReadsLaws
 pub mod RoundLaws
 pub mod KeepLaws

@@ -9,8 +9,12 @@ use Rattle.layout.specs.Rows.{rowsBytes}
 use Rattle.layout.specs.Lent.{Made, made}
 use Rattle.codes.specs.Says.{pick}
 use Rattle.turns.specs.Ring.{blankSlot, saidWord, isRefused}
-use Rattle.ring_store.specs.Types.{Slot, Sent, Nothing, Period, Step}
-use Rattle.ring_store.specs.Store.{trackSize, slotSize, slotBytes, trackBytes}
+use Rattle.ring_store.specs.Types.{Slot, Track, Sent, Nothing, Period, Step}
+use Rattle.ring_store.specs.Store.{trackSize, slotSize, sidePlace, slotBytes, trackBytes, sideBytes}
+
+-- a track at its two places
+abbrev pub trackOver : List ℕ → Track → List ℕ
+trackOver s t = sets (sets s 0 (trackBytes t)) sidePlace (sideBytes t)
 
 -- a slot at its place; there are 32
 abbrev pub slotOver : List ℕ → ℕ → Slot → List ℕ
@@ -25,4 +29,4 @@ blankOver s = sets s trackSize (rowsBytes slotBytes (replicate 32 blankSlot))
 
 -- what a step leaves of a store, and its answer
 abbrev pub stepOver : List ℕ → Step → Made
-stepOver s x = made (saidWord (x .said)) (pick (isRefused (x .said)) s (sentOver (sets s 0 (trackBytes (x .track))) (x .sent)))
+stepOver s x = made (saidWord (x .said)) (pick (isRefused (x .said)) s (sentOver (trackOver s (x .track)) (x .sent)))

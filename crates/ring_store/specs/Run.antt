@@ -2,7 +2,7 @@
 -- Assumes nothing.
 use mathlib.Core.Path.{_≡_, refl, sym, ap, _∙_, subst}
 use mathlib.Core.Bool.{Bool, true, false, false≢true}
-use mathlib.Core.List.{List, [], _∷_, map}
+use mathlib.Core.List.{List, [], _∷_, _++_, map}
 use Prim.Native.Nat.{ℕ, zero, suc, _≤_, _<_}
 use native.Mathlib.Omega.{arith}
 use lib.Dec.{leb, eqb}
@@ -19,13 +19,14 @@ use Rattle.codes.specs.AnswersLaws.{numbered}
 use Rattle.turns.specs.Ring.{direct, newRing, going, saidWord, goesOn, isRefused}
 use Rattle.turns.specs.CaseLaws.{onward-cases}
 use Rattle.turns.specs.Calls.{turnedOf}
+use Rattle.turns.specs.Capture.{catchOf, captureCall}
 use Rattle.turns.specs.InPlace.{turnWords}
 use Rattle.turns.specs.Script.{readingOf}
-use Rattle.turns.specs.Log.{Line, Ran, onward, loop, called, turnByTurn}
+use Rattle.turns.specs.Log.{Line, Ran, onward, loopOf, called, turnByTurn}
 use Rattle.ring_store.specs.Types.{Ring, Said, Going, Done, Ended, Refused, Step, Reading}
-use Rattle.ring_store.specs.Store.{ringSize, trackRow, trackValues, slotRow, slotBytes, ringOf, ringBytes}
-use Rattle.ring_store.specs.Calls.{newIn, turnIn, drainIn, startIn}
-use Rattle.ring_store.specs.KeepLaws.{turnStep, drainStep, startStep, leaves, turn-leaves, drain-leaves, start-leaves}
+use Rattle.ring_store.specs.Store.{ringSize, trackRow, trackValues, sideRow, sideValues, slotRow, slotBytes, ringOf, ringBytes, sideBytes}
+use Rattle.ring_store.specs.Calls.{newIn, turnIn, drainIn, startIn, captureStep, captureIn, captureStartIn}
+use Rattle.ring_store.specs.KeepLaws.{turnStep, drainStep, startStep, captureStartStep, leaves, turn-leaves, drain-leaves, start-leaves, capture-leaves, capture-start-leaves}
 use Rattle.ring_store.specs.Holds.{turn-holds}
 
 -- ---- THE RUN
@@ -64,8 +65,9 @@ turnByTurnIn len (suc fuel) s script =
 bytes-ring : (r : Ring) → Bytes (ringBytes r)
 unfolding ringBytes
 bytes-ring r =
-    bytes-append (write trackRow (trackValues (r .track))) (rowsBytes slotBytes (r .slots)) (bytes-write trackRow (trackValues (r .track)))
-    (bytes-rows slotBytes (λ x. bytes-write slotRow (x .offset ∷ x .len ∷ [])) (r .slots))
+    bytes-append (write trackRow (trackValues (r .track))) (rowsBytes slotBytes (r .slots) ++ sideBytes (r .track)) (bytes-write trackRow (trackValues (r .track)))
+    (bytes-append (rowsBytes slotBytes (r .slots)) (sideBytes (r .track)) (bytes-rows slotBytes (λ x. bytes-write slotRow (x .offset ∷ x .len ∷ [])) (r .slots))
+    (bytes-write sideRow (sideValues (r .track))))
 
 unless-again : (b : Bool) (s new : List ℕ) → Again s s → Again s new → Again s (pick b s new)
 unless-again true s new p q = p
@@ -89,11 +91,27 @@ drain-again s kind slot status b = rw (drain-leaves s kind slot status) (leaves-
 pub start-again : (s : List ℕ) (stream len period budget : ℕ) → Bytes s → Again s (startIn s stream len period budget .store)
 start-again s stream len period budget b = rw (start-leaves s stream len period budget) (leaves-again s (startStep s stream len period budget) b)
 
+pub capture-again : (s recording : List ℕ) (kind slot written : ℕ) (bytes : List ℕ) → Bytes s → Again s (captureIn s recording kind slot written bytes .ring)
+capture-again s recording kind slot written bytes b =
+    subst (λ (l : Made). Again s (l .store)) (sym (capture-leaves s recording kind slot written bytes)) (leaves-again s (captureStep s (length recording) kind slot written bytes) b)
+
+pub capture-start-again : (s : List ℕ) (stream periods period len budget : ℕ) → Bytes s → Again s (captureStartIn s stream periods period len budget .store)
+capture-start-again s stream periods period len budget b = rw (capture-start-leaves s stream periods period len budget) (leaves-again s (captureStartStep s stream periods period len budget) b)
+
 -- ---- a turn answers what is said
 
+leaves-answers : (s : List ℕ) (x : Step) → ringSize ≤ length s → leaves s x .answer ≡ saidWord (x .said)
+leaves-answers s x h = ap (λ (l : Made). l .answer) (sym (passes _ _ _ (le-leb ringSize (length s) h) refl))
+
+pub capture-answers : (s recording : List ℕ) (kind slot written : ℕ) (bytes : List ℕ) → ringSize ≤ length s
+    → captureIn s recording kind slot written bytes .answer ≡ saidWord (captureCall (ringOf s .track) (length recording) (catchOf kind slot written bytes) .said)
+unfolding ringOf
+capture-answers s recording kind slot written bytes h =
+    ap (λ (l : Made). l .answer) (capture-leaves s recording kind slot written bytes) ∙ leaves-answers s (captureStep s (length recording) kind slot written bytes) h
+
 pub turn-answers : (s : List ℕ) (len kind slot status : ℕ) → ringSize ≤ length s → turnIn s len kind slot status .answer ≡ saidWord (turnWords (ringOf s) len kind slot status .said)
-unfolding turnIn
-turn-answers s len kind slot status h = ap (λ (l : Made). l .answer) (sym (passes _ _ _ (le-leb ringSize (length s) h) refl))
+unfolding turnWords ringOf
+turn-answers s len kind slot status h = ap (λ (l : Made). l .answer) (turn-leaves s len kind slot status) ∙ leaves-answers s (turnStep s len kind slot status) h
 
 -- ---- THE STORE AFTER A RUN
 
@@ -130,7 +148,7 @@ module _ (len fuel : ℕ) (s : List ℕ) (w : Words) (script : List Words) (b : 
       (subst (λ (r : Ring). Holds (turnByTurnIn len fuel (l .store) script) (turnByTurn len fuel r (map readingBy script))) e (rest (l .store) (turn-again s len (w .kind) (w .slot) (w .status) b)))
 
 pub run-holds : (s : List ℕ) → Bytes s → ringSize ≤ length s → (len fuel : ℕ) (script : List Words) → Holds (turnByTurnIn len fuel s script) (turnByTurn len fuel (ringOf s) (map readingBy script))
-unfolding turnByTurnIn loop
+unfolding turnByTurnIn loopOf
 run-holds s b h len zero script = (refl, refl)
 run-holds s b h len (suc fuel) [] = turn-then len fuel s (firstWords []) [] b h (λ n a. run-holds n (a .0) (omega (arith, a .1)) len fuel [])
 run-holds s b h len (suc fuel) (w ∷ script) = turn-then len fuel s w script b h (λ n a. run-holds n (a .0) (omega (arith, a .1)) len fuel script)

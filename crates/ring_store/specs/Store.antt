@@ -1,4 +1,4 @@
--- The ring as bytes in its owner's storage: the track, then 32 slots. 608 bytes.
+-- The ring as bytes in its owner's storage: the track, then 32 slots, then what a capture (2026-09) added to the track. 628 bytes.
 -- Assumes nothing.
 use mathlib.Core.Bool.{Bool, not, _&&_}
 use mathlib.Core.List.{List, [], _∷_, _++_}
@@ -21,8 +21,15 @@ slotSize = 16
 abbrev pub slotsSize : ℕ
 slotsSize = 512
 
+-- behind the slots, so that none of them moved
+abbrev pub sidePlace : ℕ
+sidePlace = 608
+
+abbrev pub sideSize : ℕ
+sideSize = 20
+
 abbrev pub ringSize : ℕ
-ringSize = 608
+ringSize = 628
 
 -- descriptors of a submission 8, head 8, tail 8, in flight 8, frames' length 8, period 8, next offset 8, budget 8, turns 8, stream 4, running 4,
 -- reserved 8, reserved 8
@@ -32,15 +39,22 @@ trackRow = 8 ∷ 8 ∷ 8 ∷ 8 ∷ 8 ∷ 8 ∷ 8 ∷ 8 ∷ 8 ∷ 4 ∷ 4 ∷ 8 �
 abbrev pub trackValues : Track → List ℕ
 trackValues t = t .descriptors ∷ t .head ∷ t .tail ∷ t .inflight ∷ t .total ∷ t .period ∷ t .next ∷ t .budget ∷ t .turns ∷ t .stream ∷ pick (t .running) 1 0 ∷ 0 ∷ 0 ∷ []
 
--- `running` is 0 or 1, and what is reserved is 0. A store with another number there reads as a ring of no descriptors a submission, which fails the
--- consistency test
-abbrev pub wholeOf : ℕ → ℕ → ℕ → Bool
-wholeOf flag first second = leb flag 1 && (eqb first 0 && eqb second 0)
+-- length lent at the start 8, bytes accepted 8, capture 4
+abbrev pub sideRow : List ℕ
+sideRow = 8 ∷ 8 ∷ 4 ∷ []
 
-abbrev pub trackOf : List ℕ → Track
-trackOf vs =
+abbrev pub sideValues : Track → List ℕ
+sideValues t = t .lent ∷ t .kept ∷ pick (t .capture) 1 0 ∷ []
+
+-- `running` and `capture` are 0 or 1, and what is reserved is 0. A store with another number there reads as a ring of no descriptors a submission, which
+-- fails the consistency test
+abbrev pub wholeOf : ℕ → ℕ → ℕ → ℕ → Bool
+wholeOf running capture first second = leb running 1 && (leb capture 1 && (eqb first 0 && eqb second 0))
+
+abbrev pub trackOf : List ℕ → List ℕ → Track
+trackOf vs ws =
     record {
-      descriptors = pick (wholeOf (getD vs 10 0) (getD vs 11 0) (getD vs 12 0)) (getD vs 0 0) 0;
+      descriptors = pick (wholeOf (getD vs 10 0) (getD ws 2 0) (getD vs 11 0) (getD vs 12 0)) (getD vs 0 0) 0;
       head = getD vs 1 0;
       tail = getD vs 2 0;
       inflight = getD vs 3 0;
@@ -51,10 +65,13 @@ trackOf vs =
       turns = getD vs 8 0;
       stream = getD vs 9 0;
       running = not (eqb (getD vs 10 0) 0);
+      capture = not (eqb (getD ws 2 0) 0);
+      lent = getD ws 0 0;
+      kept = getD ws 1 0;
     }
 
 unfoldable pub trackAt : List ℕ → Track
-trackAt s = trackOf (readAt 0 trackRow s)
+trackAt s = trackOf (readAt 0 trackRow s) (readAt sidePlace sideRow s)
 
 -- offset 8, length 8
 abbrev pub slotRow : List ℕ
@@ -73,5 +90,8 @@ ringOf s = record { track = trackAt s; slots = rowsAt slotAt slotSize trackSize 
 abbrev pub trackBytes : Track → List ℕ
 trackBytes t = write trackRow (trackValues t)
 
+abbrev pub sideBytes : Track → List ℕ
+sideBytes t = write sideRow (sideValues t)
+
 unfoldable pub ringBytes : Ring → List ℕ
-ringBytes r = trackBytes (r .track) ++ rowsBytes slotBytes (r .slots)
+ringBytes r = trackBytes (r .track) ++ (rowsBytes slotBytes (r .slots) ++ sideBytes (r .track))

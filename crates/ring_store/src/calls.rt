@@ -6,10 +6,11 @@ ghost use lib.ListN.{length};
 ghost use Rattle.layout.specs.Lent.{made};
 ghost use Rattle.turns.specs.Ring.{saidWord, isRefused};
 ghost use Rattle.ring_store.specs.Store.{ringSize};
-ghost use Rattle.ring_store.specs.Calls.{newIn, turnIn, drainIn, startIn};
+ghost use Rattle.ring_store.specs.Calls.{newIn, turnIn, drainIn, startIn, caught, captureIn, captureStartIn};
 ghost use Rattle.ring_store.specs.Private.{stepOver};
 use crate::store;
 use crate::store::SIZE;
+use turns::Catch;
 use turns::Reading;
 use turns::Ring;
 use turns::Said;
@@ -114,5 +115,45 @@ pub fn start(ring: &mut [u8], stream: u32, len: usize, period: usize, budget: u6
     }
     let t = store::get_track(ring);
     let step = turns::start_track(t, stream, len, period, budget);
+    leave(ring, step)
+}
+
+// A turn of a capture, lent its recording and the bytes of the completion.
+pub fn capture_turn(
+    ring: &mut [u8],
+    recording: &mut [u8],
+    kind: u32,
+    slot: u32,
+    written: u32,
+    bytes: &[u8],
+) -> u64
+    ensures { λ r. ⌜ caught r (now (ring .exit)) (now (recording .exit)) ≡ captureIn (now (ring .entry)) (now (recording .entry)) kind slot written (now (bytes .entry)) ⌝ }
+{
+    if ring.len() < SIZE {
+        return BAD_LENGTH;
+    }
+    let t = store::get_track(ring);
+    let c = Catch::from_words(kind, slot, written, bytes);
+    let step = turns::capture_track(t, recording.len(), c);
+    turns::copy(recording, t, step, bytes);
+    leave(ring, step)
+}
+
+// The start of a capture of so many periods, lent a recording of len bytes.
+pub fn capture_start(
+    ring: &mut [u8],
+    stream: u32,
+    periods: usize,
+    period: usize,
+    len: usize,
+    budget: u64,
+) -> u64
+    ensures { λ r. ⌜ made r (now (ring .exit)) ≡ captureStartIn (now (ring .entry)) stream periods period len budget ⌝ }
+{
+    if ring.len() < SIZE {
+        return BAD_LENGTH;
+    }
+    let t = store::get_track(ring);
+    let step = turns::capture_start_track(t, stream, periods, period, len, budget);
     leave(ring, step)
 }

@@ -7,13 +7,17 @@ mod calls;
 mod reads;
 mod store;
 
+pub use calls::capture_start;
+pub use calls::capture_turn;
 pub use calls::drain_turn;
 pub use calls::new;
 pub use calls::start;
 pub use calls::turn;
+pub use reads::capture_offered;
 pub use reads::carried;
 pub use reads::free_descriptors;
 pub use reads::in_flight;
+pub use reads::kept;
 pub use reads::offered;
 pub use reads::oldest;
 pub use reads::running;

@@ -7,10 +7,10 @@ ghost use lib.Dec.{ltb};
 ghost use Rattle.layout.specs.Lent.{shown};
 ghost use Rattle.codes.specs.Says.{says, guard};
 ghost use Rattle.codes.specs.Answers.{refusalWord};
-ghost use Rattle.turns.specs.Reads.{runningOf, inFlightOf, freeOf, turnsOf, streamOf, carriedOf};
+ghost use Rattle.turns.specs.Reads.{runningOf, inFlightOf, freeOf, turnsOf, streamOf, keptRead, carriedOf};
 ghost use Rattle.turns.specs.Consistent.{consistentOf};
 ghost use Rattle.ring_store.specs.Store.{trackAt, ringOf};
-ghost use Rattle.ring_store.specs.Calls.{roomyIn, toldIn, offerIn, oldestSays};
+ghost use Rattle.ring_store.specs.Calls.{roomyIn, toldIn, offerIn, saysRoom, captureOfferIn, oldestSays};
 ghost use Rattle.turns.specs.Calls.{saysSent};
 use crate::calls::BAD_LENGTH;
 use crate::calls::INVALID_PARAM;
@@ -72,6 +72,19 @@ fn tell_two(ring: &[u8], sound: bool, first: u64, second: u64, result: &mut [u8]
     0
 }
 
+fn tell_three(ring: &[u8], flag: u64, slot: u64, len: u64, result: &mut [u8]) -> u64
+    ensures { λ r. ⌜ shown r (now (result .exit)) ≡ toldIn (now (ring .entry)) (now (result .entry)) (says 0 (flag ∷ slot ∷ len ∷ [])) ⌝ }
+{
+    let room = roomy(ring, result);
+    if !room {
+        return BAD_LENGTH;
+    }
+    layout::put_u64(result, 0, flag);
+    layout::put_u64(result, 8, slot);
+    layout::put_u64(result, 16, len);
+    0
+}
+
 fn tell_four(ring: &[u8], flag: u64, slot: u64, offset: u64, len: u64, result: &mut [u8]) -> u64
     ensures { λ r. ⌜ shown r (now (result .exit)) ≡ toldIn (now (ring .entry)) (now (result .entry)) (says 0 (flag ∷ slot ∷ offset ∷ len ∷ [])) ⌝ }
 {
@@ -109,6 +122,36 @@ pub fn offered(ring: &[u8], len: usize, result: &mut [u8]) -> u64
     let offer = turns::offer_track(t, len);
     match offer {
         Offer::Is(sent) => tell_sent(ring, sent, result),
+        Offer::Refused(refusal) => tell_refusal(ring, refusal, result),
+    }
+}
+
+// A capture's period has no place in the recording yet.
+fn tell_room(ring: &[u8], sent: Sent, result: &mut [u8]) -> u64
+    ensures { λ r. ⌜ shown r (now (result .exit)) ≡ toldIn (now (ring .entry)) (now (result .entry)) (saysRoom sent) ⌝ }
+{
+    match sent {
+        Sent::Nothing => tell_three(ring, 0, 0, 0, result),
+        Sent::Period {
+            slot,
+            offset: _,
+            len,
+        } => { tell_three(ring, 1, slot as u64, len as u64, result) }
+    }
+}
+
+// What the next turn of a capture submits, refused as the turn would be: 1, slot and length, or 0
+// three times.
+pub fn capture_offered(ring: &[u8], len: usize, result: &mut [u8]) -> u64
+    ensures { λ r. ⌜ shown r (now (result .exit)) ≡ captureOfferIn (now (ring .entry)) len (now (result .entry)) ⌝ }
+{
+    if !roomy(ring, result) {
+        return BAD_LENGTH;
+    }
+    let t = store::get_track(ring);
+    let offer = turns::capture_offer(t, len);
+    match offer {
+        Offer::Is(sent) => tell_room(ring, sent, result),
         Offer::Refused(refusal) => tell_refusal(ring, refusal, result),
     }
 }
@@ -159,6 +202,15 @@ pub fn stream(ring: &[u8], result: &mut [u8]) -> u64
     let t = store::track(ring);
     let sound = turns::is_consistent(t);
     tell_one(ring, sound, t.stream as u64, result)
+}
+
+// The bytes of its recording that a capture accepted, the one that runs or the last one that ran.
+pub fn kept(ring: &[u8], result: &mut [u8]) -> u64
+    ensures { λ r. ⌜ shown r (now (result .exit)) ≡ toldIn (now (ring .entry)) (now (result .entry)) (keptRead (trackAt (now (ring .entry)))) ⌝ }
+{
+    let t = store::track(ring);
+    let sound = turns::is_consistent(t);
+    tell_one(ring, sound, t.kept as u64, result)
 }
 
 // A slot of a consistent ring.

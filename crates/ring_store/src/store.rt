@@ -7,15 +7,15 @@ ghost use lib.Seq.{sets};
 ghost use Rattle.codes.specs.Says.{pick};
 ghost use Rattle.layout.specs.Bytes.{le, numAt};
 ghost use Rattle.turns.specs.Ring.{blankSlot};
-ghost use Rattle.ring_store.specs.Store.{ringSize, trackBytes, wholeOf, trackOf, trackAt, ringOf};
-ghost use Rattle.ring_store.specs.Private.{slotOver, sentOver, blankOver};
+ghost use Rattle.ring_store.specs.Store.{ringSize, sidePlace, trackBytes, sideBytes, wholeOf, trackOf, trackAt, ringOf};
+ghost use Rattle.ring_store.specs.Private.{trackOver, slotOver, sentOver, blankOver};
 use layout;
 use turns::Sent;
 use turns::Slot;
 use turns::Track;
 
-// The bytes of a ring: the track, and then 32 slots.
-pub const SIZE: usize = 608;
+// The bytes of a ring: the track, 32 slots, and what a capture keeps in the track besides.
+pub const SIZE: usize = 628;
 
 const TRACK: usize = 96;
 
@@ -49,6 +49,12 @@ const RUNNING: usize = 76;
 const RESERVED: usize = 80;
 
 const RESERVED_TOO: usize = 88;
+
+const LENT: usize = 608;
+
+const KEPT: usize = 616;
+
+const CAPTURE: usize = 624;
 
 // Numbers that lie within the store.
 fn word(s: &[u8], at: usize) -> u64
@@ -100,12 +106,15 @@ fn put_half(s: &mut [u8], at: usize, v: u32)
     s[at + 3] = bytes[3];
 }
 
-// `running` is 0 or 1, and what is reserved is 0. With another number there the store holds no
-// ring: 0 descriptors to a submission fail every test of it.
-fn descriptors_of(flag: u32, first: u64, second: u64, descriptors: usize) -> usize
-    ensures { λ r. ⌜ r ≡ pick (wholeOf flag first second) descriptors 0 ⌝ }
+// `running` and `capture` are 0 or 1, and what is reserved is 0. With another number there the store
+// holds no ring: 0 descriptors to a submission fail every test of it.
+fn descriptors_of(running: u32, capture: u32, first: u64, second: u64, descriptors: usize) -> usize
+    ensures { λ r. ⌜ r ≡ pick (wholeOf running capture first second) descriptors 0 ⌝ }
 {
-    if 1 < flag {
+    if 1 < running {
+        return 0;
+    }
+    if 1 < capture {
         return 0;
     }
     if first != 0 {
@@ -114,10 +123,10 @@ fn descriptors_of(flag: u32, first: u64, second: u64, descriptors: usize) -> usi
     if second == 0 { descriptors } else { 0 }
 }
 
-pub(crate) fn flag_of(running: bool) -> u32
-    ensures { λ r. ⌜ r ≡ pick running 1 0 ⌝ }
+pub(crate) fn flag_of(set: bool) -> u32
+    ensures { λ r. ⌜ r ≡ pick set 1 0 ⌝ }
 {
-    if running { 1 } else { 0 }
+    if set { 1 } else { 0 }
 }
 
 // A track from its numbers, in the store's order.
@@ -132,14 +141,17 @@ fn track_of(
     budget: u64,
     turns: u64,
     stream: u32,
-    flag: u32,
+    running: u32,
     first: u64,
     second: u64,
+    lent: u64,
+    kept: u64,
+    capture: u32,
 ) -> Track
-    ensures { λ r. ⌜ r ≡ trackOf (descriptors ∷ head ∷ tail ∷ inflight ∷ total ∷ period ∷ next ∷ budget ∷ turns ∷ stream ∷ flag ∷ first ∷ second ∷ []) ⌝ }
+    ensures { λ r. ⌜ r ≡ trackOf (descriptors ∷ head ∷ tail ∷ inflight ∷ total ∷ period ∷ next ∷ budget ∷ turns ∷ stream ∷ running ∷ first ∷ second ∷ []) (lent ∷ kept ∷ capture ∷ []) ⌝ }
 {
     Track {
-        descriptors: descriptors_of(flag, first, second, descriptors as usize),
+        descriptors: descriptors_of(running, capture, first, second, descriptors as usize),
         head: head as usize,
         tail: tail as usize,
         inflight: inflight as usize,
@@ -149,7 +161,10 @@ fn track_of(
         next: next as usize,
         budget,
         turns,
-        running: flag != 0,
+        running: running != 0,
+        capture: capture != 0,
+        lent: lent as usize,
+        kept: kept as usize,
     }
 }
 
@@ -171,6 +186,9 @@ pub(crate) fn short_track(ring: &[u8]) -> Track
         layout::get_u32(ring, RUNNING),
         layout::get_u64(ring, RESERVED),
         layout::get_u64(ring, RESERVED_TOO),
+        layout::get_u64(ring, LENT),
+        layout::get_u64(ring, KEPT),
+        layout::get_u32(ring, CAPTURE),
     )
 }
 
@@ -193,6 +211,9 @@ pub(crate) fn get_track(ring: &[u8]) -> Track
         half(ring, RUNNING),
         word(ring, RESERVED),
         word(ring, RESERVED_TOO),
+        word(ring, LENT),
+        word(ring, KEPT),
+        half(ring, CAPTURE),
     )
 }
 
@@ -206,8 +227,8 @@ pub fn track(ring: &[u8]) -> Track
     get_track(ring)
 }
 
-// A track written over a store's.
-pub(crate) fn put_track(ring: &mut [u8], t: Track)
+// The part of a track before the slots.
+fn put_front(ring: &mut [u8], t: Track)
     requires { ⌜ ringSize ≤ length (now ring) ⌝ }
     ensures { λ _. ⌜ now (ring .exit) ≡ sets (now (ring .entry)) 0 (trackBytes t) ⌝ }
 {
@@ -225,6 +246,26 @@ pub(crate) fn put_track(ring: &mut [u8], t: Track)
     put_half(ring, RUNNING, flag);
     put_word(ring, RESERVED, 0);
     put_word(ring, RESERVED_TOO, 0);
+}
+
+// The part behind the slots.
+fn put_side(ring: &mut [u8], t: Track)
+    requires { ⌜ ringSize ≤ length (now ring) ⌝ }
+    ensures { λ _. ⌜ now (ring .exit) ≡ sets (now (ring .entry)) sidePlace (sideBytes t) ⌝ }
+{
+    let flag = flag_of(t.capture);
+    put_word(ring, LENT, t.lent as u64);
+    put_word(ring, KEPT, t.kept as u64);
+    put_half(ring, CAPTURE, flag);
+}
+
+// A track written over a store's.
+pub(crate) fn put_track(ring: &mut [u8], t: Track)
+    requires { ⌜ ringSize ≤ length (now ring) ⌝ }
+    ensures { λ _. ⌜ now (ring .exit) ≡ trackOver (now (ring .entry)) t ⌝ }
+{
+    put_front(ring, t);
+    put_side(ring, t);
 }
 
 // A slot written over a store's. There are 32: no other is stored.

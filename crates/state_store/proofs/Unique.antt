@@ -16,6 +16,7 @@ use Rattle.state_store.proofs.calls.feed.Reads as feed
 use Rattle.state_store.proofs.calls.feed_written.Reads as feed-written
 use Rattle.state_store.proofs.calls.feed_failure.Reads as feed-failure
 use Rattle.state_store.proofs.calls.open.Reads as opening
+use Rattle.state_store.proofs.calls.open_capture.Reads as opening-capture
 use Rattle.state_store.proofs.config.new.Reads as new
 use Rattle.state_store.proofs.config.new_guarded.Reads as new-guarded
 use Rattle.state_store.proofs.config.jacks.Reads as jacks
@@ -63,6 +64,9 @@ feed-failure-one κs a r₁ r₂ e₁ e₂ p q = left-one p q
 -- state and message
 pub open-one : (κs : _) (a : _) (r₁ r₂ : _) (e₁ e₂ : _) → opening.Post κs a r₁ e₁ → opening.Post κs a r₂ e₂ → (r₁ ≡ r₂) × (now (e₁ .0) ≡ now (e₂ .0)) × (now (e₁ .1 .1 .1 .0) ≡ now (e₂ .1 .1 .1 .0))
 open-one κs a r₁ r₂ e₁ e₂ p q = opened-one p q
+
+pub open-capture-one : (κs : _) (a : _) (r₁ r₂ : _) (e₁ e₂ : _) → opening-capture.Post κs a r₁ e₁ → opening-capture.Post κs a r₂ e₂ → (r₁ ≡ r₂) × (now (e₁ .0) ≡ now (e₂ .0)) × (now (e₁ .1 .1 .1 .0) ≡ now (e₂ .1 .1 .1 .0))
+open-capture-one κs a r₁ r₂ e₁ e₂ p q = opened-one p q
 
 -- state
 pub new-one : (κs : _) (a : _) (r₁ r₂ : _) (e₁ e₂ : _) → new.Post κs a r₁ e₁ → new.Post κs a r₂ e₂ → (r₁ ≡ r₂) × (now (e₁ .0) ≡ now (e₂ .0))

@@ -1,7 +1,7 @@
 -- The calls on a state that stands in a lent byte store: the call by value on the state that the store holds, and the state that it leaves, written
 -- over it. A store under 14,703 bytes, or a result slice under 512, gets 10 and nothing is looked at.
 -- Assumes nothing.
-use mathlib.Core.Bool.{Bool, _&&_}
+use mathlib.Core.Bool.{Bool, true, false, _&&_}
 use mathlib.Core.List.{List, [], _∷_, _++_}
 use Prim.Native.Nat.{ℕ, _+_}
 use lib.Dec.{leb}
@@ -18,13 +18,13 @@ use Rattle.core.specs.Consistent.{consistentOf}
 use Rattle.exchange.specs.Tables.{soundAfter}
 use Rattle.core.specs.Reply.{replyWord, messageAfter}
 use Rattle.exchange.specs.Exchange.{stepOf, callOf, feedOf, failOf}
-use Rattle.exchange.specs.Xfer.{xferBy, setUpPlan}
+use Rattle.exchange.specs.Xfer.{xferAs, setUpWith}
 use Rattle.core.specs.declared.plan.Value.the-variants as value
 use Rattle.core.specs.declared.reply.Reply.the-variants as reply
 use Rattle.state_store.specs.Places.{stateSize}
 use Rattle.layout.specs.Lent.{Made, made, Shown, shown, resultSize, messageSize}
 use Rattle.state_store.specs.Store.{soundOf, soundBytes, stateAfter}
-use Rattle.state_store.specs.Types.{Written, Refusal, Track, Call, Counts, Value, Plan, Reply, StreamList, Opening, Says}
+use Rattle.state_store.specs.Types.{Written, Refusal, Track, Call, Xfer, Capture, Counts, Value, Plan, Reply, StreamList, Opening, Says}
 use Rattle.state_store.specs.declared.calls.Opening.the-variants.{Open}
 
 -- an answer as one word, and what state, message and result hold then
@@ -94,15 +94,25 @@ opened o s m = record { opening = o; state = s; message = m }
 abbrev pub shut : List ℕ → List ℕ → Refusal → Opened
 shut s m x = record { opening = Says (refusalWord x); state = s; message = m }
 
-abbrev pub settingUp : List ℕ → ℕ → List ℕ → Opened
-settingUp s stream m =
-    let p = setUpPlan (soundOf s) stream in
+abbrev pub settingUpWith : List ℕ → Call → List ℕ → Opened
+settingUpWith s call m =
+    let p = setUpWith (soundOf s) call in
     record { opening = Says (256 + 16); state = stateAfter s (soundAfter (p .effect) (p .core) (soundOf s) []); message = messageAfter (p .say) m }
 
-unfoldable pub openIn : List ℕ → Track → ℕ → List ℕ → Opened
-openIn s t stream m =
-    xferBy (leb stateSize (length s) && leb messageSize (length m)) (noneIn (soundOf s .pending)) (soundOf s) t stream (shut s m) (settingUp s stream m)
+abbrev pub settingUp : List ℕ → ℕ → List ℕ → Opened
+settingUp s stream m = settingUpWith s (Xfer stream) m
+
+-- of a capture or a playback, with the call that waits
+abbrev pub openAs : Bool → Call → List ℕ → Track → ℕ → List ℕ → Opened
+openAs capture call s t stream m =
+    xferAs capture (leb stateSize (length s) && leb messageSize (length m)) (noneIn (soundOf s .pending)) (soundOf s) t stream (shut s m) (settingUpWith s call m)
     (λ period. record { opening = Open period; state = s; message = m })
+
+unfoldable pub openIn : List ℕ → Track → ℕ → List ℕ → Opened
+openIn s t stream m = openAs false (Xfer stream) s t stream m
+
+unfoldable pub openCaptureIn : List ℕ → Track → ℕ → List ℕ → Opened
+openCaptureIn s t stream m = openAs true (Capture stream) s t stream m
 
 -- ---- a new state, with the guard or without, and the reads of the configured counts: 1 for a state that fails the consistency test
 

@@ -5,7 +5,7 @@ use mathlib.Core.List.{List, [], _∷_}
 use Prim.Native.Nat.{ℕ}
 use lib.Dec.{eqb}
 use Rattle.codes.specs.Says.{pick}
-use Rattle.state_store.specs.Types.{Params, Kind, Prepare, Release, Start, Stop, Field, Rates, Formats, Channels, Features, Call, SetParams, Command, Remap, Streams, Supported, Xfer, Stage, Idle, JacksAsked, StreamsAsked, MapsAsked, Sent, Flat}
+use Rattle.state_store.specs.Types.{Params, Kind, Prepare, Release, Start, Stop, Field, Rates, Formats, Channels, Features, Call, SetParams, Command, Remap, Streams, Supported, Xfer, Capture, Stage, Idle, JacksAsked, StreamsAsked, MapsAsked, Sent, Flat}
 
 -- ready 1, stage 1, call 1, part 1, id 4, first 4, second 4, third 4, known 1, channels 1, format 1, rate 1
 abbrev pub flatRow : List ℕ
@@ -56,6 +56,7 @@ callFlat (Remap jack association sequence) = numbered 3 0 jack association seque
 callFlat (Streams direction) = numbered 4 direction 0 0 0
 callFlat (Supported field stream) = numbered 5 (fieldNumber field) stream 0 0
 callFlat (Xfer stream) = numbered 6 0 stream 0 0
+callFlat (Capture stream) = numbered 7 0 stream 0 0
 
 abbrev pub staged : Bool → ℕ → Flat → Flat
 staged ready stage f =
@@ -107,7 +108,8 @@ flatCall f =
     (pick (eqb (f .call) 2) (Command (kindOf (f .part)) (f .id))
     (pick (eqb (f .call) 3) (Remap (f .id) (f .first) (f .second))
     (pick (eqb (f .call) 4) (Streams (f .part))
-    (pick (eqb (f .call) 5) (Supported (flatField (f .part)) (f .id)) (Xfer (f .id))))))
+    (pick (eqb (f .call) 5) (Supported (flatField (f .part)) (f .id))
+    (pick (eqb (f .call) 6) (Xfer (f .id)) (Capture (f .id)))))))
 
 abbrev pub flatStage : Flat → Stage
 flatStage f =

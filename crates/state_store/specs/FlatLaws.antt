@@ -13,7 +13,7 @@ use Rattle.codes.specs.SaysLaws.{picks}
 use Rattle.turns.specs.ConsistentLaws.{both}
 use Rattle.state_store.specs.Flat.{flatValues, kindNumber, kindOf, fieldNumber, flatField, callFlat, staged, flatOf, flatCall, flatStage, flatReady, sameFlat, wholeFlat}
 use Rattle.state_store.specs.Store.{wholeHead, headFrom, headOf, coreOf, flag}
-use Rattle.state_store.specs.Types.{Kind, Prepare, Release, Start, Stop, Field, Rates, Formats, Channels, Features, Call, SetParams, Command, Remap, Streams, Supported, Xfer, Stage, Idle, JacksAsked, StreamsAsked, MapsAsked, Sent, Core, Flat, Head}
+use Rattle.state_store.specs.Types.{Kind, Prepare, Release, Start, Stop, Field, Rates, Formats, Channels, Features, Call, SetParams, Command, Remap, Streams, Supported, Xfer, Capture, Stage, Idle, JacksAsked, StreamsAsked, MapsAsked, Sent, Core, Flat, Head}
 
 -- ---- a stage is had back from its fields
 
@@ -37,6 +37,7 @@ module _ (ready : Bool) (n : ℕ) where
   call-back (Streams direction) = refl
   call-back (Supported field stream) = ap (λ (f : Field). Supported f stream) (field-back field)
   call-back (Xfer stream) = refl
+  call-back (Capture stream) = refl
 
 module _ (ready : Bool) where
   pub flat-stage : (g : Stage) → flatStage (flatOf ready g) ≡ g

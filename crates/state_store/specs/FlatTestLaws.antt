@@ -9,7 +9,7 @@ use borrow.Author.Tests.{le-leb, leb-true, eq-eqb, eqb-true, eqb-false}
 use Rattle.codes.specs.Says.{pick}
 use Rattle.state_store.specs.Flat.{kindNumber, kindOf, fieldNumber, flatField, numbered, flatParams, callFlat, staged, flatOf, flatCall, flatReady, sameFlat, wholeFlat}
 use Rattle.state_store.specs.FlatTests.{plainOf, shortOf, sameCall}
-use Rattle.state_store.specs.Types.{Prepare, Release, Start, Stop, Rates, Formats, Channels, Features, Call, SetParams, Command, Remap, Streams, Supported, Xfer, Stage, Idle, JacksAsked, StreamsAsked, MapsAsked, Sent, Flat}
+use Rattle.state_store.specs.Types.{Prepare, Release, Start, Stop, Rates, Formats, Channels, Features, Call, SetParams, Command, Remap, Streams, Supported, Xfer, Capture, Stage, Idle, JacksAsked, StreamsAsked, MapsAsked, Sent, Flat}
 
 -- two tests that hold together are one
 same-bool : (a b : Bool) → (a ≡ true → b ≡ true) → (b ≡ true → a ≡ true) → a ≡ b
@@ -94,7 +94,10 @@ module _ (f : Flat) where
   pub xfer-test : eqb (f .call) 6 ≡ true → Xfer (f .id) ≡ flatCall f → (eqb (f .part) 0 && shortOf f) ≡ sameCall f (callFlat (flatCall f))
   xfer-test e p = by p (λ i. sym e i && (eqb (f .part) 0 && (self (f .id) i && shortOf f)))
 
-  pub unknown-test : eqb (f .call) 6 ≡ false → Xfer (f .id) ≡ flatCall f → false ≡ sameCall f (callFlat (flatCall f))
+  pub capture-test : eqb (f .call) 7 ≡ true → Capture (f .id) ≡ flatCall f → (eqb (f .part) 0 && shortOf f) ≡ sameCall f (callFlat (flatCall f))
+  capture-test e p = by p (λ i. sym e i && (eqb (f .part) 0 && (self (f .id) i && shortOf f)))
+
+  pub unknown-test : eqb (f .call) 7 ≡ false → Capture (f .id) ≡ flatCall f → false ≡ sameCall f (callFlat (flatCall f))
   unknown-test e p = by p (λ i. sym e i && (eqb (f .part) 0 && (eqb (f .id) (f .id) && shortOf f)))
 
   -- ---- the whole, by the stage

@@ -21,7 +21,10 @@ use Rattle.codes.specs.Says.{pick, guard}
 use Rattle.codes.specs.SaysLaws.{guarded-by}
 use Rattle.tables.specs.Tables.{fits, isGood, jacksPlace, pcmsPlace, mapsPlace, tablesBytes, copiedIn}
 use Rattle.tables.specs.FillLaws.{copied-length}
+use Rattle.turns.specs.Calls.{startCall}
+use Rattle.turns.specs.Capture.{captureStart}
 use Rattle.turns.specs.Consistent as ring
+use Rattle.turns.specs.declared.ring.Step as ring-step
 use Rattle.turns.specs.ConsistentLaws.{both}
 use Rattle.pending.specs.Table.{freeToken, noneIn}
 use Rattle.core.specs.State.{unset, newCore}
@@ -31,19 +34,19 @@ use Rattle.core.specs.Plan.{effectOf, kindLife}
 use Rattle.exchange.specs.Tables.{moved, soundAfter}
 use Rattle.exchange.specs.Exchange.{stepOf, callOf, feedOf, failOf}
 use Rattle.exchange.specs.Feed.{Feed, paged, failed, planOf, pageOf}
-use Rattle.exchange.specs.Xfer.{xferBy, setUpPlan, startOf}
+use Rattle.exchange.specs.Xfer.{xferAs, waitingAs, setUpWith, setUpStepWith, startAs, startOf, captureOf}
 use Rattle.exchange.specs.OwnLaws.{picked-by}
 use Rattle.exchange.specs.PlanLaws.{begun, Answered, short, idle, asks-streams, asks-maps, cuts, finishes, ends, fails, fed}
 use Rattle.exchange.specs.StayLaws.{called-quiet}
-use Rattle.exchange.specs.StepLaws.{startBy, started-by}
-use Rattle.state_store.specs.Types.{Written, Refusal, Verdict, Track, Ring, Params, Kind, Prepare, Release, Start, Stop, Call, SetParams, Command, Remap, Streams, Supported, Xfer, Sent, Core, Sound, Token, Effect, Nothing, FillJacks, FillStreams, FillMaps, Store, Move, Look, Plan, Gate, Shut, SetUp, Open, XferStep}
+use Rattle.exchange.specs.StepLaws.{startBy, started-as}
+use Rattle.state_store.specs.Types.{Written, Refusal, Verdict, Track, Ring, Params, Kind, Prepare, Release, Start, Stop, Call, SetParams, Command, Remap, Streams, Supported, Xfer, Capture, Sent, Core, Sound, Token, Effect, Nothing, FillJacks, FillStreams, FillMaps, Store, Move, Look, Plan, Gate, Shut, SetUp, Open, XferStep}
 use Rattle.state_store.specs.Places.{headSize, paramsPlace, livesPlace, tokensPlace, stateSize}
 use Rattle.state_store.specs.Store.{whole, lifeRow, lifeAt, lifeBytes, tokenRow, tokenIn, tokenBytes, paramsRow, paramsAt, soundOf, soundBytes, stateAfter, headRow, headValues, headOf, paramsBytes}
 use Rattle.layout.specs.Lent.{Made, messageSize}
-use Rattle.state_store.specs.Calls.{Told, told, tooShort, lengths, callIn, feedIn, failIn, Opened, openIn, newIn}
+use Rattle.state_store.specs.Calls.{Told, told, tooShort, lengths, callIn, feedIn, failIn, Opened, settingUpWith, openAs, openIn, openCaptureIn, newIn}
 use Rattle.state_store.specs.StoreLaws.{paramsValues, lifeValues, tokenValues, Fits, store-back}
 use Rattle.state_store.specs.OpenLaws.{gateIn, openBy, opens, opened-by}
-use Rattle.state_store.specs.WholeLaws.{FitCall, FitCore, head-fits, store-fits, begun-fits, waits, answered-fits, set-up-fits, new-fits}
+use Rattle.state_store.specs.WholeLaws.{FitCall, FitCore, head-fits, store-fits, begun-fits, waits, answered-fits, waiting-fits, set-up-fits, new-fits}
 use Rattle.state_store.specs.RefusedLaws.{Barred, begun-barred, answered-barred, not-whole}
 use Rattle.state_store.specs.FinishLaws.{long-state}
 
@@ -159,6 +162,7 @@ effect-fits (Remap jack association sequence) k = tt
 effect-fits (Streams direction) k = tt
 effect-fits (Supported field stream) k = tt
 effect-fits (Xfer stream) k = tt
+effect-fits (Capture stream) k = tt
 
 answered-effect : {c : Core} {v : Verdict} {look : Look} {long : Bool} {p : Plan} → FitCore c → Answered c v look long p → EffectFits (p .effect)
 answered-effect f (short _) = tt
@@ -237,24 +241,37 @@ module _ (s m : List ℕ) (b : Bytes s) (h : stateSize ≤ length s) (r : Ring) 
   abbrev x : Sound
   x = soundOf s
 
-  consistent : SetUp ≡ gateIn s m t stream → consistentOf (x .core) ≡ true
-  consistent e = both (consistentOf (x .core)) (ring.consistentOf t && streamOk (x .core) (paramsOf x stream) stream) (set-up-passed _ _ _ _ _ e) .0
+  module _ (capture : Bool) (call : Call) (fits : FitCall call) where
+    consistent : SetUp ≡ gateIn capture call s m t stream → consistentOf (x .core) ≡ true
+    consistent e = both (consistentOf (x .core)) (ring.consistentOf t && streamOk (x .core) (paramsOf x stream) stream) (set-up-passed _ _ _ _ _ e) .0
 
-  by : (len budget : ℕ) (g : Gate) → g ≡ gateIn s m t stream → soundOf (openBy s m t stream g .state) ≡ startBy x r stream len budget g .sound
-  by len budget (Shut y) e = refl
-  by len budget SetUp e =
-      held s b h (setUpPlan x stream) [] no-page (λ w. (set-up-fits (x .core) stream (store-fits s b w) k, tt)) (λ w. absurd (false≢true (sym (not-whole s w) ∙ consistent e)))
-  by len budget (Open period) e = refl
+    set-up-holds : SetUp ≡ gateIn capture call s m t stream → soundOf (settingUpWith s call m .state) ≡ setUpStepWith x r call .sound
+    set-up-holds e = held s b h (setUpWith x call) [] no-page (λ w. (set-up-fits (x .core) call (store-fits s b w) fits, tt)) (λ w. absurd (false≢true (sym (not-whole s w) ∙ consistent e)))
+
+  -- whatever is done to the ring where the checks are passed
+  opens-holds : (capture : Bool) (begin : ℕ → ring-step.Step) → soundOf (openAs capture (waitingAs capture stream) s (r .track) stream m .state) ≡ startAs capture begin x r stream (length m) .sound
+  opens-holds capture begin =
+      let call = waitingAs capture stream in
+      let g = gateIn capture call s m t stream in
+      let none = noneIn (x .pending) in
+      let e : g ≡ xferAs capture (leb messageSize (length m)) none x t stream Shut SetUp Open = ap (λ (a : Bool). xferAs capture (a && leb messageSize (length m)) none x t stream Shut SetUp Open) (le-leb stateSize (length s) h) in
+      ap (λ (o : Opened). soundOf (o .state)) (sym (opens capture call s m t stream g refl))
+      ∙ by g refl
+      ∙ ap (λ (y : XferStep). y .sound) (started-as capture begin x r stream (length m) (noneIn (x .pending)) g refl e)
+    where
+      by : (g : Gate) → g ≡ gateIn capture (waitingAs capture stream) s m t stream → soundOf (openBy capture (waitingAs capture stream) s m t stream g .state) ≡ startBy capture begin x r stream g .sound
+      by (Shut y) e = refl
+      by SetUp e = set-up-holds capture (waitingAs capture stream) (waiting-fits capture stream k) e
+      by (Open period) e = refl
 
   -- whatever the transfer's length and budget are
   pub open-holds : (len budget : ℕ) → soundOf (openIn s (r .track) stream m .state) ≡ startOf (soundOf s) r stream len budget (length m) .sound
-  open-holds len budget =
-      let g = gateIn s m t stream in
-      let none = noneIn (x .pending) in
-      let e : g ≡ xferBy (leb messageSize (length m)) none x t stream Shut SetUp Open = ap (λ (a : Bool). xferBy (a && leb messageSize (length m)) none x t stream Shut SetUp Open) (le-leb stateSize (length s) h) in
-      ap (λ (o : Opened). soundOf (o .state)) (sym (opens s m t stream g refl))
-      ∙ by len budget g refl
-      ∙ ap (λ (y : XferStep). y .sound) (started-by x r stream len budget (length m) (noneIn (x .pending)) g refl e)
+  unfolding openIn startOf
+  open-holds len budget = opens-holds false (λ period. startCall (r .track) stream len period budget)
+
+  pub open-capture-holds : (periods lent budget : ℕ) → soundOf (openCaptureIn s (r .track) stream m .state) ≡ captureOf (soundOf s) r stream periods lent budget (length m) .sound
+  unfolding openCaptureIn captureOf
+  open-capture-holds periods lent budget = opens-holds true (λ period. captureStart (r .track) stream periods period lent budget)
 
 -- ---- a new state: its tables are of what is read where no byte stands
 
@@ -332,13 +349,21 @@ module _ (s m r : List ℕ) (b : Bytes s) where
   unfolding failIn
   fail-again = guarded-by (λ (x : Told). Again s (x .state)) _ _ _ (λ _. after-again (failOf (soundOf s) (length m)) [] no-page) (λ _. (b, refl))
 
-  pub open-again : (t : Track) (stream : ℕ) → Again s (openIn s t stream m .state)
-  open-again t stream = opened-by s m t stream (λ (o : Opened). Again s (o .state)) by
+  opens-again : (capture : Bool) (call : Call) (t : Track) (stream : ℕ) → Again s (openAs capture call s t stream m .state)
+  opens-again capture call t stream = opened-by capture call s m t stream (λ (o : Opened). Again s (o .state)) by
     where
-      by : (g : Gate) → g ≡ gateIn s m t stream → Again s (openBy s m t stream g .state)
+      by : (g : Gate) → g ≡ gateIn capture call s m t stream → Again s (openBy capture call s m t stream g .state)
       by (Shut x) e = (b, refl)
-      by SetUp e = after-again (setUpPlan (soundOf s) stream) [] no-page
+      by SetUp e = after-again (setUpWith (soundOf s) call) [] no-page
       by (Open period) e = (b, refl)
+
+  pub open-again : (t : Track) (stream : ℕ) → Again s (openIn s t stream m .state)
+  unfolding openIn
+  open-again t stream = opens-again false (Xfer stream) t stream
+
+  pub open-capture-again : (t : Track) (stream : ℕ) → Again s (openCaptureIn s t stream m .state)
+  unfolding openCaptureIn
+  open-capture-again t stream = opens-again true (Capture stream) t stream
 
 bytes-zeros : (n : ℕ) → Bytes (replicate n 0)
 bytes-zeros zero k = lit< tt

@@ -12,28 +12,28 @@ use Rattle.layout.specs.Lent.{messageSize}
 use Rattle.codes.specs.SaysLaws.{stops}
 use Rattle.turns.specs.ConsistentLaws.{both}
 use Rattle.pending.specs.Table.{noneIn}
-use Rattle.exchange.specs.State.{paramsOf, lifeOf}
+use Rattle.exchange.specs.State.{paramsOf, lifeOf, pcmOf}
 use Rattle.core.specs.Gate.{gateBy}
-use Rattle.exchange.specs.Xfer.{xferBy}
+use Rattle.exchange.specs.Xfer.{xferAs}
 use Rattle.exchange.specs.StepLaws as step
 use Rattle.core.specs.declared.gate.Gate.the-variants as gate
 use Rattle.state_store.specs.Places.{headSize, stateSize}
 use Rattle.state_store.specs.Store.{headAt, coreOf, soundOf}
-use Rattle.state_store.specs.Calls.{Opened, opened, shut, settingUp, openIn}
+use Rattle.state_store.specs.Calls.{Opened, opened, shut, settingUpWith, openAs}
 use Rattle.state_store.specs.StoreLaws.{core-at}
-use Rattle.state_store.specs.Types.{BadLength, Track, Params, Core, Gate, Shut, SetUp}
+use Rattle.state_store.specs.Types.{BadLength, Track, Call, Params, Core, Gate, Shut, SetUp}
 use Rattle.state_store.specs.declared.calls.Opening.the-variants.{Open}
 
-module _ (s m : List ℕ) (t : Track) (stream : ℕ) where
+module _ (capture : Bool) (call : Call) (s m : List ℕ) (t : Track) (stream : ℕ) where
   abbrev long : Bool
   long = leb stateSize (length s) && leb messageSize (length m)
 
   abbrev pub gateIn : Gate
-  gateIn = xferBy long (noneIn (soundOf s .pending)) (soundOf s) t stream Shut SetUp gate.Open
+  gateIn = xferAs capture long (noneIn (soundOf s .pending)) (soundOf s) t stream Shut SetUp gate.Open
 
-  pub gated : {b d : Bool} {c : Core} {p : Params} {life : ℕ} {g : Gate} → b ≡ long → d ≡ noneIn (soundOf s .pending) → c ≡ coreOf (headAt s) → p ≡ paramsOf (soundOf s) stream → life ≡ lifeOf (soundOf s) stream
-      → g ≡ gateBy b d c p life t stream Shut SetUp gate.Open → g ≡ gateIn
-  gated b d c p l g = g ∙ (λ i. gateBy (b i) (d i) ((c ∙ sym (core-at s)) i) (p i) (l i) t stream Shut SetUp gate.Open)
+  pub gated : {b d : Bool} {c : Core} {p : Params} {life direction : ℕ} {g : Gate} → b ≡ long → d ≡ noneIn (soundOf s .pending) → c ≡ coreOf (headAt s) → p ≡ paramsOf (soundOf s) stream → life ≡ lifeOf (soundOf s) stream
+      → direction ≡ pcmOf (soundOf s) stream .direction → g ≡ gateBy capture b d c p life direction t stream Shut SetUp gate.Open → g ≡ gateIn
+  gated b d c p l f g = g ∙ (λ i. gateBy capture (b i) (d i) ((c ∙ sym (core-at s)) i) (p i) (l i) (f i) t stream Shut SetUp gate.Open)
 
   -- where they are not, the gate is shut
   pub shut-short : long ≡ false → Shut BadLength ≡ gateIn
@@ -48,18 +48,17 @@ module _ (s m : List ℕ) (t : Track) (stream : ℕ) where
   -- set-up is begun only where the lengths are right
   pub set-up-long : SetUp ≡ gateIn → (stateSize ≤ length s) × (messageSize ≤ length m)
   set-up-long e =
-      let h = both (leb stateSize (length s)) (leb messageSize (length m)) (step.set-up-long long (noneIn (soundOf s .pending)) (soundOf s) t stream e) in
+      let h = both (leb stateSize (length s)) (leb messageSize (length m)) (step.set-up-long capture long (noneIn (soundOf s .pending)) (soundOf s) t stream e) in
       (leb-true stateSize (length s) (h .0), leb-true messageSize (length m) (h .1))
 
   abbrev pub openBy : Gate → Opened
   openBy (Shut x) = shut s m x
-  openBy SetUp = settingUp s stream m
+  openBy SetUp = settingUpWith s call m
   openBy (gate.Open period) = opened (Open period) s m
 
-  pub opens : (g : Gate) → g ≡ gateIn → openBy g ≡ openIn s t stream m
-  unfolding openIn
-  opens g e = ap openBy e ∙ step.xfer-ap openBy long (noneIn (soundOf s .pending)) (soundOf s) t stream Shut SetUp gate.Open
+  pub opens : (g : Gate) → g ≡ gateIn → openBy g ≡ openAs capture call s t stream m
+  opens g e = ap openBy e ∙ step.xfer-as-ap openBy capture long (noneIn (soundOf s .pending)) (soundOf s) t stream Shut SetUp gate.Open
 
   -- what holds at each end of the checks holds of the start
-  pub opened-by : (P : Opened → Type 0) → ((g : Gate) → g ≡ gateIn → P (openBy g)) → P (openIn s t stream m)
+  pub opened-by : (P : Opened → Type 0) → ((g : Gate) → g ≡ gateIn → P (openBy g)) → P (openAs capture call s t stream m)
   opened-by P f = subst P (opens gateIn refl) (f gateIn refl)

@@ -29,10 +29,10 @@ use Rattle.core.specs.declared.reply.Reply.the-variants as reply
 use Rattle.core.specs.declared.plan.Request.the-variants as request
 use Rattle.core.specs.declared.plan.Say.the-variants as say
 use Rattle.state_store.specs.Store.{whole, soundOf, soundBytes, stateAfter}
-use Rattle.state_store.specs.Calls.{Told, told, tooShort, resultBytes, callIn, feedIn, failIn, Opened, openIn}
+use Rattle.state_store.specs.Calls.{Told, told, tooShort, resultBytes, callIn, feedIn, failIn, Opened, openAs, openIn, openCaptureIn}
 use Rattle.state_store.specs.StoreLaws.{core-at, store-same}
 use Rattle.state_store.specs.OpenLaws.{gateIn, openBy, opened-by}
-use Rattle.state_store.specs.Types.{Written, Refusal, InvalidParam, BadLength, Verdict, Track, Call, SetParams, Command, Remap, Streams, Supported, Xfer, Core, Sound, Look, Plan, Reply, Request, Say, Gate, Shut, SetUp, Open, Says}
+use Rattle.state_store.specs.Types.{Written, Refusal, InvalidParam, BadLength, Verdict, Track, Call, SetParams, Command, Remap, Streams, Supported, Xfer, Capture, Core, Sound, Look, Plan, Reply, Request, Say, Gate, Shut, SetUp, Open, Says}
 
 pub record Unchanged (s m r : List ℕ) (x : Told) : Type 0 where
   pub state : x .state ≡ s
@@ -78,6 +78,7 @@ own-others (Remap jack association sequence) = (refl, (refl, (refl, tt)))
 own-others (Streams direction) = tt
 own-others (Supported field stream) = (refl, tt)
 own-others (Xfer stream) = (refl, (refl, (refl, tt)))
+own-others (Capture stream) = (refl, (refl, (refl, tt)))
 
 ten-left : (x : Sound) (r : Refusal) {y : Sound} → saysRefusal r .number ≡ 10 → Left x r y → y ≡ x
 ten-left x r e (same o) = refl
@@ -179,13 +180,22 @@ not-whole s e = ap consistentOf (core-at s ∙ skips _ _ _ e)
 
 -- ---- THE START OF A TRANSFER: whatever it is refused with
 
-pub open-refused : (s m : List ℕ) (t : Track) (stream n : ℕ) → openIn s t stream m .opening ≡ Says n → numberIn n < 256 → (openIn s t stream m .state ≡ s) × (openIn s t stream m .message ≡ m)
-open-refused s m t stream n = opened-by s m t stream P by
-  where
-    P : Opened → Type 0
-    P o = o .opening ≡ Says n → numberIn n < 256 → (o .state ≡ s) × (o .message ≡ m)
+abbrev Bars : (s m : List ℕ) → ℕ → Opened → Type 0
+Bars s m n o = o .opening ≡ Says n → numberIn n < 256 → (o .state ≡ s) × (o .message ≡ m)
 
-    by : (g : Gate) → g ≡ gateIn s m t stream → P (openBy s m t stream g)
+open-bars : (capture : Bool) (call : Call) (s m : List ℕ) (t : Track) (stream n : ℕ) → Bars s m n (openAs capture call s t stream m)
+open-bars capture call s m t stream n = opened-by capture call s m t stream (Bars s m n) by
+  where
+    by : (g : Gate) → g ≡ gateIn capture call s m t stream → Bars s m n (openBy capture call s m t stream g)
     by (Shut x) _ e k = (refl, refl)
     by SetUp _ e k = let z : 272 ≡ n = cc in absurd (omega arith)
     by (Open period) _ e k = (refl, refl)
+
+pub open-refused : (s m : List ℕ) (t : Track) (stream n : ℕ) → openIn s t stream m .opening ≡ Says n → numberIn n < 256 → (openIn s t stream m .state ≡ s) × (openIn s t stream m .message ≡ m)
+unfolding openIn
+open-refused s m t stream n = open-bars false (Xfer stream) s m t stream n
+
+pub open-capture-refused : (s m : List ℕ) (t : Track) (stream n : ℕ) → openCaptureIn s t stream m .opening ≡ Says n → numberIn n < 256
+    → (openCaptureIn s t stream m .state ≡ s) × (openCaptureIn s t stream m .message ≡ m)
+unfolding openCaptureIn
+open-capture-refused s m t stream n = open-bars true (Capture stream) s m t stream n

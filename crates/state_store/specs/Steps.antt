@@ -28,7 +28,7 @@ use Rattle.pending.specs.Places.{placedIn}
 use Rattle.pending.specs.declared.place.Spot.the-variants as spot
 use Rattle.state_store.specs.Places.{tokensPlace}
 use Rattle.state_store.specs.Store.{tokenBytes}
-use Rattle.state_store.specs.Types.{Core, Counts, Xfer, JacksAsked, Effect, Nothing, Plan, Says, Token, Spot}
+use Rattle.state_store.specs.Types.{Core, Counts, Call, JacksAsked, Effect, Nothing, Plan, Says, Token, Spot}
 
 abbrev pub countBy : Core → ℕ → List ℕ → Shown
 countBy c n r = guard (consistentOf c) (shown 1 r)
@@ -57,9 +57,9 @@ finished w s p page m r =
     (sets r 0 (resultBytes (replyOf (p .say)) (listOf (p .say) (p .core .read .streams) (pcmsOf (soundOf s)))))
 
 -- a transfer that waits for set-up, by the core at hand
-abbrev pub settingUpBy : Bool → Core → List ℕ → ℕ → List ℕ → Opened
-settingUpBy w c s stream m =
-    let p = sendOf c (JacksAsked (Xfer stream)) (queryOf 0x0001 (c .counts .jacks) 24) Nothing in
+abbrev pub settingUpBy : Bool → Core → List ℕ → Call → List ℕ → Opened
+settingUpBy w c s call m =
+    let p = sendOf c (JacksAsked call) (queryOf 0x0001 (c .counts .jacks) 24) Nothing in
     opened (Says (256 + 16)) (changed w s (p .effect) (p .core) []) (messageAfter (p .say) m)
 
 -- ---- what is pending: one token is stored, and no other byte

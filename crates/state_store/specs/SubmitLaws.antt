@@ -27,7 +27,7 @@ use Rattle.exchange.specs.Xfer.{xferBy}
 use Rattle.exchange.specs.StepLaws.{xfer-ap, set-up-long}
 use Rattle.exchange.specs.Submit.{refusedNb, setUpNb, submitOf}
 use Rattle.exchange.specs.SubmitLaws.{submitBy, submitted-by}
-use Rattle.state_store.specs.Types.{Refusal, Track, Params, Core, Sound, Pending, Gate, Shut, SetUp, Spot, Opening, NbStep}
+use Rattle.state_store.specs.Types.{Refusal, Track, Xfer, Params, Core, Sound, Pending, Gate, Shut, SetUp, Spot, Opening, NbStep}
 use Rattle.state_store.specs.Places.{stateSize}
 use Rattle.state_store.specs.Store.{whole, headAt, coreOf, soundOf}
 use Rattle.state_store.specs.Calls.{lengths, Opened, opened}
@@ -67,11 +67,11 @@ module _ (s : List ℕ) (t : Track) (stream : ℕ) (payload places m r : List �
   abbrev pub nbGate : Gate
   nbGate = xferBy long true (soundOf s) t stream Shut SetUp gate.Open
 
-  pub nb-gated : {c : Core} {p : Params} {life : ℕ} {g : Gate} → c ≡ coreOf (headAt s) → p ≡ paramsOf (soundOf s) stream → life ≡ lifeOf (soundOf s) stream → g ≡ gateBy long true c p life t stream Shut SetUp gate.Open → g ≡ nbGate
-  nb-gated c p l g = g ∙ (λ i. gateBy long true ((c ∙ sym (core-at s)) i) (p i) (l i) t stream Shut SetUp gate.Open)
+  pub nb-gated : {c : Core} {p : Params} {life : ℕ} {g : Gate} → c ≡ coreOf (headAt s) → p ≡ paramsOf (soundOf s) stream → life ≡ lifeOf (soundOf s) stream → g ≡ gateBy false long true c p life 0 t stream Shut SetUp gate.Open → g ≡ nbGate
+  nb-gated c p l g = g ∙ (λ i. gateBy false long true ((c ∙ sym (core-at s)) i) (p i) (l i) 0 t stream Shut SetUp gate.Open)
 
   pub nb-long : SetUp ≡ nbGate → messageSize ≤ length m
-  nb-long e = leb-true messageSize (length m) (set-up-long long true (soundOf s) t stream e)
+  nb-long e = leb-true messageSize (length m) (set-up-long false long true (soundOf s) t stream e)
 
   abbrev nbBy : Gate → NbStep
   nbBy (Shut x) = refusedNb (soundOf s) x
@@ -83,9 +83,9 @@ module _ (s : List ℕ) (t : Track) (stream : ℕ) (payload places m r : List �
     unfolding nbIn
     nb-is g e = passes _ _ _ l (ap (nbLeft s stream payload places m r) (ap nbBy e ∙ xfer-ap nbBy long true (soundOf s) t stream Shut SetUp gate.Open))
 
-    pub nb-set-up : {w : Bool} {c : Core} {q : Opening} {l₁ m₁ : List ℕ} → w ≡ whole s → c ≡ coreOf (headAt s) → SetUp ≡ nbGate → opened q l₁ m₁ ≡ settingUpBy w c s stream m
+    pub nb-set-up : {w : Bool} {c : Core} {q : Opening} {l₁ m₁ : List ℕ} → w ≡ whole s → c ≡ coreOf (headAt s) → SetUp ≡ nbGate → opened q l₁ m₁ ≡ settingUpBy w c s (Xfer stream) m
         → submitted 272 l₁ places m₁ r ≡ nbIn s t stream payload places m r
-    nb-set-up w c e p = ap (λ (o : Opened). submitted 272 (o .state) places (o .message) r) (p ∙ (λ i. settingUpBy (w i) ((c ∙ sym (core-at s)) i) s stream m)) ∙ nb-is SetUp e
+    nb-set-up w c e p = ap (λ (o : Opened). submitted 272 (o .state) places (o .message) r) (p ∙ (λ i. settingUpBy (w i) ((c ∙ sym (core-at s)) i) s (Xfer stream) m)) ∙ nb-is SetUp e
 
     module _ (b : Bytes s) where
       pub nb-shut : (x : Refusal) → Shut x ≡ nbGate → submitted (refusalWord x) s places m r ≡ nbIn s t stream payload places m r

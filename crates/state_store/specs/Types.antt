@@ -11,7 +11,7 @@ pub use Rattle.core.specs.declared.reply.Reply.{Reply}
 pub use Rattle.core.specs.declared.plan.Plan.{Plan}
 pub use Rattle.core.specs.declared.state.Core.{Core}
 pub use Rattle.core.specs.declared.state.Call.{Call}
-pub use Rattle.core.specs.declared.state.Call.the-variants.{Streams, SetParams, Command, Remap, Supported, Xfer}
+pub use Rattle.core.specs.declared.state.Call.the-variants.{Streams, SetParams, Command, Remap, Supported, Xfer, Capture}
 pub use Rattle.core.specs.declared.state.Counts.{Counts}
 pub use Rattle.core.specs.declared.plan.Value.{Value}
 pub use Rattle.core.specs.declared.plan.Effect.{Effect}

@@ -24,7 +24,7 @@ use Rattle.exchange.specs.State.{newSound}
 use Rattle.exchange.specs.Tables.{soundAfter}
 use Rattle.exchange.specs.Feed.{Feed, paged, failed, planOf, pageOf}
 use Rattle.exchange.specs.Exchange.{callOf}
-use Rattle.exchange.specs.Xfer.{setUpPlan}
+use Rattle.exchange.specs.Xfer.{waitingAs, setUpWith}
 use Rattle.exchange.specs.OwnLaws.{Own, sets as sends, commands, remaps, lists, tells, refuses, picked-by}
 use Rattle.exchange.specs.PlanLaws.{Begun, bars, asks, goes, begun, counted, Answered, short, idle, asks-streams, asks-maps, cuts, finishes, ends, fails, fed}
 use Rattle.state_store.specs.Places.{headSize, stateSize}
@@ -32,12 +32,12 @@ use Rattle.layout.specs.Lent.{resultSize}
 use Rattle.state_store.specs.Flat.{flatRow, flatValues, callFlat, staged, flatOf}
 use Rattle.state_store.specs.Store.{guardRow, flag, lifeBytes, tokenBytes, wholeHead, headRow, headValues, headFrom, headAt, headOf, coreOf, whole, paramsBytes, soundOf, soundBytes}
 use Rattle.layout.specs.Lent.{Made}
-use Rattle.state_store.specs.Calls.{Told, told, lengths, callIn, feedIn, failIn, Opened, settingUp, openIn, newIn}
+use Rattle.state_store.specs.Calls.{Told, told, lengths, callIn, feedIn, failIn, Opened, settingUpWith, openAs, openIn, openCaptureIn, newIn}
 use Rattle.state_store.specs.FlatLaws.{core-same, head-whole}
 use Rattle.state_store.specs.OverLaws.{headBytes, head-sized}
 use Rattle.state_store.specs.StoreLaws.{core-at, head-back}
 use Rattle.state_store.specs.OpenLaws.{gateIn, openBy, set-up-long, opened-by}
-use Rattle.state_store.specs.Types.{Written, Verdict, Track, Counts, Call, Xfer, Stage, Idle, JacksAsked, StreamsAsked, MapsAsked, Sent, Core, Sound, Effect, Nothing, FillJacks, FillStreams, FillMaps, Store, Move, Look, Plan, Gate, Shut, SetUp, Open, Head}
+use Rattle.state_store.specs.Types.{Written, Verdict, Track, Counts, Call, Xfer, Capture, Stage, Idle, JacksAsked, StreamsAsked, MapsAsked, Sent, Core, Sound, Effect, Nothing, FillJacks, FillStreams, FillMaps, Store, Move, Look, Plan, Gate, Shut, SetUp, Open, Head}
 
 -- ---- a core whose numbers fit their widths, as every core of the code does
 
@@ -153,10 +153,12 @@ answered-fits f (ends _ _ _) = record { counts = f .counts; read = f .read; stag
 answered-fits f (fails _ _ _) = record { counts = f .counts; read = f .read; stage = tt }
 
 -- a transfer that waits for set-up
-pub set-up-fits : (c : Core) (stream : ℕ) → FitCore c → stream < 256 ^ 4 → FitCore (withStage c (JacksAsked (Xfer stream)))
-set-up-fits c stream f k =
-    let z : 0 < 256 ^ 4 = lit< tt in
-    record { counts = f .counts; read = f .read; stage = (lit< tt, (lit< tt, (k, (z, (z, (z, (lit< tt, (lit< tt, (lit< tt, (lit< tt, tt)))))))))) }
+pub waiting-fits : (capture : Bool) (stream : ℕ) → stream < 256 ^ 4 → FitCall (waitingAs capture stream)
+waiting-fits true stream k = let z : 0 < 256 ^ 4 = lit< tt in (lit< tt, (lit< tt, (k, (z, (z, (z, (lit< tt, (lit< tt, (lit< tt, (lit< tt, tt))))))))))
+waiting-fits false stream k = let z : 0 < 256 ^ 4 = lit< tt in (lit< tt, (lit< tt, (k, (z, (z, (z, (lit< tt, (lit< tt, (lit< tt, (lit< tt, tt))))))))))
+
+pub set-up-fits : (c : Core) (call : Call) → FitCore c → FitCall call → FitCore (withStage c (JacksAsked call))
+set-up-fits c call f k = record { counts = f .counts; read = f .read; stage = k }
 
 pub new-fits : (on : Bool) (jacks streams maps : ℕ) → jacks < 256 ^ 4 → streams < 256 ^ 4 → maps < 256 ^ 4 → FitCore (newCore on jacks streams maps)
 new-fits on jacks streams maps j k m = record { counts = (j, (k, (m, tt))); read = no-counts; stage = tt }
@@ -216,19 +218,27 @@ module _ (s m r : List ℕ) (b : Bytes s) (w : whole s ≡ true) where
   unfolding failIn
   fail-whole = guarded-by (λ (x : Told). whole (x .state) ≡ true) _ _ _ (fed-whole (failed (length m))) (λ _. w)
 
-  set-up-whole : (stream : ℕ) → stream < 256 ^ 4 → stateSize ≤ length s → whole (settingUp s stream m .state) ≡ true
-  set-up-whole stream k l =
-      let p = setUpPlan (soundOf s) stream in
+  set-up-whole : (call : Call) → FitCall call → stateSize ≤ length s → whole (settingUpWith s call m .state) ≡ true
+  set-up-whole call k l =
+      let p = setUpWith (soundOf s) call in
       let x = soundAfter (p .effect) (p .core) (soundOf s) [] in
-      ap whole (picks (whole s) (sets s 0 (soundBytes x)) s w) ∙ left-whole s x (set-up-fits (soundOf s .core) stream (store-fits s b w) k) (omega arith)
+      ap whole (picks (whole s) (sets s 0 (soundBytes x)) s w) ∙ left-whole s x (set-up-fits (soundOf s .core) call (store-fits s b w) k) (omega arith)
+
+  opens-whole : (capture : Bool) (call : Call) (t : Track) (stream : ℕ) → FitCall call → whole (openAs capture call s t stream m .state) ≡ true
+  opens-whole capture call t stream k = opened-by capture call s m t stream (λ (o : Opened). whole (o .state) ≡ true) by
+    where
+      by : (g : Gate) → g ≡ gateIn capture call s m t stream → whole (openBy capture call s m t stream g .state) ≡ true
+      by (Shut x) e = w
+      by SetUp e = set-up-whole call k (set-up-long capture call s m t stream e .0)
+      by (Open period) e = w
 
   pub open-whole : (t : Track) (stream : ℕ) → stream < 256 ^ 4 → whole (openIn s t stream m .state) ≡ true
-  open-whole t stream k = opened-by s m t stream (λ (o : Opened). whole (o .state) ≡ true) by
-    where
-      by : (g : Gate) → g ≡ gateIn s m t stream → whole (openBy s m t stream g .state) ≡ true
-      by (Shut x) e = w
-      by SetUp e = set-up-whole stream k (set-up-long s m t stream e .0)
-      by (Open period) e = w
+  unfolding openIn
+  open-whole t stream k = opens-whole false (Xfer stream) t stream (waiting-fits false stream k)
+
+  pub open-capture-whole : (t : Track) (stream : ℕ) → stream < 256 ^ 4 → whole (openCaptureIn s t stream m .state) ≡ true
+  unfolding openCaptureIn
+  open-capture-whole t stream k = opens-whole true (Capture stream) t stream (waiting-fits true stream k)
 
 pub new-whole : (on : Bool) (s : List ℕ) (jacks streams maps : ℕ) → jacks < 256 ^ 4 → streams < 256 ^ 4 → maps < 256 ^ 4 → newIn on s jacks streams maps .answer ≡ 0 → whole (newIn on s jacks streams maps .store) ≡ true
 new-whole on s jacks streams maps j k m =

@@ -8,7 +8,7 @@ ghost use Rattle.layout.specs.Lent.{messageSize};
 ghost use Rattle.core.specs.Reply.{saysReply, replyWord};
 ghost use Rattle.core.specs.declared.plan.Effect.the-variants.{Nothing};
 ghost use Rattle.tables.specs.declared.verdict.Written.the-variants.{InFull, Bytes};
-ghost use Rattle.state_store.specs.Calls.{left, callIn, feedIn, failIn, opened, openIn};
+ghost use Rattle.state_store.specs.Calls.{left, callIn, feedIn, failIn, opened, openAs, openIn, openCaptureIn};
 ghost use Rattle.state_store.specs.Steps.{changed, finished, settingUpBy};
 ghost use Rattle.state_store.specs.Places.{stateSize};
 use crate::effect::apply;
@@ -18,6 +18,7 @@ use crate::head::is_whole;
 use crate::head::put_core;
 use crate::place::HEAD;
 use crate::place::PARAMS;
+use crate::place::direction_at;
 use crate::place::life_at;
 use crate::place::look;
 use crate::place::params_at;
@@ -202,13 +203,13 @@ pub(crate) fn set_up(
     state: &mut [u8],
     whole: bool,
     c: Core,
-    stream: u32,
+    waiting: Call,
     message: &mut [u8],
 ) -> Opening
     requires { ⌜ (stateSize ≤ length (now state)) × (messageSize ≤ length (now message)) ⌝ }
-    ensures { λ r. ⌜ opened r (now (state .exit)) (now (message .exit)) ≡ settingUpBy whole c (now (state .entry)) stream (now (message .entry)) ⌝ }
+    ensures { λ r. ⌜ opened r (now (state .exit)) (now (message .exit)) ≡ settingUpBy whole c (now (state .entry)) waiting (now (message .entry)) ⌝ }
 {
-    let plan = ask_jacks(c, Call::Xfer { stream });
+    let plan = ask_jacks(c, waiting);
     let core = plan.core;
     let say = plan.say;
     change_core(&mut *state, whole, core);
@@ -216,9 +217,17 @@ pub(crate) fn set_up(
     Opening::Says(272)
 }
 
-// The start of a transfer, as far as the state goes.
-pub fn open(state: &mut [u8], t: Track, stream: u32, message: &mut [u8]) -> Opening
-    ensures { λ r. ⌜ opened r (now (state .exit)) (now (message .exit)) ≡ openIn (now (state .entry)) t stream (now (message .entry)) ⌝ }
+// The start of a transfer, as far as the state goes: of a capture or a playback, with the call that
+// waits where set-up goes first.
+fn open_as(
+    capture: bool,
+    waiting: Call,
+    state: &mut [u8],
+    t: Track,
+    stream: u32,
+    message: &mut [u8],
+) -> Opening
+    ensures { λ r. ⌜ opened r (now (state .exit)) (now (message .exit)) ≡ openAs capture waiting (now (state .entry)) t stream (now (message .entry)) ⌝ }
 {
     let lengths = both(SIZE <= state.len(), MESSAGE <= message.len());
     if !lengths {
@@ -229,11 +238,36 @@ pub fn open(state: &mut [u8], t: Track, stream: u32, message: &mut [u8]) -> Open
     let c = core_by(whole, h);
     let params = params_at(&state[..], stream);
     let life = life_at(&state[..], stream);
+    let direction = direction_at(&state[..], stream);
     let clear = is_none(pending_in(&state[..]));
-    let gate = xfer_gate(lengths, clear, c, params, life, t, stream);
+    let gate = xfer_gate(
+        capture,
+        lengths,
+        clear,
+        c,
+        params,
+        life,
+        direction,
+        t,
+        stream,
+    );
     match gate {
         Gate::Shut(refusal) => Opening::Says(refusal.word()),
-        Gate::SetUp => set_up(state, whole, c, stream, message),
+        Gate::SetUp => set_up(state, whole, c, waiting, message),
         Gate::Open(period) => Opening::Open(period),
     }
+}
+
+// The start of a playback.
+pub fn open(state: &mut [u8], t: Track, stream: u32, message: &mut [u8]) -> Opening
+    ensures { λ r. ⌜ opened r (now (state .exit)) (now (message .exit)) ≡ openIn (now (state .entry)) t stream (now (message .entry)) ⌝ }
+{
+    open_as(false, Call::Xfer { stream }, state, t, stream, message)
+}
+
+// The start of a capture.
+pub fn open_capture(state: &mut [u8], t: Track, stream: u32, message: &mut [u8]) -> Opening
+    ensures { λ r. ⌜ opened r (now (state .exit)) (now (message .exit)) ≡ openCaptureIn (now (state .entry)) t stream (now (message .entry)) ⌝ }
+{
+    open_as(true, Call::Capture { stream }, state, t, stream, message)
 }

@@ -113,6 +113,7 @@ fn call_flat(call: Call) -> Flat
         Call::Streams { direction } => numbers(4, direction, 0, 0, 0),
         Call::Supported { field, stream } => numbers(5, field_number(field), stream, 0, 0),
         Call::Xfer { stream } => numbers(6, 0, stream, 0, 0),
+        Call::Capture { stream } => numbers(7, 0, stream, 0, 0),
     }
 }
 
@@ -222,7 +223,10 @@ fn call_of(f: Flat) -> Call
             stream: f.id,
         };
     }
-    Call::Xfer { stream: f.id }
+    if n == 6 {
+        return Call::Xfer { stream: f.id };
+    }
+    Call::Capture { stream: f.id }
 }
 
 pub(crate) fn stage_of(f: Flat) -> Stage
@@ -264,7 +268,7 @@ fn is_short(f: Flat) -> bool
     both(f.first == 0, both(f.second == 0, is_plain(f)))
 }
 
-// The fields of a call: its number is one of six, and what it has no use for is 0.
+// The fields of a call: its number is one of seven, and what it has no use for is 0.
 fn is_call(f: Flat) -> bool
     ensures { λ r. ⌜ r ≡ sameCall f (callFlat (flatCall f)) ⌝ }
 {
@@ -285,6 +289,9 @@ fn is_call(f: Flat) -> bool
         return both(f.part <= 3, is_short(f));
     }
     if n == 6 {
+        return both(f.part == 0, is_short(f));
+    }
+    if n == 7 {
         return both(f.part == 0, is_short(f));
     }
     false

@@ -18,6 +18,7 @@ pub use calls::feed;
 pub use calls::feed_failure;
 pub use calls::feed_written;
 pub use calls::open;
+pub use calls::open_capture;
 pub use calls::size;
 pub use config::chmaps;
 pub use config::jacks;

@@ -18,6 +18,7 @@ use crate::place::params_at;
 use crate::tokens::pending_in;
 use crate::tokens::put_token;
 use codes::both;
+use core::Call;
 use core::Gate;
 use core::MESSAGE;
 use core::xfer_gate;
@@ -89,11 +90,22 @@ pub fn pcm_xfer_nb(
     let c = core_by(whole, h);
     let params = params_at(&state[..], stream);
     let life = life_at(&state[..], stream);
-    let gate = xfer_gate(MESSAGE <= message.len(), true, c, params, life, t, stream);
+    // a playback's direction is not asked
+    let gate = xfer_gate(
+        false,
+        MESSAGE <= message.len(),
+        true,
+        c,
+        params,
+        life,
+        0,
+        t,
+        stream,
+    );
     match gate {
         Gate::Shut(refusal) => refusal.word(),
         Gate::SetUp => {
-            set_up(state, whole, c, stream, message);
+            set_up(state, whole, c, Call::Xfer { stream }, message);
             272
         }
         Gate::Open(period) => submit(state, stream, period, payload, places, result),

@@ -3,7 +3,7 @@
 ghost use mathlib.Core.Path.{_≡_};
 ghost use Prim.Native.Nat.{_≤_};
 ghost use lib.ListN.{length};
-ghost use Rattle.exchange.specs.State.{paramsOf, lifeOf};
+ghost use Rattle.exchange.specs.State.{paramsOf, lifeOf, pcmOf};
 ghost use Rattle.exchange.specs.Tables.{lookOf, pendingLook};
 ghost use Rattle.state_store.specs.Store.{soundOf};
 ghost use Rattle.state_store.specs.Places.{stateSize};
@@ -40,6 +40,14 @@ pub(crate) fn life_at(s: &[u8], stream: u32) -> u8
     ensures { λ r. ⌜ r ≡ lifeOf (soundOf (now (s .entry))) stream ⌝ }
 {
     exchange::life_at(&s[LIVES..TOKENS], stream)
+}
+
+// The direction of a stream.
+pub(crate) fn direction_at(s: &[u8], stream: u32) -> u8
+    requires { ⌜ stateSize ≤ length (now s) ⌝ }
+    ensures { λ r. ⌜ r ≡ pcmOf (soundOf (now (s .entry))) stream .direction ⌝ }
+{
+    exchange::direction_at(&s[HEAD..PARAMS], stream)
 }
 
 // What a call looks up in a table.

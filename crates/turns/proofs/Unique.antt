@@ -46,6 +46,14 @@ use Rattle.turns.proofs.ring.Ring.in_flight.Reads as in-flight
 use Rattle.turns.proofs.ring.Ring.free_descriptors.Reads as free-descriptors
 use Rattle.turns.proofs.ring.Ring.turns_run.Reads as turns-run
 use Rattle.turns.proofs.ring.Ring.stream.Reads as stream
+use Rattle.turns.proofs.ring.Ring.kept.Reads as kept
+use Rattle.turns.proofs.capture.Catch.from_words.Reads as catch-from-words
+use Rattle.turns.proofs.capture.capture_track.Reads as capture-track
+use Rattle.turns.proofs.capture.capture_turn.Reads as capture-turn
+use Rattle.turns.proofs.capture.copy.Reads as copy
+use Rattle.turns.proofs.capture.capture_start_track.Reads as capture-start-track
+use Rattle.turns.proofs.capture.capture_start.Reads as capture-start
+use Rattle.turns.proofs.capture.capture_offer.Reads as capture-offer
 use Rattle.turns.proofs.ring.Ring.carried.Reads as read-carried
 use Rattle.turns.proofs.ring.Ring.oldest.Reads as read-oldest
 
@@ -94,6 +102,29 @@ offered-one κs a r₁ r₂ e₁ e₂ p q = same p q
 pub offered-part : (κs : _) (a : _) (r : _) (e e′ : _) (sent : Sent) → offered.Post κs a r e → next-offer.Post κs a (offer.Is sent) e′ → now r ≡ payload (now (a .1 .0)) sent
 offered-part κs a r e e′ sent p q = p ∙ ap (λ (o : Offer). shownBy o (now (a .1 .0))) (sym q)
 
+-- ---- the calls of a capture; what stands in the recording afterwards too
+
+pub catch-from-words-one : (κs : _) (a : _) (r₁ r₂ : _) (e₁ e₂ : _) → catch-from-words.Post κs a r₁ e₁ → catch-from-words.Post κs a r₂ e₂ → r₁ ≡ r₂
+catch-from-words-one κs a r₁ r₂ e₁ e₂ p q = same p q
+
+pub capture-track-one : (κs : _) (a : _) (r₁ r₂ : _) (e₁ e₂ : _) → capture-track.Post κs a r₁ e₁ → capture-track.Post κs a r₂ e₂ → r₁ ≡ r₂
+capture-track-one κs a r₁ r₂ e₁ e₂ p q = same p q
+
+pub capture-start-track-one : (κs : _) (a : _) (r₁ r₂ : _) (e₁ e₂ : _) → capture-start-track.Post κs a r₁ e₁ → capture-start-track.Post κs a r₂ e₂ → r₁ ≡ r₂
+capture-start-track-one κs a r₁ r₂ e₁ e₂ p q = same p q
+
+pub capture-start-one : (κs : _) (a : _) (r₁ r₂ : _) (e₁ e₂ : _) → capture-start.Post κs a r₁ e₁ → capture-start.Post κs a r₂ e₂ → r₁ ≡ r₂
+capture-start-one κs a r₁ r₂ e₁ e₂ p q = same p q
+
+pub capture-offer-one : (κs : _) (a : _) (r₁ r₂ : _) (e₁ e₂ : _) → capture-offer.Post κs a r₁ e₁ → capture-offer.Post κs a r₂ e₂ → r₁ ≡ r₂
+capture-offer-one κs a r₁ r₂ e₁ e₂ p q = same p q
+
+pub capture-turn-one : (κs : _) (a : _) (r₁ r₂ : _) (e₁ e₂ : _) → capture-turn.Post κs a r₁ e₁ → capture-turn.Post κs a r₂ e₂ → (r₁ ≡ r₂) × (now (e₁ .1 .0) ≡ now (e₂ .1 .0))
+capture-turn-one κs a r₁ r₂ e₁ e₂ p q = (same (p .0) (q .0), same (p .1) (q .1))
+
+pub copy-one : (κs : _) (a : _) (r₁ r₂ : _) (e₁ e₂ : _) → copy.Post κs a r₁ e₁ → copy.Post κs a r₂ e₂ → now (e₁ .0) ≡ now (e₂ .0)
+copy-one κs a r₁ r₂ e₁ e₂ p q = same p q
+
 -- ---- the calls in place, whose contracts are clauses of the logic: two outcomes that both satisfy them are equal, what stands behind the reference too
 
 module _ {M : Type 1} (𝓤 : URA M) (H : Heap 𝓤) (A : Atoms 𝓤) (mem : Memory → SProp 𝓤) (run : Routine → Fun 𝓤) where
@@ -133,6 +164,9 @@ free-descriptors-one κs a r₁ r₂ e₁ e₂ p q = one saysNumber unNumber un-
 
 pub turns-run-one : (κs : _) (a : _) (r₁ r₂ : _) (e₁ e₂ : _) → turns-run.Post κs a r₁ e₁ → turns-run.Post κs a r₂ e₂ → r₁ ≡ r₂
 turns-run-one κs a r₁ r₂ e₁ e₂ p q = one saysNumber unNumber un-number p q
+
+pub kept-one : (κs : _) (a : _) (r₁ r₂ : _) (e₁ e₂ : _) → kept.Post κs a r₁ e₁ → kept.Post κs a r₂ e₂ → r₁ ≡ r₂
+kept-one κs a r₁ r₂ e₁ e₂ p q = one saysNumber unNumber un-number p q
 
 pub stream-one : (κs : _) (a : _) (r₁ r₂ : _) (e₁ e₂ : _) → stream.Post κs a r₁ e₁ → stream.Post κs a r₂ e₂ → r₁ ≡ r₂
 stream-one κs a r₁ r₂ e₁ e₂ p q = one saysNumber unNumber un-number p q

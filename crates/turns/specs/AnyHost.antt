@@ -13,7 +13,7 @@ use Rattle.codes.specs.Says.{pick}
 use Rattle.codes.specs.SaysLaws.{passes, stops}
 use Rattle.codes.specs.declared.answers.Refusal.the-variants.{InvalidParam, Busy, BadLength}
 use Rattle.turns.specs.Calls.{refusedOf, turnCall, drainCall, startCall, ringAfter, turnedOf, startedOf}
-use Rattle.turns.specs.Log.{Line, Ran, onward, loop, called, turnByTurn}
+use Rattle.turns.specs.Log.{Line, Ran, onward, loopOf, called, turnByTurn}
 use Rattle.turns.specs.Asked.{starts}
 use Rattle.turns.specs.ConsistentLaws.{consistent-true}
 use Rattle.turns.specs.CaseLaws.{Plain}
@@ -66,7 +66,7 @@ module _ (len : ℕ) (t : Track) (r : Runs len t) where
 
   other-length : (n : ℕ) (reading : Reading) → (n ≡ len → ⊥) → turnCall t n reading ≡ refusedOf BadLength t
   unfolding turnCall
-  other-length n reading ne = sym (stops _ _ _ (other (t .running) (eqb n (t .total)) (r .running) (ne-eqb n (t .total) (λ e. ne (e ∙ sym (r .whole))))) refl)
+  other-length n reading ne = sym (stops _ _ _ (other (t .running) (eqb n (t .lent)) (r .running) (ne-eqb n (t .lent) (λ e. ne (e ∙ sym (r .whole))))) refl)
 
   no-drain : (reading : Reading) → drainCall t reading ≡ refusedOf InvalidParam t
   unfolding drainCall
@@ -92,7 +92,7 @@ abbrev Follows : Ring → List Act → Step → Upshot
 Follows r cs s = unlessEnded (s .said) (ringAfter r s) (acts (ringAfter r s) cs)
 
 any-run : (len : ℕ) (cs : List Act) (r : Ring) → Runs len (r .track) → upshot (turnByTurn len (length (readings len cs)) r (readings len cs)) ≡ acts r cs
-unfolding acts loop
+unfolding acts loopOf
 any-run len [] r k = refl
 any-run len (draining x ∷ cs) r k = any-run len cs r k ∙ sym (ap (Follows r cs) (no-drain len (r .track) k x))
 any-run len (starting stream total period budget ∷ cs) r k = any-run len cs r k ∙ sym (ap (Follows r cs) (no-start len (r .track) k stream total period budget))
@@ -105,8 +105,8 @@ any-run len (turning n x ∷ cs) r k = by (λ q j. any-run len cs q j) (eqb n le
         let t = called len r x in
         let same = call-turns len (r .track) x k in
         onward-upshot (t .line .said) (t .line) (t .left) (turnByTurn len (length (readings len cs)) (t .left) (readings len cs)) (acts (t .left) cs)
-        (subst (λ (s : Step). Plain (s .said)) same (turn-answers _ (r .track) x))
-        (λ going. more (t .left) (subst (λ (s : Step). s .said ≡ Going → Runs len (s .track)) same (runs-on _ len (r .track) x (omega arith) k) going))
+        (subst (λ (s : Step). Plain (s .said)) same (turn-answers _ (r .track) _ x))
+        (λ going. more (t .left) (subst (λ (s : Step). s .said ≡ Going → Runs len (s .track)) same (runs-on _ len (r .track) _ x (omega arith) k) going))
         ∙ ap (λ (m : ℕ). Follows r cs (turnCall (r .track) m x)) (sym (eqb-true n len e))
 
 -- THE THEOREM, of a start that goes on

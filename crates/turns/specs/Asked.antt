@@ -38,6 +38,10 @@ pub record Idle (r : Ring) : Type 0 where
 abbrev pub NoFault : Line → Type 0
 NoFault line = (saysSaid (line .said) .number ≡ 6 → ⊥) × (saysSaid (line .said) .number ≡ 2 → ⊥)
 
+-- the same of any judgement of completions: neither 6 nor one of its faults
+abbrev pub Faultless : (ℕ → Type 0) → Line → Type 0
+Faultless Fault line = (saysSaid (line .said) .number ≡ 6 → ⊥) × (Fault (saysSaid (line .said) .number) → ⊥)
+
 -- "with something in flight at its reading"
 abbrev pub InFlight : Line → Type 0
 InFlight line = 0 < line .waiting

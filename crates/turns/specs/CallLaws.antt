@@ -4,7 +4,7 @@ use Prim.Native.Nat.{ℕ, _+_, _-_, _≤_}
 use native.Mathlib.Omega.{arith}
 use native.Mathlib.Nat.{add-sub-cancel-left}
 use mathlib.Core.Path.{_≡_, refl, sym, ap, _∙_}
-use mathlib.Core.Bool.{Bool, true, false, _&&_, _||_, not}
+use mathlib.Core.Bool.{Bool, true, false, false≢true, _&&_, _||_, not}
 use mathlib.Core.List.{List, [], _∷_}
 use borrow.Author.Tests.{lt-ltb, le-ltb, eq-eqb, ne-eqb, not-true, not-false}
 use lib.Dec.{ltb, eqb}
@@ -12,7 +12,7 @@ use lib.ListN.{length, take, drop, set, length-drop, drop-of-length-le}
 use lib.Seq.{drop-length, take-nil, take-all, set-out}
 use Rattle.codes.specs.Says.{pick, guard}
 use Rattle.codes.specs.SaysLaws.{passes, stops}
-use Rattle.turns.specs.Calls.{lengthAgrees, carry, ringAfter, offerBy, offerCall}
+use Rattle.turns.specs.Calls.{lengthAgrees, runsAs, carry, ringAfter, offerBy, offerAs}
 use Rattle.turns.specs.Consistent.{consistentOf}
 use Rattle.turns.specs.Rules.{chooseOf}
 use Rattle.turns.specs.Reads.{readOf, runningOf}
@@ -33,33 +33,49 @@ same-ends : {A : Type 0} (b c : Bool) (x r : A) → c ≡ false → r ≡ guard 
 same-ends true c x r e = passes true _ _ refl (stops c r x e refl)
 same-ends false c x r e = stops false _ _ refl refl
 
-pub no-transfer : {A : Type 0} (t : Track) (len : ℕ) (short refusal rest : A) → t .running ≡ false
-    → refusal ≡ guard (lengthAgrees t len) short (guard (consistentOf t) refusal (guard (t .running) refusal rest))
-no-transfer t len short refusal rest e = passes _ _ _ (ap (λ (b : Bool). not b || eqb len (t .total)) e) (same-ends (consistentOf t) (t .running) rest refusal e)
+pub runs-not : (capture : Bool) (t : Track) → t .running ≡ false → false ≡ runsAs capture t
+runs-not true t e = rw e
+runs-not false t e = rw e
+
+pub runs-true : (capture : Bool) (t : Track) → t .running ≡ true → capture ≡ true → t .capture ≡ runsAs capture t
+runs-true true t r e = rw r
+runs-true false t r e = absurd (false≢true e)
+
+pub runs-false : (capture : Bool) (t : Track) → t .running ≡ true → capture ≡ false → not (t .capture) ≡ runsAs capture t
+runs-false true t r e = absurd (false≢true (sym e))
+runs-false false t r e = rw r
+
+pub no-transfer : {A : Type 0} (capture : Bool) (t : Track) (len : ℕ) (short refusal rest : A) → t .running ≡ false
+    → refusal ≡ guard (lengthAgrees t len) short (guard (consistentOf t) refusal (guard (runsAs capture t) refusal rest))
+no-transfer capture t len short refusal rest e = passes _ _ _ (ap (λ (b : Bool). not b || eqb len (t .lent)) e) (same-ends (consistentOf t) (runsAs capture t) rest refusal (sym (runs-not capture t e)))
 
 -- an offer, by what its code tests
-module _ (t : Track) (len : ℕ) where
-  pub offer-idle : t .running ≡ false → offer.Refused InvalidParam ≡ offerCall t len
-  unfolding offerCall
-  offer-idle e = no-transfer t len _ _ _ e
+module _ (capture : Bool) (t : Track) (len : ℕ) where
+  pub offer-idle : t .running ≡ false → offer.Refused InvalidParam ≡ offerAs capture t len
+  unfolding offerAs
+  offer-idle e = no-transfer capture t len _ _ _ e
 
   module _ (e : t .running ≡ true) where
     -- the lengths are compared
-    agrees : lengthAgrees t len ≡ eqb len (t .total)
-    agrees = ap (λ (b : Bool). not b || eqb len (t .total)) e
+    agrees : lengthAgrees t len ≡ eqb len (t .lent)
+    agrees = ap (λ (b : Bool). not b || eqb len (t .lent)) e
 
-    pub offer-short : (len ≡ t .total → ⊥) → offer.Refused BadLength ≡ offerCall t len
-    unfolding offerCall
-    offer-short n = stops _ _ _ (agrees ∙ ne-eqb len (t .total) n) refl
+    pub offer-short : (len ≡ t .lent → ⊥) → offer.Refused BadLength ≡ offerAs capture t len
+    unfolding offerAs
+    offer-short n = stops _ _ _ (agrees ∙ ne-eqb len (t .lent) n) refl
 
-    module _ (l : len ≡ t .total) where
-      pub offer-unsound : consistentOf t ≡ false → offer.Refused InvalidParam ≡ offerCall t len
-      unfolding offerCall
-      offer-unsound f = passes _ _ _ (agrees ∙ eq-eqb len (t .total) l) (stops _ _ _ f refl)
+    module _ (l : len ≡ t .lent) where
+      pub offer-unsound : consistentOf t ≡ false → offer.Refused InvalidParam ≡ offerAs capture t len
+      unfolding offerAs
+      offer-unsound f = passes _ _ _ (agrees ∙ eq-eqb len (t .lent) l) (stops _ _ _ f refl)
 
-      pub offer-is : {s : Sent} → consistentOf t ≡ true → s ≡ offerBy (chooseOf (t .descriptors) t) t → offer.Is s ≡ offerCall t len
-      unfolding offerCall
-      offer-is f p = passes _ _ _ (agrees ∙ eq-eqb len (t .total) l) (passes _ _ _ f (passes _ _ _ e (ap offer.Is p)))
+      pub offer-other : consistentOf t ≡ true → runsAs capture t ≡ false → offer.Refused InvalidParam ≡ offerAs capture t len
+      unfolding offerAs
+      offer-other f n = passes _ _ _ (agrees ∙ eq-eqb len (t .lent) l) (passes _ _ _ f (stops _ _ _ n refl))
+
+      pub offer-is : {s : Sent} → consistentOf t ≡ true → runsAs capture t ≡ true → s ≡ offerBy (chooseOf (t .descriptors) t) t → offer.Is s ≡ offerAs capture t len
+      unfolding offerAs
+      offer-is f n p = passes _ _ _ (agrees ∙ eq-eqb len (t .lent) l) (passes _ _ _ f (passes _ _ _ n (ap offer.Is p)))
 
 pub both-fails : (a b : Bool) → a ≡ false → false ≡ (a && b)
 both-fails a b e = rw e

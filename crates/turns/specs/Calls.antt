@@ -1,6 +1,6 @@
 -- The calls on a ring, with their refusals: a turn, a drain turn, the start of a transfer, and what the next turn submits.
 -- Assumes nothing.
-use mathlib.Core.Bool.{Bool, true, _&&_, _||_, not}
+use mathlib.Core.Bool.{Bool, true, false, _&&_, _||_, not}
 use mathlib.Core.List.{List, [], _∷_}
 use Prim.Native.Nat.{ℕ}
 use lib.Dec.{ltb, eqb}
@@ -9,7 +9,7 @@ use Rattle.codes.specs.Says.{guard, Says, says}
 use Rattle.codes.specs.declared.answers.Refusal.{Refusal}
 use Rattle.codes.specs.declared.answers.Refusal.the-variants.{InvalidParam, WrongToken, Busy, OutOfTurns, BadLength}
 use Rattle.turns.specs.Cut.{payload}
-use Rattle.turns.specs.Rules.{chooseOf, sentOf, isOldest, release, turnOf, countedOf}
+use Rattle.turns.specs.Rules.{chooseOf, sentOf, comesTo, playedOf, isOldest, release, turnOf, countedOf}
 use Rattle.turns.specs.Consistent.{consistentOf}
 use Rattle.turns.specs.Types.{Slot, Track, Ring, Sent, Nothing, Period, Silent, Freed, Said, Going, Done, Ended, Refused, Step, Turned, Reading, Quiet, Completed, Choice, Submit, Finish, Wait, Offer}
 use Rattle.turns.specs.declared.calls.Offer.the-variants as offer
@@ -24,15 +24,24 @@ refusedOf r t = unchangedOf (Refused r) t
 
 -- "A turn's frames not as long as at the start" get 10; where no transfer runs there is no start to compare with
 abbrev pub lengthAgrees : Track → ℕ → Bool
-lengthAgrees t len = not (t .running) || eqb len (t .total)
+lengthAgrees t len = not (t .running) || eqb len (t .lent)
 
--- A TURN, lent frames of some length: 10, then 1 for an inconsistent ring, 1 where no transfer runs
+-- a transfer runs, and it is a capture (2026-09), or it is none
+abbrev pub runsAs : Bool → Track → Bool
+runsAs true t = t .running && t .capture
+runsAs false t = t .running && not (t .capture)
+
+-- a turn or an offer of either direction, lent something of a length: 10, then 1 for an inconsistent ring, 1 where no transfer of this direction runs
+abbrev pub admit : {A : Type 0} → Bool → Track → ℕ → (Refusal → A) → A → A
+admit capture t len refused rest =
+    guard (lengthAgrees t len) (refused BadLength)
+    (guard (consistentOf t) (refused InvalidParam)
+    (guard (runsAs capture t) (refused InvalidParam)
+    rest))
+
+-- A TURN, lent frames of some length
 unfoldable pub turnCall : Track → ℕ → Reading → Step
-turnCall t len reading =
-    guard (lengthAgrees t len) (refusedOf BadLength t)
-    (guard (consistentOf t) (refusedOf InvalidParam t)
-    (guard (t .running) (refusedOf InvalidParam t)
-    (countedOf (turnOf (t .descriptors) t reading))))
+turnCall t len reading = admit false t len (λ r. refusedOf r t) (countedOf (turnOf (t .descriptors) t (comesTo playedOf reading) reading))
 
 -- "After 2, 6 or 9 drain turns free owed slots, oldest first, ignoring status; a wrong slot, or any when none is owed, gives 6 and frees none;
 -- a right slot or a quiet reading gives Ok."
@@ -52,9 +61,9 @@ drainCall t reading =
     (guard (t .running) (drained t reading)
     (refusedOf InvalidParam t))
 
--- "A transfer starts with 32 free descriptors, head and tail 0."
-abbrev pub begun : Track → ℕ → ℕ → ℕ → ℕ → Track
-begun t stream total period budget =
+-- "A transfer starts with 32 free descriptors, head and tail 0." Something of a length is lent; nothing of it was accepted yet
+abbrev pub begunAs : Bool → ℕ → Track → ℕ → ℕ → ℕ → ℕ → Track
+begunAs capture lent t stream total period budget =
     record {
       descriptors = t .descriptors;
       head = 0;
@@ -67,20 +76,31 @@ begun t stream total period budget =
       budget = budget;
       turns = 0;
       running = true;
+      capture = capture;
+      lent = lent;
+      kept = 0;
     }
+
+-- a playback is lent its frames
+abbrev pub begun : Track → ℕ → ℕ → ℕ → ℕ → Track
+begun t stream total period budget = begunAs false total t stream total period budget
 
 -- no transfer runs and no slot is in flight
 abbrev pub idleOf : Track → Bool
 idleOf t = not (t .running) && eqb (t .inflight) 0
 
--- THE START of a transfer: 1 for an inconsistent ring, 8, 1 for a period of 0, 9 for a budget of 0, "nothing submitted"
-unfoldable pub startCall : Track → ℕ → ℕ → ℕ → ℕ → Step
-startCall t stream total period budget =
+-- the start of either direction: 1 for an inconsistent ring, 8, 1 for a period of 0, 9 for a budget of 0
+abbrev pub ready : Track → ℕ → ℕ → Step → Step
+ready t period budget rest =
     guard (consistentOf t) (refusedOf InvalidParam t)
     (guard (idleOf t) (refusedOf Busy t)
     (guard (ltb 0 period) (refusedOf InvalidParam t)
     (guard (ltb 0 budget) (refusedOf OutOfTurns t)
-    (record { track = begun t stream total period budget; sent = Nothing; heard = Silent; said = Going }))))
+    rest)))
+
+-- THE START of a transfer, "nothing submitted"
+unfoldable pub startCall : Track → ℕ → ℕ → ℕ → ℕ → Step
+startCall t stream total period budget = ready t period budget (unchangedOf Going (begun t stream total period budget))
 
 -- ---- the same of the ring: what was submitted stands in its slot
 
@@ -105,12 +125,11 @@ offerBy Submit t = sentOf t
 offerBy Finish t = Nothing
 offerBy Wait t = Nothing
 
-unfoldable pub offerCall : Track → ℕ → Offer
-offerCall t len =
-    guard (lengthAgrees t len) (offer.Refused BadLength)
-    (guard (consistentOf t) (offer.Refused InvalidParam)
-    (guard (t .running) (offer.Refused InvalidParam)
-    (offer.Is (offerBy (chooseOf (t .descriptors) t) t))))
+unfoldable pub offerAs : Bool → Track → ℕ → Offer
+offerAs capture t len = admit capture t len offer.Refused (offer.Is (offerBy (chooseOf (t .descriptors) t) t))
+
+abbrev pub offerCall : Track → ℕ → Offer
+offerCall = offerAs false
 
 -- the period itself, as a part of the frames; where there is none, or the turn would be refused, an empty part
 abbrev pub shownBy : {A : Type 0} → Offer → List A → List A

@@ -9,7 +9,7 @@ use lib.Dec.{eqb}
 use borrow.Author.Tests.{eqb-false}
 use Rattle.codes.specs.declared.answers.Refusal.{Refusal}
 use Rattle.codes.specs.Says.{pick}
-use Rattle.turns.specs.Rules.{release, playedOf, judgeOf, settle, hear, ticked, countedBy, countedOf}
+use Rattle.turns.specs.Rules.{release, judgeOf, settle, hear, ticked, countedBy, countedOf}
 use Rattle.turns.specs.RuleLaws.{Judged, judged}
 use Rattle.turns.specs.Ring.{goesOn}
 use Rattle.turns.specs.Log.{Line, Ran, onward}
@@ -50,12 +50,12 @@ module _ (P : Step → Type 0) where
   settle-cases sent t slot status outcome (Bad r) j silent freed = freed _ tt (j .0)
 
   -- rule 2 frees nothing, or the oldest in flight
-  pub hear-cases : (sent : Sent) (t : Track) (reading : Reading)
+  pub hear-cases : (sent : Sent) (t : Track) (o : Outcome) (reading : Reading)
       → ((said : Said) → Plain said → P (record { track = t; sent = sent; heard = Silent; said = said }))
       → ((slot status : ℕ) (said : Said) → Plain said → 0 < t .inflight → P (record { track = release t; sent = sent; heard = Freed slot status; said = said }))
-      → P (hear sent t reading)
-  hear-cases sent t Quiet silent freed = silent _ tt
-  hear-cases sent t (Completed slot status) silent freed = let o = playedOf status in settle-cases sent t slot status o (judgeOf t slot o) (judged t slot o) silent (freed slot status)
+      → P (hear o sent t reading)
+  hear-cases sent t o Quiet silent freed = silent _ tt
+  hear-cases sent t o (Completed slot status) silent freed = settle-cases sent t slot status o (judgeOf t slot o) (judged t slot o) silent (freed slot status)
 
   counted-by : (s : Step) (said : Said) (last : Bool) → lastOf s ≡ last → Plain said
       → (s .track .turns + 1 ≢ s .track .budget → P (record { track = ticked true (s .track); sent = s .sent; heard = s .heard; said = Going }))

@@ -18,5 +18,9 @@ placedOf t = modeOk (t .descriptors) && (ltb (t .head) 32 && (ltb (t .tail) 32 &
 unfoldable pub pacedOf : Track → Bool
 pacedOf t = leb (t .next) (t .total) && (not (t .running) || (ltb 0 (t .period) && ltb (t .turns) (t .budget)))
 
+-- what was accepted is within what was lent at the start
+abbrev pub keptOf : Track → Bool
+keptOf t = leb (t .kept) (t .lent)
+
 abbrev pub consistentOf : Track → Bool
-consistentOf t = placedOf t && pacedOf t
+consistentOf t = placedOf t && (pacedOf t && keptOf t)

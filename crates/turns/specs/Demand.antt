@@ -17,7 +17,7 @@ use Rattle.turns.specs.ConsistentLaws.{consistent-facts}
 use Rattle.turns.specs.HostLaws.{goes}
 use Rattle.turns.specs.RefusalLaws.{turn-refused, drain-refused, start-refused, ring-untouched, offered}
 use Rattle.turns.specs.DemandLaws.{loop-length, plays-in-time, plays-only-if, plays-accounted, plays-ends, plays-ten, plays-carried, script-plays, script-ok, script-within, script-answers}
-use Rattle.turns.specs.Types.{Track, Ring, Sent, Going, Done, Refused, Reading, Transferred}
+use Rattle.turns.specs.Types.{Track, Ring, Sent, Going, Done, Refused, Reading, Quiet, Transferred}
 use Rattle.turns.specs.declared.calls.Offer.the-variants as offer
 
 -- "Take a state and ring that calls left, .. no exchange or transfer open, nothing in flight, and frames that make n periods. If no turn reports a
@@ -59,7 +59,7 @@ ok-only-if-script r stream period budget frames bytes ok =
 -- ---- "how long may the console sit inside one announcement?" At most budget turns
 pub turns-within-budget : (r : Ring) (stream period budget : ℕ) (frames bytes : List ℕ) (script : List Reading)
     → (length (plays r stream period budget frames script .log) ≤ budget) × (transferOf r stream (length frames) period budget bytes .turns ≤ budget)
-turns-within-budget r stream period budget frames bytes script = (loop-length _ budget _ script, script-within r stream period budget frames bytes)
+turns-within-budget r stream period budget frames bytes script = (loop-length Quiet _ budget _ script, script-within r stream period budget frames bytes)
 
 -- a transfer over a script comes to an answer
 pub always-answers-script : (r : Ring) (stream period budget : ℕ) (frames bytes : List ℕ) → transferOf r stream (length frames) period budget bytes .said ≡ Going → ⊥

@@ -11,32 +11,35 @@ use Rattle.codes.specs.SaysLaws.{passes, guarded-by}
 use Rattle.codes.specs.declared.answers.Refusal.{Refusal}
 use Rattle.codes.specs.declared.answers.Refusal.the-variants.{BadLength}
 use Rattle.layout.specs.All.{All}
+use mathlib.Core.Bool.{Bool, false}
 use Rattle.turns.specs.Cut.{cut, spanOf}
+use Rattle.turns.specs.CutLaws.{plan-count}
+use Rattle.turns.specs.AccountLaws.{played-just}
 use Rattle.turns.specs.Ring.{blankSlot}
 use Rattle.turns.specs.Rules.{chooseOf}
 use Rattle.turns.specs.RuleLaws.{Chosen, chosen}
 use Rattle.turns.specs.ConsistentLaws.{Consistent, few}
 use Rattle.turns.specs.Calls.{begun, startCall, carry, ringAfter}
 use Rattle.turns.specs.Script.{scriptOf, transferredOf, transferBy, transferOf}
-use Rattle.turns.specs.Log.{Line, Ran, onward, waitingBy, firstOf, restOf, loop, Told, ruled, run, called, turnByTurn, sends}
+use Rattle.turns.specs.Log.{Line, Ran, onward, waitingBy, nextOf, restOf, loopOf, Told, Judge, played, judgedOf, ruled, run, called, turnByTurn, sends}
 use Rattle.turns.specs.Asked.{starts, plays, Accounted, Carried, AtMostTen}
 use Rattle.turns.specs.CaseLaws.{goes-by, onward-cases, stays}
 use Rattle.turns.specs.KeepLaws.{Fit, fit-of, fit-submit, turn-after}
 use Rattle.turns.specs.StaysConsistentLaws.{start-keeps}
-use Rattle.turns.specs.HostLaws.{seen, Runs, runs-on, link, Ends, run-ends, Begins, begins, never}
+use Rattle.turns.specs.HostLaws.{seen, RunsAs, Runs, runs-on, link, Ends, run-ends, Begins, begins, never}
 use Rattle.turns.specs.OwedLaws.{host-carries, carries-at}
 use Rattle.turns.specs.RunLaws.{InTime, OnlyIf, run-in-time, run-only-if, run-accounted}
-use Rattle.turns.specs.Types.{Track, Ring, Sent, Said, Going, Done, Refused, Step, Reading, Choice, Submit, Finish, Wait, Transferred}
+use Rattle.turns.specs.Types.{Track, Ring, Sent, Said, Going, Done, Refused, Step, Reading, Quiet, Choice, Submit, Finish, Wait, Transferred}
 
 -- ---- a loop has as many lines as fuel at most
 
 onward-length : {A : Type 0} (fuel : ℕ) (said : Said) (line : Line) (a : A) (rest : Ran A) → length (rest .log) ≤ fuel → length (onward said line a rest .log) ≤ suc fuel
 onward-length fuel said line a rest h = onward-cases (λ (o : Ran _). length (o .log) ≤ suc fuel) said line a rest (λ _. omega arith) (λ _. omega arith)
 
-pub loop-length : {A : Type 0} (turn : A → Reading → Told A) (fuel : ℕ) (a : A) (script : List Reading) → length (loop turn fuel a script .log) ≤ fuel
-unfolding loop
-loop-length turn zero a script = omega arith
-loop-length turn (suc fuel) a script = let t = turn a (firstOf script) in onward-length fuel (t .line .said) (t .line) (t .left) _ (loop-length turn fuel (t .left) (restOf script))
+pub loop-length : {A R : Type 0} (quiet : R) (turn : A → R → Told A) (fuel : ℕ) (a : A) (script : List R) → length (loopOf quiet turn fuel a script .log) ≤ fuel
+unfolding loopOf
+loop-length quiet turn zero a script = omega arith
+loop-length quiet turn (suc fuel) a script = let t = turn a (nextOf quiet script) in onward-length fuel (t .line .said) (t .line) (t .left) _ (loop-length quiet turn fuel (t .left) (restOf script))
 
 -- ---- at most 10 are in flight
 
@@ -48,14 +51,15 @@ waits-ten least t Wait ch le f = few t (f .placed)
 onward-ten : (said : Said) (line : Line) (t : Track) (rest : Ran Track) → AtMostTen line → (said ≡ Going → All AtMostTen (rest .log)) → All AtMostTen (onward said line t rest .log)
 onward-ten said line t rest h k = onward-cases (λ (o : Ran Track). All AtMostTen (o .log)) said line t rest (λ e. (h, k e)) (λ _. (h, tt))
 
-pub run-ten : (least len fuel : ℕ) (t : Track) (script : List Reading) → t .descriptors ≤ least → Runs len t → All AtMostTen (run least fuel t script .log)
-unfolding loop
-run-ten least len zero t script le r = tt
-run-ten least len (suc fuel) t script le r =
-    let s = ruled least t (firstOf script) in
-    let size = ap (λ (z : ℕ × ℕ × ℕ × ℕ × ℕ). z .0) (turn-after least t (firstOf script) .0) in
-    onward-ten (s .line .said) (s .line) (s .left) (run least fuel (s .left) (restOf script)) (waits-ten least t (chooseOf least t) (chosen least t) le (fit-of t (r .consistent)))
-    (λ e. run-ten least len fuel (s .left) (restOf script) (omega arith) (runs-on least len t (firstOf script) le r e))
+pub run-ten : {capture : Bool} {R : Type 0} (j : Judge R) (least len fuel : ℕ) (t : Track) (script : List R) → t .descriptors ≤ least → RunsAs capture len t → All AtMostTen (run j least fuel t script .log)
+unfolding loopOf
+run-ten j least len zero t script le r = tt
+run-ten j least len (suc fuel) t script le r =
+    let x = nextOf (j .quiet) script in
+    let s = ruled j least t x in
+    let size = ap (λ (z : ℕ × ℕ × ℕ × ℕ × ℕ). z .0) (turn-after least t (judgedOf j t x) (j .reading x) .0) in
+    onward-ten (s .line .said) (s .line) (s .left) (run j least fuel (s .left) (restOf script)) (waits-ten least t (chooseOf least t) (chosen least t) le (fit-of t (r .consistent)))
+    (λ e. run-ten j least len fuel (s .left) (restOf script) (omega arith) (runs-on least len t _ _ le r e))
 
 -- ---- a start that goes on, and then turns
 
@@ -70,26 +74,29 @@ module _ (r : Ring) (stream period budget : ℕ) (frames : List ℕ) (script : L
   least = r .track .descriptors
 
   -- the loop of k turns is the run of the rules from the beginning of the transfer
-  played : (k : ℕ) → seen (λ (x : Ring). x .track) (turnByTurn (length frames) k (starts r stream period budget frames .ring) script) ≡ run least k (begun (r .track) stream (length frames) period budget) script
-  played k =
+  as-run : (k : ℕ) → seen (λ (x : Ring). x .track) (turnByTurn (length frames) k (starts r stream period budget frames .ring) script) ≡ run played least k (begun (r .track) stream (length frames) period budget) script
+  as-run k =
       link least (length frames) k (starts r stream period budget frames .ring) script (ap (λ (t : Track). t .descriptors) (from .track)) (subst (Runs (length frames)) (sym (from .track)) (from .runs))
-      ∙ ap (λ (t : Track). run least k t script) (from .track)
+      ∙ ap (λ (t : Track). run played least k t script) (from .track)
 
   pub plays-only-if : OnlyIf stream period frames (plays r stream period budget frames script)
-  plays-only-if = subst (λ (o : Ran Track). OnlyIf stream period frames o) (sym (played budget)) (run-only-if least stream period budget frames (r .track) script some)
+  plays-only-if = subst (λ (o : Ran Track). OnlyIf stream period frames o) (sym (as-run budget)) (run-only-if least stream period budget frames (r .track) script some)
 
   pub plays-in-time : (g : ℕ) → 0 < g → length (cut period frames) * g + 1 ≤ budget → InTime (length (cut period frames)) g (plays r stream period budget frames script)
   plays-in-time g pos enough =
-      subst (λ (o : Ran Track). InTime (length (cut period frames)) g o) (sym (played budget)) (run-in-time least stream period budget frames (r .track) script some g (omega (arith, from .runs .consistent .placed .mode)) pos enough)
+      let n = plan-count period frames in
+      subst (λ (o : Ran Track). InTime (length (cut period frames)) g o) (sym (as-run budget))
+      (subst (λ (n : ℕ). InTime n g (run played least budget (begun (r .track) stream (length frames) period budget) script)) n
+      (run-in-time played played-just (λ e. omega arith) false (length frames) least stream period (length frames) budget (r .track) script some g (omega (arith, from .runs .consistent .placed .mode)) pos (rw n enough)))
 
   pub plays-accounted : (k : ℕ) → let h = turnByTurn (length frames) k (starts r stream period budget frames .ring) script in Accounted period frames (h .said) (h .at .track) (h .log)
-  plays-accounted k = subst (λ (o : Ran Track). Accounted period frames (o .said) (o .at) (o .log)) (sym (played k)) (run-accounted least stream period budget frames (r .track) script some k)
+  plays-accounted k = subst (λ (o : Ran Track). Accounted period frames (o .said) (o .at) (o .log)) (sym (as-run k)) (run-accounted least stream period budget frames (r .track) script some k)
 
   pub plays-ends : (k : ℕ) → Ends k (begun (r .track) stream (length frames) period budget) (seen (λ (x : Ring). x .track) (turnByTurn (length frames) k (starts r stream period budget frames .ring) script))
-  plays-ends k = subst (Ends k (begun (r .track) stream (length frames) period budget)) (sym (played k)) (run-ends least (length frames) k _ script (omega arith) (from .runs))
+  plays-ends k = subst (Ends k (begun (r .track) stream (length frames) period budget)) (sym (as-run k)) (run-ends played least (length frames) k _ script (omega arith) (from .runs))
 
   pub plays-ten : (k : ℕ) → let h = turnByTurn (length frames) k (starts r stream period budget frames .ring) script in (h .at .track .inflight ≤ 10) × All AtMostTen (h .log)
-  plays-ten k = (few _ (plays-ends k .consistent .placed), subst (λ (o : Ran Track). All AtMostTen (o .log)) (sym (played k)) (run-ten least (length frames) k _ script (omega arith) (from .runs)))
+  plays-ten k = (few _ (plays-ends k .consistent .placed), subst (λ (o : Ran Track). All AtMostTen (o .log)) (sym (as-run k)) (run-ten played least (length frames) k _ script (omega arith) (from .runs)))
 
   pub plays-carried : length (r .slots) ≡ 32 → Carried period frames (plays r stream period budget frames script)
   plays-carried size i past to =
@@ -138,7 +145,7 @@ module _ (r : Ring) (stream period budget : ℕ) (frames bytes : List ℕ) where
       (λ _ e. absurd (not-ok _ e))
 
   script-turns : (said : Said) (x : Ring) → transferBy said (length frames) budget x (scriptOf bytes) .turns ≤ budget
-  script-turns said x = goes-by (λ (d : Transferred). d .turns ≤ budget) said _ _ (λ _. loop-length (called (length frames)) budget x (scriptOf bytes)) (λ _. omega arith)
+  script-turns said x = goes-by (λ (d : Transferred). d .turns ≤ budget) said _ _ (λ _. loop-length Quiet (called (length frames)) budget x (scriptOf bytes)) (λ _. omega arith)
 
   pub script-within : transferOf r stream (length frames) period budget bytes .turns ≤ budget
   unfolding transferOf

@@ -10,14 +10,14 @@ use lib.ListN.{length}
 use borrow.Author.Tests.{eq-eqb, lt-ltb, ltb-true}
 use Rattle.codes.specs.SaysLaws.{passes, guarded-by}
 use Rattle.codes.specs.declared.answers.Refusal.{Refusal}
-use Rattle.turns.specs.Rules.{turnOf, countedOf}
+use Rattle.turns.specs.Rules.{comesTo, playedOf, turnOf, countedOf}
 use Rattle.turns.specs.ConsistentLaws.{Consistent, consistent-facts, consistent-true}
-use Rattle.turns.specs.Calls.{turnCall, begun, startCall}
+use Rattle.turns.specs.Calls.{refusedOf, runsAs, admit, turnCall, begun, startCall}
 use Rattle.turns.specs.CaseLaws.{onward-cases, stays}
 use Rattle.turns.specs.KeepLaws.{After, turn-after, turn-keeps, turn-runs}
 use Rattle.turns.specs.StaysConsistentLaws.{begun-keeps}
-use Rattle.turns.specs.Log.{Line, Ran, onward, Told, firstOf, restOf, loop, ruled, run, called, turnByTurn}
-use Rattle.turns.specs.Types.{Track, Ring, Nothing, Said, Going, Done, Ended, Refused, Step, Reading}
+use Rattle.turns.specs.Log.{Line, Ran, onward, Told, nextOf, restOf, loopOf, Judge, played, judgedOf, ruled, run, called, turnByTurn}
+use Rattle.turns.specs.Types.{Track, Ring, Nothing, Said, Going, Done, Ended, Refused, Step, Reading, Quiet, Outcome}
 
 -- ---- two loops that say the same: one seen through a view of its state
 
@@ -31,68 +31,82 @@ onward-alike view (Ended x) line a r q h = refl
 onward-alike view (Refused x) line a r q h = refl
 
 -- f and g leave the same line, and the same state in view, wherever the invariant holds; a turn of f that goes on keeps it
-pub loops-alike : {A B : Type 0} (f : A → Reading → Told A) (g : B → Reading → Told B) (view : A → B) (Inv : A → Type 0)
-    → ((a : A) (x : Reading) → Inv a → (f a x .line ≡ g (view a) x .line) × (view (f a x .left) ≡ g (view a) x .left) × (f a x .line .said ≡ Going → Inv (f a x .left)))
-    → (fuel : ℕ) (a : A) (script : List Reading) → Inv a → seen view (loop f fuel a script) ≡ loop g fuel (view a) script
-unfolding loop
-loops-alike f g view Inv step zero a script i = refl
-loops-alike {A} {B} f g view Inv step (suc fuel) a script i =
-    let x = firstOf script in
+pub loops-alike : {A B R : Type 0} (quiet : R) (f : A → R → Told A) (g : B → R → Told B) (view : A → B) (Inv : A → Type 0)
+    → ((a : A) (x : R) → Inv a → (f a x .line ≡ g (view a) x .line) × (view (f a x .left) ≡ g (view a) x .left) × (f a x .line .said ≡ Going → Inv (f a x .left)))
+    → (fuel : ℕ) (a : A) (script : List R) → Inv a → seen view (loopOf quiet f fuel a script) ≡ loopOf quiet g fuel (view a) script
+unfolding loopOf
+loops-alike quiet f g view Inv step zero a script i = refl
+loops-alike {A} {B} quiet f g view Inv step (suc fuel) a script i =
+    let x = nextOf quiet script in
     let s = step a x i in
-    let rest : B → Ran B = λ b. loop g fuel b (restOf script) in
-    onward-alike view (f a x .line .said) (f a x .line) (f a x .left) (loop f fuel (f a x .left) (restOf script)) (rest (view (f a x .left)))
-    (λ going. loops-alike f g view Inv step fuel (f a x .left) (restOf script) (s .2 going))
+    let rest : B → Ran B = λ b. loopOf quiet g fuel b (restOf script) in
+    onward-alike view (f a x .line .said) (f a x .line) (f a x .left) (loopOf quiet f fuel (f a x .left) (restOf script)) (rest (view (f a x .left)))
+    (λ going. loops-alike quiet f g view Inv step fuel (f a x .left) (restOf script) (s .2 going))
     ∙ ap (λ (l : Line). onward (l .said) l (view (f a x .left)) (rest (view (f a x .left)))) (s .0)
     ∙ ap (λ (b : B). onward (g (view a) x .line .said) (g (view a) x .line) b (rest b)) (s .1)
 
 -- ---- THE LINK
 
--- a transfer runs on frames of a length
-pub record Runs (len : ℕ) (t : Track) : Type 0 where
+-- a transfer of a direction runs, lent something of a length
+pub record RunsAs (capture : Bool) (len : ℕ) (t : Track) : Type 0 where
   pub consistent : Consistent t
   pub running : t .running ≡ true
-  pub whole : len ≡ t .total
+  pub direction : t .capture ≡ capture
+  pub whole : len ≡ t .lent
+
+abbrev pub Runs : ℕ → Track → Type 0
+Runs = RunsAs false
 
 agrees : (running same : Bool) → same ≡ true → (not running || same) ≡ true
 agrees true same e = e
 agrees false same e = refl
 
+runs-as : (capture : Bool) (t : Track) → t .running ≡ true → t .capture ≡ capture → runsAs capture t ≡ true
+runs-as true t r d = rw (r, d)
+runs-as false t r d = rw (r, d)
+
+-- a call is not refused while its transfer runs
+pub admits : {A : Type 0} (capture : Bool) (len : ℕ) (t : Track) (refused : Refusal → A) (rest : A) → RunsAs capture len t → rest ≡ admit capture t len refused rest
+admits capture len t refused rest r =
+    passes _ _ _ (agrees (t .running) (eqb len (t .lent)) (eq-eqb _ _ (r .whole))) (passes _ _ _ (consistent-true t (r .consistent)) (passes _ _ _ (runs-as capture t (r .running) (r .direction)) refl))
+
 -- the call of a turn is the counted turn
-pub call-turns : (len : ℕ) (t : Track) (reading : Reading) → Runs len t → countedOf (turnOf (t .descriptors) t reading) ≡ turnCall t len reading
+pub call-turns : (len : ℕ) (t : Track) (reading : Reading) → Runs len t → countedOf (turnOf (t .descriptors) t (comesTo playedOf reading) reading) ≡ turnCall t len reading
 unfolding turnCall
-call-turns len t reading r =
-    passes _ _ _ (agrees (t .running) (eqb len (t .total)) (eq-eqb _ _ (r .whole))) (passes _ _ _ (consistent-true t (r .consistent)) (passes _ _ _ (r .running) refl))
+call-turns len t reading r = admits false len t (λ x. refusedOf x t) _ r
 
 -- a turn that goes on leaves a transfer that runs
-pub runs-on : (least len : ℕ) (t : Track) (reading : Reading) → t .descriptors ≤ least → Runs len t → countedOf (turnOf least t reading) .said ≡ Going → Runs len (countedOf (turnOf least t reading) .track)
-runs-on least len t reading le r e =
+pub runs-on : {capture : Bool} (least len : ℕ) (t : Track) (o : Outcome) (reading : Reading) → t .descriptors ≤ least → RunsAs capture len t → countedOf (turnOf least t o reading) .said ≡ Going → RunsAs capture len (countedOf (turnOf least t o reading) .track)
+runs-on least len t o reading le r e =
+    let same = turn-after least t o reading .2 in
     record {
-      consistent = turn-keeps least t reading le (r .consistent) (r .running);
-      running = turn-runs least t reading e;
-      whole = r .whole ∙ sym (ap (λ (x : ℕ × ℕ × ℕ × ℕ × ℕ). x .2) (turn-after least t reading .0));
+      consistent = turn-keeps least t o reading le (r .consistent) (r .running);
+      running = turn-runs least t o reading e;
+      direction = ap (λ (x : Bool × ℕ × ℕ). x .0) same ∙ r .direction;
+      whole = r .whole ∙ sym (ap (λ (x : Bool × ℕ × ℕ). x .1) same);
     }
 
 -- one turn of each: the same line, the same track, and a turn that goes on leaves a transfer that runs in the same mode
 abbrev Alike : ℕ → ℕ → Ring → Reading → Type 0
 Alike least len a x =
-    (called len a x .line ≡ ruled least (a .track) x .line)
-    × (called len a x .left .track ≡ ruled least (a .track) x .left)
+    (called len a x .line ≡ ruled played least (a .track) x .line)
+    × (called len a x .left .track ≡ ruled played least (a .track) x .left)
     × (called len a x .line .said ≡ Going → (called len a x .left .track .descriptors ≡ least) × Runs len (called len a x .left .track))
 
 same-turn : (len : ℕ) (a : Ring) (x : Reading) → Runs len (a .track) → Alike (a .track .descriptors) len a x
 same-turn len a x h =
     let t = a .track in
     let e = sym (call-turns len t x h) in (
-      ap (λ (s : Step). record { sent = s .sent; waiting = ruled (t .descriptors) t x .line .waiting; reading = x; heard = s .heard; said = s .said }) e,
+      ap (λ (s : Step). record { sent = s .sent; waiting = ruled played (t .descriptors) t x .line .waiting; reading = x; heard = s .heard; said = s .said }) e,
       ap (λ (s : Step). s .track) e,
       subst (λ (s : Step). s .said ≡ Going → (s .track .descriptors ≡ t .descriptors) × Runs len (s .track)) (sym e)
-          (λ g. (ap (λ (z : ℕ × ℕ × ℕ × ℕ × ℕ). z .0) (turn-after (t .descriptors) t x .0), runs-on (t .descriptors) len t x (omega arith) h g)),
+          (λ g. (ap (λ (z : ℕ × ℕ × ℕ × ℕ × ℕ). z .0) (turn-after (t .descriptors) t _ x .0), runs-on (t .descriptors) len t _ x (omega arith) h g)),
     )
 
 -- THE HOST'S LOOP and THE RUN of the rules say the same, line for line, and leave the same track
-pub link : (least len fuel : ℕ) (r : Ring) (script : List Reading) → r .track .descriptors ≡ least → Runs len (r .track) → seen (λ (x : Ring). x .track) (turnByTurn len fuel r script) ≡ run least fuel (r .track) script
+pub link : (least len fuel : ℕ) (r : Ring) (script : List Reading) → r .track .descriptors ≡ least → Runs len (r .track) → seen (λ (x : Ring). x .track) (turnByTurn len fuel r script) ≡ run played least fuel (r .track) script
 link least len fuel r script p i =
-    loops-alike (called len) (ruled least) (λ (x : Ring). x .track) (λ x. (x .track .descriptors ≡ least) × Runs len (x .track))
+    loops-alike Quiet (called len) (ruled played least) (λ (x : Ring). x .track) (λ x. (x .track .descriptors ≡ least) × Runs len (x .track))
     (λ a x h. subst (λ (k : ℕ). Alike k len a x) (h .0) (same-turn len a x (h .1))) fuel r script (p, i)
 
 -- ---- how a run ends
@@ -112,20 +126,22 @@ ends-by fuel t n said line rest a l c h =
     (λ e.
     let k = h e in
     let budget = ap (λ (x : ℕ × ℕ × ℕ × ℕ × ℕ). x .4) (a .0) in
-    record { answered = λ f. k .answered (omega arith); within = omega (arith, k .within); after = (k .after .0 ∙ a .0, omega (arith, k .after .1)); consistent = k .consistent })
+    record { answered = λ f. k .answered (omega arith); within = omega (arith, k .within); after = (k .after .0 ∙ a .0, omega (arith, k .after .1), k .after .2 ∙ a .2); consistent = k .consistent })
     (λ e. record { answered = λ _. stays e; within = omega arith; after = a; consistent = c })
 
-pub run-ends : (least len fuel : ℕ) (t : Track) (script : List Reading) → t .descriptors ≤ least → Runs len t → Ends fuel t (run least fuel t script)
-unfolding loop
-run-ends least len zero t script le r =
+pub run-ends : {capture : Bool} {R : Type 0} (j : Judge R) (least len fuel : ℕ) (t : Track) (script : List R) → t .descriptors ≤ least → RunsAs capture len t → Ends fuel t (run j least fuel t script)
+unfolding loopOf
+run-ends j least len zero t script le r =
     let left = r .consistent .paced .left (r .running) in
-    record { answered = λ f e. omega arith; within = omega arith; after = (refl, omega arith); consistent = r .consistent }
-run-ends least len (suc fuel) t script le r =
-    let s = ruled least t (firstOf script) in
-    let size = ap (λ (z : ℕ × ℕ × ℕ × ℕ × ℕ). z .0) (turn-after least t (firstOf script) .0) in
-    ends-by fuel t (s .left) (s .line .said) (s .line) (run least fuel (s .left) (restOf script)) (turn-after least t (firstOf script)) (r .consistent .paced .left (r .running))
-    (turn-keeps least t (firstOf script) le (r .consistent) (r .running))
-    (λ e. run-ends least len fuel (s .left) (restOf script) (omega arith) (runs-on least len t (firstOf script) le r e))
+    record { answered = λ f e. omega arith; within = omega arith; after = (refl, omega arith, refl); consistent = r .consistent }
+run-ends j least len (suc fuel) t script le r =
+    let x = nextOf (j .quiet) script in
+    let s = ruled j least t x in
+    let moved = turn-after least t (judgedOf j t x) (j .reading x) in
+    let size = ap (λ (z : ℕ × ℕ × ℕ × ℕ × ℕ). z .0) (moved .0) in
+    ends-by fuel t (s .left) (s .line .said) (s .line) (run j least fuel (s .left) (restOf script)) moved (r .consistent .paced .left (r .running))
+    (turn-keeps least t _ _ le (r .consistent) (r .running))
+    (λ e. run-ends j least len fuel (s .left) (restOf script) (omega arith) (runs-on least len t _ _ le r e))
 
 -- ---- THE START of a transfer
 
@@ -146,7 +162,7 @@ begins t stream total period budget =
     (λ c. guarded-by P _ _ _
     (λ _. guarded-by P _ _ _
     (λ p. guarded-by P _ _ _
-    (λ b _. record { track = refl; sent = refl; runs = record { consistent = begun-keeps t stream total period budget (consistent-facts t c .placed .mode) (ltb-true _ _ p) (ltb-true _ _ b); running = refl; whole = refl } })
+    (λ b _. record { track = refl; sent = refl; runs = record { consistent = begun-keeps false total t stream total period budget (consistent-facts t c .placed .mode) (ltb-true _ _ p) (ltb-true _ _ b); running = refl; direction = refl; whole = refl } })
     (λ _ e. absurd (never _ e)))
     (λ _ e. absurd (never _ e)))
     (λ _ e. absurd (never _ e)))

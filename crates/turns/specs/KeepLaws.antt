@@ -10,47 +10,51 @@ use Rattle.turns.specs.RuleLaws.{Chosen, chosen}
 use Rattle.turns.specs.ConsistentLaws.{Consistent}
 use Rattle.turns.specs.Private.{Placed}
 use Rattle.turns.specs.CaseLaws.{Plain, Over, hear-cases, counted-cases}
-use Rattle.turns.specs.Types.{Track, Sent, Nothing, Going, Step, Reading, Choice, Submit, Finish, Wait}
+use Rattle.turns.specs.Types.{Track, Sent, Nothing, Going, Step, Reading, Choice, Submit, Finish, Wait, Outcome}
 
 -- ---- what stays: descriptors to a submission, stream, frame length, period, budget; the count is apart
 
 abbrev pub fixed : Track → ℕ × ℕ × ℕ × ℕ × ℕ
 fixed t = (t .descriptors, t .stream, t .total, t .period, t .budget)
 
+-- its direction, what is lent and what was accepted of it: no rule looks at these
+abbrev pub side : Track → Bool × ℕ × ℕ
+side t = (t .capture, t .lent, t .kept)
+
 -- n is of the same transfer as t, after some turns more
 abbrev pub After : ℕ → Track → Track → Type 0
-After more t n = (fixed n ≡ fixed t) × (n .turns ≡ t .turns + more)
+After more t n = (fixed n ≡ fixed t) × (n .turns ≡ t .turns + more) × (side n ≡ side t)
 
 none : (t : Track) → After 0 t t
-none t = (refl, omega arith)
+none t = (refl, omega arith, refl)
 
-after-hear : (sent : Sent) (t : Track) (reading : Reading) → After 0 t (hear sent t reading .track)
-after-hear sent t reading = hear-cases (λ s. After 0 t (s .track)) sent t reading (λ _ _. none t) (λ _ _ _ _ _. none t)
+after-hear : (sent : Sent) (t : Track) (o : Outcome) (reading : Reading) → After 0 t (hear o sent t reading .track)
+after-hear sent t o reading = hear-cases (λ s. After 0 t (s .track)) sent t o reading (λ _ _. none t) (λ _ _ _ _ _. none t)
 
-pub after-act : (c : Choice) (t : Track) (reading : Reading) → After 0 t (act c t reading .track)
-after-act Submit t reading = after-hear (sentOf t) (submit t) reading
-after-act Finish t reading = none t
-after-act Wait t reading = after-hear Nothing t reading
+pub after-act : (c : Choice) (t : Track) (o : Outcome) (reading : Reading) → After 0 t (act c t o reading .track)
+after-act Submit t o reading = after-hear (sentOf t) (submit t) o reading
+after-act Finish t o reading = none t
+after-act Wait t o reading = after-hear Nothing t o reading
 
-hear-plain : (sent : Sent) (t : Track) (reading : Reading) → Plain (hear sent t reading .said)
-hear-plain sent t reading = hear-cases (λ s. Plain (s .said)) sent t reading (λ _ p. p) (λ _ _ _ p _. p)
+hear-plain : (sent : Sent) (t : Track) (o : Outcome) (reading : Reading) → Plain (hear o sent t reading .said)
+hear-plain sent t o reading = hear-cases (λ s. Plain (s .said)) sent t o reading (λ _ p. p) (λ _ _ _ p _. p)
 
-act-plain : (c : Choice) (t : Track) (reading : Reading) → Plain (act c t reading .said)
-act-plain Submit t reading = hear-plain (sentOf t) (submit t) reading
-act-plain Finish t reading = tt
-act-plain Wait t reading = hear-plain Nothing t reading
+act-plain : (c : Choice) (t : Track) (o : Outcome) (reading : Reading) → Plain (act c t o reading .said)
+act-plain Submit t o reading = hear-plain (sentOf t) (submit t) o reading
+act-plain Finish t o reading = tt
+act-plain Wait t o reading = hear-plain Nothing t o reading
 
 -- a turn refuses nothing
-pub turn-plain : (least : ℕ) (t : Track) (reading : Reading) → Plain (turnOf least t reading .said)
+pub turn-plain : (least : ℕ) (t : Track) (o : Outcome) (reading : Reading) → Plain (turnOf least t o reading .said)
 unfolding turnOf
-turn-plain least t reading = act-plain (chooseOf least t) t reading
+turn-plain least t o reading = act-plain (chooseOf least t) t o reading
 
 -- before it is counted, a turn that was within the budget still is
-pub turns-left : (least : ℕ) (t : Track) (reading : Reading) (s : Step) → s ≡ turnOf least t reading → Consistent t → t .running ≡ true → s .track .turns < s .track .budget
+pub turns-left : (least : ℕ) (t : Track) (o : Outcome) (reading : Reading) (s : Step) → s ≡ turnOf least t o reading → Consistent t → t .running ≡ true → s .track .turns < s .track .budget
 unfolding turnOf
-turns-left least t reading s e c h =
-    let a = after-act (chooseOf least t) t reading in
-    let budget : act (chooseOf least t) t reading .track .budget ≡ t .budget = ap (λ (f : ℕ × ℕ × ℕ × ℕ × ℕ). f .4) (a .0) in
+turns-left least t o reading s e c h =
+    let a = after-act (chooseOf least t) t o reading in
+    let budget : act (chooseOf least t) t o reading .track .budget ≡ t .budget = ap (λ (f : ℕ × ℕ × ℕ × ℕ × ℕ). f .4) (a .0) in
     let left = c .paced .left h in
     rw e (omega arith)
 
@@ -59,17 +63,18 @@ pub counted-track : (s : Step) → Plain (s .said) → ticked (countedOf s .trac
 counted-track s p = counted-cases (λ n. ticked (n .track .running) (s .track) ≡ n .track) s p (λ _. refl) (λ _ _. refl)
 
 -- A COUNTED TURN keeps the transfer, and counts one
-pub turn-after : (least : ℕ) (t : Track) (reading : Reading) → After 1 t (countedOf (turnOf least t reading) .track)
+pub turn-after : (least : ℕ) (t : Track) (o : Outcome) (reading : Reading) → After 1 t (countedOf (turnOf least t o reading) .track)
 unfolding turnOf
-turn-after least t reading =
-    let a = after-act (chooseOf least t) t reading in
-    counted-cases (λ s. After 1 t (s .track)) (turnOf least t reading) (turn-plain least t reading) (λ _. (a .0, omega arith)) (λ _ _. (a .0, omega arith))
+turn-after least t o reading =
+    let a = after-act (chooseOf least t) t o reading in
+    counted-cases (λ s. After 1 t (s .track)) (turnOf least t o reading) (turn-plain least t o reading) (λ _. (a .0, omega arith, a .2)) (λ _ _. (a .0, omega arith, a .2))
 
 -- ---- the slots stay in line, within the frames
 
 pub record Fit (t : Track) : Type 0 where
   pub placed : Placed t
   pub within : t .next ≤ t .total
+  pub kept : t .kept ≤ t .lent
 
 less-room : (n size : ℕ) → n * size ≤ 32 → (n - 1) * size ≤ 32
 less-room zero size h = omega arith
@@ -78,20 +83,20 @@ less-room (suc n) size h = let one : suc n - 1 ≡ n = omega arith in rw one (om
 pub fit-release : (t : Track) → 0 < t .inflight → Fit t → Fit (release t)
 fit-release t some f =
     let p = f .placed in
-    record { placed = record { mode = p .mode; head-in = p .head-in; tail-in = omega arith; room = less-room (t .inflight) (t .descriptors) (p .room); line = omega arith }; within = f .within }
+    record { placed = record { mode = p .mode; head-in = p .head-in; tail-in = omega arith; room = less-room (t .inflight) (t .descriptors) (p .room); line = omega arith }; within = f .within; kept = f .kept }
 
 pub fit-submit : (least : ℕ) (t : Track) → t .descriptors ≤ least → least ≤ free t → t .next < t .total → Fit t → Fit (submit t)
 fit-submit least t le room more f =
     let p = f .placed in
-    record { placed = record { mode = p .mode; head-in = omega arith; tail-in = p .tail-in; room = omega arith; line = omega arith }; within = omega arith }
+    record { placed = record { mode = p .mode; head-in = omega arith; tail-in = p .tail-in; room = omega arith; line = omega arith }; within = omega arith; kept = f .kept }
 
-pub fit-hear : (sent : Sent) (t : Track) (reading : Reading) → Fit t → Fit (hear sent t reading .track)
-fit-hear sent t reading f = hear-cases (λ s. Fit (s .track)) sent t reading (λ _ _. f) (λ _ _ _ _ some. fit-release t some f)
+pub fit-hear : (sent : Sent) (t : Track) (o : Outcome) (reading : Reading) → Fit t → Fit (hear o sent t reading .track)
+fit-hear sent t o reading f = hear-cases (λ s. Fit (s .track)) sent t o reading (λ _ _. f) (λ _ _ _ _ some. fit-release t some f)
 
-fit-act : (least : ℕ) (t : Track) (reading : Reading) (c : Choice) → Chosen least t c → t .descriptors ≤ least → Fit t → Fit (act c t reading .track)
-fit-act least t reading Submit ch le f = fit-hear (sentOf t) (submit t) reading (fit-submit least t le (ch .0) (ch .1) f)
-fit-act least t reading Finish ch le f = f
-fit-act least t reading Wait ch le f = fit-hear Nothing t reading f
+fit-act : (least : ℕ) (t : Track) (o : Outcome) (reading : Reading) (c : Choice) → Chosen least t c → t .descriptors ≤ least → Fit t → Fit (act c t o reading .track)
+fit-act least t o reading Submit ch le f = fit-hear (sentOf t) (submit t) o reading (fit-submit least t le (ch .0) (ch .1) f)
+fit-act least t o reading Finish ch le f = f
+fit-act least t o reading Wait ch le f = fit-hear Nothing t o reading f
 
 -- ---- what calls leave is consistent
 
@@ -99,32 +104,32 @@ abbrev pub Leaves : Step → Type 0
 Leaves s = Consistent (s .track)
 
 pub fit-of : (t : Track) → Consistent t → Fit t
-fit-of t c = record { placed = c .placed; within = c .paced .within }
+fit-of t c = record { placed = c .placed; within = c .paced .within; kept = c .kept }
 
 ticked-placed : (b : Bool) (t : Track) → Placed t → Placed (ticked b t)
 ticked-placed b t p = record { mode = p .mode; head-in = p .head-in; tail-in = p .tail-in; room = p .room; line = p .line }
 
 -- one that runs no more
 ended : (t : Track) → Fit t → Consistent (ticked false t)
-ended t f = record { placed = ticked-placed false t (f .placed); paced = record { within = f .within; some = λ h. absurd (false≢true h); left = λ h. absurd (false≢true h) } }
+ended t f = record { placed = ticked-placed false t (f .placed); paced = record { within = f .within; some = λ h. absurd (false≢true h); left = λ h. absurd (false≢true h) }; kept = f .kept }
 
 -- A COUNTED TURN of a transfer that runs
-pub turn-keeps : (least : ℕ) (t : Track) (reading : Reading) → t .descriptors ≤ least → Consistent t → t .running ≡ true → Consistent (countedOf (turnOf least t reading) .track)
+pub turn-keeps : (least : ℕ) (t : Track) (o : Outcome) (reading : Reading) → t .descriptors ≤ least → Consistent t → t .running ≡ true → Consistent (countedOf (turnOf least t o reading) .track)
 unfolding turnOf
-turn-keeps least t reading le c on =
-    let u = turnOf least t reading in
-    let a = after-act (chooseOf least t) t reading in
-    let f = fit-act least t reading (chooseOf least t) (chosen least t) le (fit-of t c) in
+turn-keeps least t o reading le c on =
+    let u = turnOf least t o reading in
+    let a = after-act (chooseOf least t) t o reading in
+    let f = fit-act least t o reading (chooseOf least t) (chosen least t) le (fit-of t c) in
     let period = ap (λ (x : ℕ × ℕ × ℕ × ℕ × ℕ). x .3) (a .0) in
     let budget = ap (λ (x : ℕ × ℕ × ℕ × ℕ × ℕ). x .4) (a .0) in
     let some = c .paced .some on in
     let left = c .paced .left on in
-    counted-cases Leaves u (turn-plain least t reading)
-    (λ more. record { placed = ticked-placed true (u .track) (f .placed); paced = record { within = f .within; some = λ _. omega arith; left = λ _. omega arith } })
+    counted-cases Leaves u (turn-plain least t o reading)
+    (λ more. record { placed = ticked-placed true (u .track) (f .placed); paced = record { within = f .within; some = λ _. omega arith; left = λ _. omega arith }; kept = f .kept })
     (λ _ _. ended (u .track) f)
 
 -- a turn that goes on leaves a transfer that runs
-pub turn-runs : (least : ℕ) (t : Track) (reading : Reading) → countedOf (turnOf least t reading) .said ≡ Going → countedOf (turnOf least t reading) .track .running ≡ true
-turn-runs least t reading =
-    counted-cases (λ s. s .said ≡ Going → s .track .running ≡ true) (turnOf least t reading) (turn-plain least t reading) (λ _ _. refl)
+pub turn-runs : (least : ℕ) (t : Track) (o : Outcome) (reading : Reading) → countedOf (turnOf least t o reading) .said ≡ Going → countedOf (turnOf least t o reading) .track .running ≡ true
+turn-runs least t o reading =
+    counted-cases (λ s. s .said ≡ Going → s .track .running ≡ true) (turnOf least t o reading) (turn-plain least t o reading) (λ _ _. refl)
     (λ _ o e. absurd (subst Over e o))

@@ -9,10 +9,13 @@ pub mod Log
 pub mod Script
 pub mod Reads
 pub mod InPlace
+pub mod Capture
+pub mod Captured
 pub mod Private
 pub mod Asked
 -- theorems
 pub mod Demand
+pub mod CaptureDemand
 pub mod Drained
 pub mod AnyHost
 pub mod Worked
@@ -34,3 +37,5 @@ pub mod OwedLaws
 pub mod RefusalLaws
 pub mod DemandLaws
 pub mod PremiseLaws
+pub mod CaptureLaws
+pub mod TakenLaws

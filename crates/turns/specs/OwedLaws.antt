@@ -10,7 +10,7 @@ use lib.Seq.{getD-set-same, getD-set-other}
 use Rattle.turns.specs.Ring.{blankSlot}
 use Rattle.turns.specs.Calls.{carry}
 use Rattle.turns.specs.CaseLaws.{onward-cases}
-use Rattle.turns.specs.Log.{Line, Ran, onward, firstOf, restOf, loop, called, turnByTurn, sendsMore, sends}
+use Rattle.turns.specs.Log.{Line, Ran, onward, firstOf, restOf, loopOf, called, turnByTurn, sendsMore, sends}
 use Rattle.turns.specs.Types.{Slot, Ring, Sent, Nothing, Period, Said, Reading}
 
 -- submissions one after the other
@@ -31,7 +31,7 @@ onward-carries slots said line r rest e k =
 
 -- the slots after a loop are those before it, with what went out
 pub host-carries : (len fuel : ℕ) (r : Ring) (script : List Reading) → turnByTurn len fuel r script .at .slots ≡ carries (r .slots) (sends (turnByTurn len fuel r script .log))
-unfolding loop
+unfolding loopOf
 host-carries len zero r script = refl
 host-carries len (suc fuel) r script =
     let s = called len r (firstOf script) in

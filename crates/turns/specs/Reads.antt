@@ -45,6 +45,10 @@ turnsOf t = readOf t (t .turns ∷ [])
 abbrev pub streamOf : Track → Says
 streamOf t = readOf t (t .stream ∷ [])
 
+-- the bytes of its recording that a capture accepted, that runs or ran last
+abbrev pub keptRead : Track → Says
+keptRead t = readOf t (t .kept ∷ [])
+
 -- a slot of 32 or more gets 1
 abbrev pub carriedOf : Ring → ℕ → Says
 carriedOf r slot =

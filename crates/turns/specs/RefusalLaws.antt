@@ -7,11 +7,11 @@ use mathlib.Core.Bool.{Bool, true, false}
 use Rattle.codes.specs.Says.{guard}
 use Rattle.codes.specs.SaysLaws.{guarded-by}
 use Rattle.codes.specs.declared.answers.Refusal.{Refusal}
-use Rattle.turns.specs.Rules.{chooseOf, submit, sentOf, hear, act, turnOf, countedOf}
+use Rattle.turns.specs.Rules.{chooseOf, submit, sentOf, comesTo, playedOf, hear, act, turnOf, countedOf}
 use Rattle.turns.specs.CaseLaws.{Plain, plain, over-plain, hear-cases, counted-cases}
 use Rattle.turns.specs.KeepLaws.{turn-plain}
-use Rattle.turns.specs.Calls.{refusedOf, turnCall, drained, drainCall, startCall, ringAfter, offerBy, offerCall}
-use Rattle.turns.specs.Types.{Track, Ring, Sent, Nothing, Going, Refused, Step, Reading, Quiet, Completed, Choice, Submit, Finish, Wait, Offer}
+use Rattle.turns.specs.Calls.{refusedOf, turnCall, drained, drainCall, startCall, ringAfter, offerBy, offerAs, offerCall}
+use Rattle.turns.specs.Types.{Track, Ring, Sent, Nothing, Going, Refused, Step, Reading, Quiet, Completed, Choice, Submit, Finish, Wait, Outcome, Offer}
 use Rattle.turns.specs.declared.calls.Offer.the-variants as offer
 
 -- ---- a refusal changes nothing
@@ -20,12 +20,12 @@ use Rattle.turns.specs.declared.calls.Offer.the-variants as offer
 abbrev pub Untouched : Track → Step → Type 0
 Untouched t s = (x : Refusal) → s .said ≡ Refused x → s ≡ refusedOf x t
 
-refuses : (t : Track) (r : Refusal) → Untouched t (refusedOf r t)
+pub refuses : (t : Track) (r : Refusal) → Untouched t (refusedOf r t)
 refuses t r x e = let same : r ≡ x = cc in ap (λ (y : Refusal). refusedOf y t) same
 
 -- a counted turn is never a refusal
-pub turn-answers : (least : ℕ) (t : Track) (reading : Reading) → Plain (countedOf (turnOf least t reading) .said)
-turn-answers least t reading = counted-cases (λ s. Plain (s .said)) (turnOf least t reading) (turn-plain least t reading) (λ _. tt) over-plain
+pub turn-answers : (least : ℕ) (t : Track) (o : Outcome) (reading : Reading) → Plain (countedOf (turnOf least t o reading) .said)
+turn-answers least t o reading = counted-cases (λ s. Plain (s .said)) (turnOf least t o reading) (turn-plain least t o reading) (λ _. tt) over-plain
 
 drained-answers : (t : Track) (reading : Reading) → Plain (drained t reading .said)
 drained-answers t Quiet = tt
@@ -39,7 +39,7 @@ module _ (t : Track) where
   unfolding turnCall
   turn-refused len reading =
       guarded-by P _ _ _
-      (λ _. guarded-by P _ _ _ (λ _. guarded-by P _ _ _ (λ _ x e. absurd (plain _ (turn-answers (t .descriptors) t reading) x e)) (λ _. refuses t _)) (λ _. refuses t _))
+      (λ _. guarded-by P _ _ _ (λ _. guarded-by P _ _ _ (λ _ x e. absurd (plain _ (turn-answers (t .descriptors) t _ reading) x e)) (λ _. refuses t _)) (λ _. refuses t _))
       (λ _. refuses t _)
 
   pub drain-refused : (reading : Reading) → Untouched t (drainCall t reading)
@@ -66,19 +66,19 @@ unfolding guard
 guarded-both P true a b c d p q = p
 guarded-both P false a b c d p q = q
 
-hear-sent : (sent : Sent) (t : Track) (reading : Reading) → hear sent t reading .sent ≡ sent
-hear-sent sent t reading = hear-cases (λ s. s .sent ≡ sent) sent t reading (λ _ _. refl) (λ _ _ _ _ _. refl)
+hear-sent : (sent : Sent) (t : Track) (o : Outcome) (reading : Reading) → hear o sent t reading .sent ≡ sent
+hear-sent sent t o reading = hear-cases (λ s. s .sent ≡ sent) sent t o reading (λ _ _. refl) (λ _ _ _ _ _. refl)
 
-act-sent : (c : Choice) (t : Track) (reading : Reading) → act c t reading .sent ≡ offerBy c t
-act-sent Submit t reading = hear-sent (sentOf t) (submit t) reading
-act-sent Finish t reading = refl
-act-sent Wait t reading = hear-sent Nothing t reading
+act-sent : (c : Choice) (t : Track) (o : Outcome) (reading : Reading) → act c t o reading .sent ≡ offerBy c t
+act-sent Submit t o reading = hear-sent (sentOf t) (submit t) o reading
+act-sent Finish t o reading = refl
+act-sent Wait t o reading = hear-sent Nothing t o reading
 
-turn-sent : (least : ℕ) (t : Track) (reading : Reading) → countedOf (turnOf least t reading) .sent ≡ offerBy (chooseOf least t) t
+pub turn-sent : (least : ℕ) (t : Track) (o : Outcome) (reading : Reading) → countedOf (turnOf least t o reading) .sent ≡ offerBy (chooseOf least t) t
 unfolding turnOf
-turn-sent least t reading =
-    let e = act-sent (chooseOf least t) t reading in
-    counted-cases (λ s. s .sent ≡ offerBy (chooseOf least t) t) (turnOf least t reading) (turn-plain least t reading) (λ _. e) (λ _ _. e)
+turn-sent least t o reading =
+    let e = act-sent (chooseOf least t) t o reading in
+    counted-cases (λ s. s .sent ≡ offerBy (chooseOf least t) t) (turnOf least t o reading) (turn-plain least t o reading) (λ _. e) (λ _ _. e)
 
 -- the turn submits what was offered, and is refused where the offer is
 pub record Offered (t : Track) (o : Offer) (s : Step) : Type 0 where
@@ -93,12 +93,12 @@ bars t r =
     }
 
 pub offered : (t : Track) (len : ℕ) (reading : Reading) → Offered t (offerCall t len) (turnCall t len reading)
-unfolding offerCall turnCall
+unfolding offerAs turnCall
 offered t len reading =
     let P : Offer → Step → Type 0 = Offered t in
-    let shows : Offered t (offer.Is (offerBy (chooseOf (t .descriptors) t) t)) (countedOf (turnOf (t .descriptors) t reading)) =
+    let shows : Offered t (offer.Is (offerBy (chooseOf (t .descriptors) t) t)) (countedOf (turnOf (t .descriptors) t (comesTo playedOf reading) reading)) =
     record {
-      is = λ sent e. let same : offerBy (chooseOf (t .descriptors) t) t ≡ sent = cc in turn-sent (t .descriptors) t reading ∙ same;
+      is = λ sent e. let same : offerBy (chooseOf (t .descriptors) t) t ≡ sent = cc in turn-sent (t .descriptors) t _ reading ∙ same;
       refused = λ x e. let z : _≡_ {A = ℕ} 0 1 = cc in absurd (omega arith);
     } in
     guarded-both P _ _ _ _ _ (guarded-both P _ _ _ _ _ (guarded-both P _ _ _ _ _ shows (bars t _)) (bars t _)) (bars t _)

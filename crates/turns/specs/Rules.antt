@@ -44,10 +44,18 @@ submit t =
       budget = t .budget;
       turns = t .turns;
       running = t .running;
+      capture = t .capture;
+      lent = t .lent;
+      kept = t .kept;
     }
 
 -- ---- RULE 2. "The turn's reading is quiet, or a completed slot with a status. Not the oldest in flight, or nothing in flight: end with 6.
 -- Otherwise free the slot; a status other than 0x8000 ends with 2."
+
+-- The judgement of a completion's status is the caller's: a playback has its own, and so has a capture (2026-09).
+abbrev pub comesTo : (ℕ → Outcome) → Reading → Outcome
+comesTo judge Quiet = Fine
+comesTo judge (Completed slot status) = judge status
 
 -- what the completion of a period that was played comes to: 2 carries the status (2026-05)
 unfoldable pub playedOf : ℕ → Outcome
@@ -78,6 +86,9 @@ release t =
       budget = t .budget;
       turns = t .turns;
       running = t .running;
+      capture = t .capture;
+      lent = t .lent;
+      kept = t .kept;
     }
 
 abbrev pub settle : Verdict → Sent → Track → ℕ → ℕ → Step
@@ -85,19 +96,20 @@ settle WrongSlot sent t slot status = record { track = t; sent = sent; heard = S
 settle Good sent t slot status = record { track = release t; sent = sent; heard = Freed slot status; said = Going }
 settle (Bad r) sent t slot status = record { track = release t; sent = sent; heard = Freed slot status; said = Ended r }
 
-abbrev pub hear : Sent → Track → Reading → Step
-hear sent t Quiet = record { track = t; sent = sent; heard = Silent; said = Going }
-hear sent t (Completed slot status) = settle (judgeOf t slot (playedOf status)) sent t slot status
+-- the reading, and what it comes to
+abbrev pub hear : Outcome → Sent → Track → Reading → Step
+hear outcome sent t Quiet = record { track = t; sent = sent; heard = Silent; said = Going }
+hear outcome sent t (Completed slot status) = settle (judgeOf t slot outcome) sent t slot status
 
 -- ---- ONE TURN: rule 1, then rule 2
 
-abbrev pub act : Choice → Track → Reading → Step
-act Submit t reading = hear (sentOf t) (submit t) reading
-act Finish t reading = record { track = t; sent = Nothing; heard = Silent; said = Done }
-act Wait t reading = hear Nothing t reading
+abbrev pub act : Choice → Track → Outcome → Reading → Step
+act Submit t outcome reading = hear outcome (sentOf t) (submit t) reading
+act Finish t outcome reading = record { track = t; sent = Nothing; heard = Silent; said = Done }
+act Wait t outcome reading = hear outcome Nothing t reading
 
-unfoldable pub turnOf : ℕ → Track → Reading → Step
-turnOf least t reading = act (chooseOf least t) t reading
+unfoldable pub turnOf : ℕ → Track → Outcome → Reading → Step
+turnOf least t outcome reading = act (chooseOf least t) t outcome reading
 
 -- ---- ITS COUNT. "Each turn, the last included, counts one against the budget. The turn that spends the last one without another answer gives 9."
 
@@ -115,6 +127,9 @@ ticked running t =
       budget = t .budget;
       turns = t .turns + 1;
       running = running;
+      capture = t .capture;
+      lent = t .lent;
+      kept = t .kept;
     }
 
 -- a turn that goes on and spends the last of the budget says 9; a transfer that was answered runs no more

@@ -12,7 +12,7 @@ use Rattle.layout.specs.Rows.{rowsAt}
 use Rattle.turns.specs.Rules.{chooseOf}
 use Rattle.turns.specs.Calls.{turnCall, turnedOf}
 use Rattle.turns.specs.Ring.{goesOn}
-use Rattle.turns.specs.Log.{Line, Ran, Told, waitingBy, firstOf, restOf, onward, loop, called, turnByTurn}
+use Rattle.turns.specs.Log.{Line, Ran, Told, waitingBy, firstOf, restOf, onward, loopOf, loop, called, turnByTurn}
 use Rattle.turns.specs.Script.{readingAt, scriptOf, transferredOf, transferBy}
 use Rattle.turns.specs.Types.{Ring, Said, Going, Turned, Reading, Quiet, Transferred}
 use Rattle.turns.specs.Private.{scriptFrom}
@@ -84,7 +84,7 @@ module _ (turn : Ring → Reading → Told Ring) (budget : ℕ) (r₀ : Ring) (b
     rest-ran = loop turn (budget - (n + 1)) (t .left) (scriptFrom (n + 1) bytes)
 
     step : transferredOf (loop turn budget r₀ (scriptOf bytes)) ≡ transferredAfter n (onward (t .line .said) (t .line) (t .left) rest-ran)
-    unfolding loop rest-ran
+    unfolding loopOf rest-ran
     step =
         let one : budget - n ≡ suc (budget - (n + 1)) = omega arith in
         s
@@ -100,7 +100,7 @@ module _ (turn : Ring → Reading → Told Ring) (budget : ℕ) (r₀ : Ring) (b
     stands-ended e = sym (step ∙ stopped n (t .line .said) (t .line) (t .left) rest-ran e)
 
   pub stands-out : (r : Ring) (n : ℕ) → budget ≤ n → Stands r n → record { ring = r; said = Going; turns = n } ≡ transferredOf (loop turn budget r₀ (scriptOf bytes))
-  unfolding loop
+  unfolding loopOf
   stands-out r n h s =
       let none : budget - n ≡ 0 = omega arith in
       let all : n + 0 ≡ n = omega arith in

@@ -3,15 +3,15 @@
 use Prim.Native.Nat.{ℕ, _<_}
 use native.Mathlib.Omega.{arith}
 use mathlib.Core.Path.{_≡_, refl}
-use mathlib.Core.Bool.{true, false≢true}
+use mathlib.Core.Bool.{Bool, true, false, not, false≢true}
 use borrow.Author.Tests.{ltb-true}
 use Rattle.codes.specs.SaysLaws.{guarded-by}
 use Rattle.turns.specs.Ring.{direct, newTrack}
 use Rattle.turns.specs.Rules.{release}
 use Rattle.turns.specs.RuleLaws.{oldest-facts}
 use Rattle.turns.specs.Consistent.{consistentOf}
-use Rattle.turns.specs.ConsistentLaws.{Consistent, consistent-facts, consistent-true}
-use Rattle.turns.specs.Calls.{turnCall, drained, drainCall, begun, startCall}
+use Rattle.turns.specs.ConsistentLaws.{both, Consistent, consistent-facts, consistent-true}
+use Rattle.turns.specs.Calls.{turnCall, drained, drainCall, begunAs, startCall}
 use Rattle.turns.specs.KeepLaws.{Leaves, Fit, fit-of, fit-release, turn-keeps}
 use Rattle.turns.specs.Types.{Track, Reading, Quiet, Completed}
 
@@ -19,12 +19,12 @@ use Rattle.turns.specs.Types.{Track, Reading, Quiet, Completed}
 pub call-keeps : (t : Track) (len : ℕ) (reading : Reading) → Consistent t → Consistent (turnCall t len reading .track)
 unfolding turnCall
 call-keeps t len reading c =
-    guarded-by Leaves _ _ _ (λ _. guarded-by Leaves _ _ _ (λ _. guarded-by Leaves _ _ _ (λ on. turn-keeps (t .descriptors) t reading (omega arith) c on) (λ _. c)) (λ _. c)) (λ _. c)
+    guarded-by Leaves _ _ _ (λ _. guarded-by Leaves _ _ _ (λ _. guarded-by Leaves _ _ _ (λ on. turn-keeps (t .descriptors) t _ reading (omega arith) c (both (t .running) (not (t .capture)) on .0)) (λ _. c)) (λ _. c)) (λ _. c)
 
 release-keeps : (t : Track) → 0 < t .inflight → Consistent t → Consistent (release t)
 release-keeps t h c =
     let f = fit-release t h (fit-of t c) in
-    record { placed = f .placed; paced = record { within = f .within; some = c .paced .some; left = c .paced .left } }
+    record { placed = f .placed; paced = record { within = f .within; some = c .paced .some; left = c .paced .left }; kept = f .kept }
 
 drained-keeps : (t : Track) (reading : Reading) → Consistent t → Leaves (drained t reading)
 drained-keeps t Quiet c = c
@@ -35,13 +35,13 @@ pub drain-keeps : (t : Track) (reading : Reading) → Consistent t → Consisten
 unfolding drainCall
 drain-keeps t reading c = guarded-by Leaves _ _ _ (λ _. guarded-by Leaves _ _ _ (λ _. c) (λ _. drained-keeps t reading c)) (λ _. c)
 
-pub begun-fit : (t : Track) (stream total period budget : ℕ) → t .descriptors ≡ direct → Fit (begun t stream total period budget)
-begun-fit t stream total period budget e = record { placed = record { mode = e; head-in = omega arith; tail-in = omega arith; room = omega arith; line = omega arith }; within = omega arith }
+pub begun-fit : (capture : Bool) (lent : ℕ) (t : Track) (stream total period budget : ℕ) → t .descriptors ≡ direct → Fit (begunAs capture lent t stream total period budget)
+begun-fit capture lent t stream total period budget e = record { placed = record { mode = e; head-in = omega arith; tail-in = omega arith; room = omega arith; line = omega arith }; within = omega arith; kept = omega arith }
 
-pub begun-keeps : (t : Track) (stream total period budget : ℕ) → t .descriptors ≡ direct → 0 < period → 0 < budget → Consistent (begun t stream total period budget)
-begun-keeps t stream total period budget e p b =
-    let f = begun-fit t stream total period budget e in
-    record { placed = f .placed; paced = record { within = f .within; some = λ _. p; left = λ _. b } }
+pub begun-keeps : (capture : Bool) (lent : ℕ) (t : Track) (stream total period budget : ℕ) → t .descriptors ≡ direct → 0 < period → 0 < budget → Consistent (begunAs capture lent t stream total period budget)
+begun-keeps capture lent t stream total period budget e p b =
+    let f = begun-fit capture lent t stream total period budget e in
+    record { placed = f .placed; paced = record { within = f .within; some = λ _. p; left = λ _. b }; kept = f .kept }
 
 -- THE START of a transfer
 pub start-keeps : (t : Track) (stream total period budget : ℕ) → Consistent t → Consistent (startCall t stream total period budget .track)
@@ -50,7 +50,7 @@ start-keeps t stream total period budget c =
     guarded-by Leaves _ _ _
     (λ _. guarded-by Leaves _ _ _
     (λ _. guarded-by Leaves _ _ _
-    (λ p. guarded-by Leaves _ _ _ (λ b. begun-keeps t stream total period budget (c .placed .mode) (ltb-true _ _ p) (ltb-true _ _ b)) (λ _. c))
+    (λ p. guarded-by Leaves _ _ _ (λ b. begun-keeps false total t stream total period budget (c .placed .mode) (ltb-true _ _ p) (ltb-true _ _ b)) (λ _. c))
     (λ _. c))
     (λ _. c))
     (λ _. c)
@@ -63,6 +63,7 @@ new-passes =
     (record {
       placed = record { mode = refl; head-in = omega arith; tail-in = omega arith; room = omega arith; line = omega arith };
       paced = record { within = omega arith; some = λ h. absurd (false≢true h); left = λ h. absurd (false≢true h) };
+      kept = omega arith;
     })
 
 module _ (t : Track) (ok : consistentOf t ≡ true) where

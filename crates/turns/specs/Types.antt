@@ -23,5 +23,6 @@ pub use Rattle.turns.specs.declared.rules.Outcome.the-variants.{Fine, Fa
 pub use Rattle.turns.specs.declared.rules.Verdict.{Verdict}
 pub use Rattle.turns.specs.declared.rules.Verdict.the-variants.{WrongSlot, Good, Bad}
 pub use Rattle.turns.specs.declared.calls.Offer.{Offer}
+pub use Rattle.turns.specs.declared.capture.Catch.{Catch}
 pub use Rattle.turns.specs.declared.script.Transferred.{Transferred}
 pub use Rattle.turns.specs.declared.in_place.Report.{Report}

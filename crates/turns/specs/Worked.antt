@@ -2,18 +2,23 @@
 -- Assumes nothing.
 use Prim.Native.Nat.{ℕ, zero, suc, _+_}
 use mathlib.Core.Path.{_≡_, refl}
+use mathlib.Core.Logic.{inl, inr}
 use mathlib.Core.Bool.{true}
-use mathlib.Core.List.{List, [], _∷_}
+use mathlib.Core.List.{List, [], _∷_, _++_}
+use native.Mathlib.Omega.{arith}
 use lib.ListN.{length, replicate}
 use Rattle.codes.specs.Says.{guard}
 use Rattle.codes.specs.declared.answers.Refusal.the-variants.{WrongToken, OutOfTurns}
 use Rattle.layout.specs.All.{All}
+use Rattle.layout.specs.Bytes.{un, bytesAt, numAt}
+use Rattle.turns.specs.Capture.{catchOf, capturedOf, captureCall, captureStart}
+use Rattle.turns.specs.Captured.{Came, nothingCame, Taken, captures, Lends, LengthGood}
 use Rattle.turns.specs.Cut.{cutBy, cut}
 use Rattle.turns.specs.Ring.{direct, newRing}
 use Rattle.turns.specs.Rules.{chooseOf, playedOf, isOldest, judgeOf, turnOf, countedOf}
 use Rattle.turns.specs.Consistent.{placedOf, pacedOf}
 use Rattle.turns.specs.Calls.{startCall, startedOf, turnCall, drainCall, turnedOf, idleOf}
-use Rattle.turns.specs.Log.{Ran, loop, turnByTurn, sends}
+use Rattle.turns.specs.Log.{Ran, loopOf, turnByTurn, sends}
 use Rattle.turns.specs.Asked.{plays, Idle, NoFault, CompletesWithin}
 use Rattle.turns.specs.PremiseLaws.{by-faultless, by-within}
 use Rattle.turns.specs.Types.{Ring, Sent, Nothing, Period, Said, Going, Done, Ended, Turned, Reading, Quiet, Completed}
@@ -35,7 +40,7 @@ comesTo total period budget script =
 pub worked : (comesTo 0 4 5 [] ≡ (Going, Done, 1, [], 0))
     × (comesTo 10 4 9 (Completed 0 0x8000 ∷ Completed 1 0x8000 ∷ Completed 2 0x8000 ∷ []) ≡ (Going, Done, 4, 4 ∷ 4 ∷ 2 ∷ [], 0))
     × (comesTo 11 1 12 [] ≡ (Going, Ended OutOfTurns, 12, replicate 10 1, 10))
-unfolding loop startCall turnCall guard placedOf pacedOf turnOf chooseOf playedOf isOldest judgeOf countedOf
+unfolding loopOf startCall turnCall guard placedOf pacedOf turnOf chooseOf playedOf isOldest judgeOf countedOf
 worked = (refl, refl, refl)
 
 -- ---- DEMAND 3'S PREMISES CAN BE MET, all together: 12 periods, g = 2, a budget of 12 * 2 + 1, a completion every other turn
@@ -49,11 +54,11 @@ announced = plays (newRing direct) 0 3 25 (replicate 35 7) (twoEach 12 0)
 
 -- Ok on the last turn that the theorem allows
 pub just-in-time : (announced .said ≡ Done) × (length (announced .log) ≡ 25) × (length (cut {A = ℕ} 3 (replicate 35 7)) ≡ 12)
-unfolding loop startCall turnCall guard placedOf pacedOf turnOf chooseOf playedOf isOldest judgeOf countedOf cutBy
+unfolding loopOf startCall turnCall guard placedOf pacedOf turnOf chooseOf playedOf isOldest judgeOf countedOf cutBy
 just-in-time = (refl, refl, refl)
 
 pub premises-met : Idle (newRing direct) × (All NoFault (announced .log)) × (CompletesWithin 2 (announced .log))
-unfolding loop startCall turnCall guard placedOf pacedOf turnOf chooseOf playedOf isOldest judgeOf countedOf
+unfolding loopOf startCall turnCall guard placedOf pacedOf turnOf chooseOf playedOf isOldest judgeOf countedOf
 premises-met = (record { consistent = refl; stopped = refl; empty = refl }, by-faultless (announced .log) refl, by-within 2 (announced .log) refl)
 
 -- ---- A COMPLETION OUT OF ORDER IS LOST. A device completes slot 1 before slot 0, each once: the transfer ends with 6 and slot 1's completion is gone,
@@ -68,5 +73,31 @@ drainedOnce = turnedOf (outOfOrder .at) (drainCall (outOfOrder .at .track) (Comp
 pub stuck : (outOfOrder .said ≡ Ended WrongToken) × (drainedOnce .said ≡ Done) × (drainedOnce .ring .track .inflight ≡ 1)
     × (turnedOf (drainedOnce .ring) (drainCall (drainedOnce .ring .track) Quiet) .ring .track .inflight ≡ 1)
     × (idleOf (turnedOf (drainedOnce .ring) (drainCall (drainedOnce .ring .track) (Completed 1 0x8000)) .ring .track) ≡ true)
-unfolding loop startCall turnCall drainCall guard placedOf pacedOf turnOf chooseOf playedOf isOldest judgeOf countedOf
+unfolding loopOf startCall turnCall drainCall guard placedOf pacedOf turnOf chooseOf playedOf isOldest judgeOf countedOf
 stuck = (refl, refl, refl, refl, refl)
+
+-- ---- A CAPTURE'S PREMISES CAN BE MET: three periods of 4 bytes, g = 2, a budget of 3 * 2 + 1, a recording of 14 bytes, a completion every other turn;
+-- the second payload is short, and the next stands right behind it
+
+abbrev came : ℕ → List ℕ → Came
+came slot payload = record { kind = 1; slot = slot; written = length payload + 8; bytes = payload ++ (0 ∷ 0x80 ∷ 0 ∷ 0 ∷ 0 ∷ 0 ∷ 0 ∷ 0 ∷ []) }
+
+abbrev heardThree : List Came
+heardThree = nothingCame ∷ came 0 (1 ∷ 2 ∷ 3 ∷ 4 ∷ []) ∷ nothingCame ∷ came 1 (5 ∷ []) ∷ nothingCame ∷ came 2 (6 ∷ 7 ∷ 8 ∷ 9 ∷ []) ∷ []
+
+abbrev pub captureds : Ran Taken
+captureds = captures (newRing direct) 1 3 4 7 (replicate 14 99) heardThree
+
+pub captured-just-in-time : (captureds .said ≡ Done) × (length (captureds .log) ≡ 7) × (captureds .at .ring .track .kept ≡ 9)
+    × (captureds .at .recording ≡ 1 ∷ 2 ∷ 3 ∷ 4 ∷ 5 ∷ 6 ∷ 7 ∷ 8 ∷ 9 ∷ replicate 5 99)
+unfolding loopOf captureStart captureCall catchOf capturedOf guard placedOf pacedOf turnOf chooseOf playedOf isOldest judgeOf countedOf bytesAt numAt un
+captured-just-in-time = (refl, refl, refl, refl)
+
+pub capture-premises-met : All (Lends 4) heardThree × All (LengthGood 4) heardThree × All NoFault (captureds .log) × CompletesWithin 2 (captureds .log)
+unfolding loopOf captureStart captureCall catchOf capturedOf guard placedOf pacedOf turnOf chooseOf playedOf isOldest judgeOf countedOf bytesAt numAt un
+capture-premises-met = (
+  (inl refl, (inr (omega arith), (inl refl, (inr (omega arith), (inl refl, (inr (omega arith), tt)))))),
+  (inl refl, (inr (omega arith, omega arith), (inl refl, (inr (omega arith, omega arith), (inl refl, (inr (omega arith, omega arith), tt)))))),
+  by-faultless (captureds .log) refl,
+  by-within 2 (captureds .log) refl,
+)

@@ -3,7 +3,7 @@ ghost use mathlib.Core.Path.{_≡_};
 ghost use Prim.Native.Nat.{_≤_, _<_};
 ghost use lib.ListN.{length, take, drop};
 ghost use Rattle.turns.specs.Cut.{payload};
-ghost use Rattle.turns.specs.Calls.{refusedOf, unchangedOf, lengthAgrees, turnCall, freedOf, drained, drainCall, begun, idleOf, startCall, ringAfter, turnedOf, startedOf, offerBy, offerCall, shownBy};
+ghost use Rattle.turns.specs.Calls.{refusedOf, unchangedOf, lengthAgrees, runsAs, turnCall, freedOf, drained, drainCall, begunAs, idleOf, startCall, ringAfter, turnedOf, startedOf, offerBy, offerAs, offerCall, shownBy};
 use crate::consistent::is_consistent;
 use crate::reading::Reading;
 use crate::ring::Heard;
@@ -25,7 +25,7 @@ pub enum Offer {
 }
 
 // Nothing was submitted and nothing freed.
-fn unchanged(said: Said, t: Track) -> Step
+pub(crate) fn unchanged(said: Said, t: Track) -> Step
     ensures { λ r. ⌜ r ≡ unchangedOf said t ⌝ }
 {
     Step {
@@ -36,19 +36,29 @@ fn unchanged(said: Said, t: Track) -> Step
     }
 }
 
-fn refused(refusal: Refusal, t: Track) -> Step
+pub(crate) fn refused(refusal: Refusal, t: Track) -> Step
     ensures { λ r. ⌜ r ≡ refusedOf refusal t ⌝ }
 {
     unchanged(Said::Refused(refusal), t)
 }
 
-fn length_agrees(t: Track, len: usize) -> bool
+pub(crate) fn length_agrees(t: Track, len: usize) -> bool
     ensures { λ r. ⌜ r ≡ lengthAgrees t len ⌝ }
 {
     if t.running {
-        return len == t.total;
+        return len == t.lent;
     }
     true
+}
+
+// A transfer runs, and it is a capture, or it is none.
+pub(crate) fn runs_as(capture: bool, t: Track) -> bool
+    ensures { λ r. ⌜ r ≡ runsAs capture t ⌝ }
+{
+    if !t.running {
+        return false;
+    }
+    if capture { t.capture } else { !t.capture }
 }
 
 // A turn of the track, lent frames of some length.
@@ -63,10 +73,12 @@ pub fn turn_track(t: Track, len: usize, reading: Reading) -> Step
     if !sound {
         return refused(Refusal::InvalidParam, t);
     }
-    if !t.running {
+    let runs = runs_as(false, t);
+    if !runs {
         return refused(Refusal::InvalidParam, t);
     }
-    let s = rules::turn(t.descriptors, t, reading);
+    let outcome = rules::comes_to_played(reading);
+    let s = rules::turn(t.descriptors, t, outcome, reading);
     rules::counted(s)
 }
 
@@ -115,8 +127,16 @@ pub fn drain_track(t: Track, reading: Reading) -> Step
 }
 
 // The track with which a transfer starts.
-fn begun(t: Track, stream: u32, total: usize, period: usize, budget: u64) -> Track
-    ensures { λ r. ⌜ r ≡ begun t stream total period budget ⌝ }
+pub(crate) fn begun_as(
+    capture: bool,
+    lent: usize,
+    t: Track,
+    stream: u32,
+    total: usize,
+    period: usize,
+    budget: u64,
+) -> Track
+    ensures { λ r. ⌜ r ≡ begunAs capture lent t stream total period budget ⌝ }
 {
     Track {
         descriptors: t.descriptors,
@@ -130,6 +150,9 @@ fn begun(t: Track, stream: u32, total: usize, period: usize, budget: u64) -> Tra
         budget,
         turns: 0,
         running: true,
+        capture,
+        lent,
+        kept: 0,
     }
 }
 
@@ -151,12 +174,8 @@ pub fn start_track(t: Track, stream: u32, total: usize, period: usize, budget: u
     if budget == 0 {
         return refused(Refusal::OutOfTurns, t);
     }
-    Step {
-        track: begun(t, stream, total, period, budget),
-        sent: Sent::Nothing,
-        heard: Heard::Silent,
-        said: Said::Going,
-    }
+    let track = begun_as(false, total, t, stream, total, period, budget);
+    unchanged(Said::Going, track)
 }
 
 // No transfer runs and no slot is in flight: else a new call is Busy.
@@ -171,7 +190,7 @@ pub fn is_idle(t: Track) -> bool
 
 // The ring after a step: what was submitted stands in its slot. The rules submit below 32, and no
 // other slot would be stored.
-fn ring_after(r: Ring, s: Step) -> Ring
+pub(crate) fn ring_after(r: Ring, s: Step) -> Ring
     ensures { λ x. ⌜ x ≡ ringAfter r s ⌝ }
 {
     let track = s.track;
@@ -187,7 +206,7 @@ fn ring_after(r: Ring, s: Step) -> Ring
     ring
 }
 
-fn turned(r: Ring, s: Step) -> Turned
+pub(crate) fn turned(r: Ring, s: Step) -> Turned
     ensures { λ x. ⌜ x ≡ turnedOf r s ⌝ }
 {
     let track = s.track;
@@ -249,22 +268,33 @@ fn offer_by(choice: Choice, t: Track) -> Sent
     }
 }
 
-// What the next turn of the track submits, or its refusal.
-pub fn offer_track(t: Track, len: usize) -> Offer
-    ensures { λ r. ⌜ r ≡ offerCall t len ⌝ }
+// What the next turn of the track submits, or its refusal, in a direction.
+pub(crate) fn offer_as(capture: bool, t: Track, len: usize) -> Offer
+    ensures { λ r. ⌜ r ≡ offerAs capture t len ⌝ }
 {
     if !t.running {
         return Offer::Refused(Refusal::InvalidParam);
     }
-    if len != t.total {
+    if len != t.lent {
         return Offer::Refused(Refusal::BadLength);
     }
     let sound = is_consistent(t);
     if !sound {
         return Offer::Refused(Refusal::InvalidParam);
     }
+    let runs = runs_as(capture, t);
+    if !runs {
+        return Offer::Refused(Refusal::InvalidParam);
+    }
     let choice = rules::choose(t.descriptors, t);
     Offer::Is(offer_by(choice, t))
+}
+
+// What the next turn of the track submits, or its refusal.
+pub fn offer_track(t: Track, len: usize) -> Offer
+    ensures { λ r. ⌜ r ≡ offerCall t len ⌝ }
+{
+    offer_as(false, t, len)
 }
 
 // What the next turn submits: slot, offset and length, or nothing; refused as the turn would be.
@@ -276,7 +306,7 @@ pub fn next_offer(r: Ring, frames: &[u8]) -> Offer
 }
 
 // What there is of len bytes of some frames from an offset on.
-fn part<'a>(frames: &'a [u8], offset: usize, len: usize) -> &'a [u8]
+pub(crate) fn part<'a>(frames: &'a [u8], offset: usize, len: usize) -> &'a [u8]
     ensures { λ x. ⌜ now x ≡ take len (drop offset (now (frames .entry))) ⌝ }
 {
     let n = frames.len();

@@ -47,5 +47,9 @@ pub fn is_consistent(t: Track) -> bool
     if !slots {
         return false;
     }
-    paced(t)
+    let pace = paced(t);
+    if !pace {
+        return false;
+    }
+    t.kept <= t.lent
 }

@@ -1,5 +1,6 @@
 // The turns of a transfer: the ring record, a turn, a drain turn, a run over a script of readings.
 mod calls;
+mod capture;
 mod consistent;
 mod in_place;
 mod reading;
@@ -18,6 +19,13 @@ pub use calls::start;
 pub use calls::start_track;
 pub use calls::turn;
 pub use calls::turn_track;
+pub use capture::Catch;
+pub use capture::capture_offer;
+pub use capture::capture_start;
+pub use capture::capture_start_track;
+pub use capture::capture_track;
+pub use capture::capture_turn;
+pub use capture::copy;
 pub use consistent::is_consistent;
 pub use in_place::Report;
 pub use in_place::drain_in_place;

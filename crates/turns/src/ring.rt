@@ -2,7 +2,7 @@
 ghost use mathlib.Core.Path.{_≡_};
 ghost use mathlib.Core.List.{[], _∷_};
 ghost use Rattle.turns.specs.Ring.{direct, newRing, goesOn};
-ghost use Rattle.turns.specs.Reads.{saysNumber, readOf, runningOf, inFlightOf, freeOf, turnsOf, streamOf, saysCarried, carriedOf, saysOldest, oldestOf};
+ghost use Rattle.turns.specs.Reads.{saysNumber, readOf, runningOf, inFlightOf, freeOf, turnsOf, streamOf, keptRead, saysCarried, carriedOf, saysOldest, oldestOf};
 use crate::consistent::is_consistent;
 use codes::Refusal;
 
@@ -35,6 +35,12 @@ pub struct Track {
     // Turns run.
     pub turns: u64,
     pub running: bool,
+    // The device writes the periods, and what it wrote is joined into a lent recording.
+    pub capture: bool,
+    // The length, at the start, of what is lent at each turn: the frames or the recording.
+    pub lent: usize,
+    // Bytes of the recording that were accepted.
+    pub kept: usize,
 }
 
 pub struct Ring {
@@ -143,6 +149,9 @@ impl Ring {
             budget: 0,
             turns: 0,
             running: false,
+            capture: false,
+            lent: 0,
+            kept: 0,
         };
         Ring {
             track,
@@ -192,6 +201,14 @@ impl Ring {
     {
         let t = self.track;
         number(t, t.stream as u64)
+    }
+
+    // The bytes of its recording that a capture accepted, the one that runs or the last one that ran.
+    pub fn kept(self) -> RingNumber
+        ensures { λ r. ⌜ saysNumber r ≡ keptRead (self .track) ⌝ }
+    {
+        let t = self.track;
+        number(t, t.kept as u64)
     }
 
     pub fn carried(self, slot: usize) -> Carried

@@ -2,7 +2,7 @@
 ghost use mathlib.Core.Path.{_≡_};
 ghost use Prim.Native.Nat.{_+_, _*_, _≤_, _<_};
 ghost use Rattle.turns.specs.Cut.{spanOf};
-ghost use Rattle.turns.specs.Rules.{chooseOf, sentOf, submit, playedOf, isOldest, judgeOf, release, settle, hear, turnOf, ticked, countedOf};
+ghost use Rattle.turns.specs.Rules.{chooseOf, sentOf, submit, comesTo, playedOf, isOldest, judgeOf, release, settle, hear, turnOf, ticked, countedOf};
 ghost use Rattle.turns.specs.Private.{Placed};
 use crate::reading::Reading;
 use crate::ring::Heard;
@@ -104,7 +104,7 @@ pub(crate) fn release(t: Track) -> Track
 }
 
 // What the completion of a period that was played comes to.
-fn played(status: u32) -> Outcome
+pub(crate) fn played(status: u32) -> Outcome
     ensures { λ r. ⌜ r ≡ playedOf status ⌝ }
 {
     let found = StatusCode::from_code(status);
@@ -113,6 +113,16 @@ fn played(status: u32) -> Outcome
         Outcome::Fine
     } else {
         Outcome::Fails(Refusal::IoError(Cause::Status(status)))
+    }
+}
+
+// What a reading of a playback comes to.
+pub(crate) fn comes_to_played(reading: Reading) -> Outcome
+    ensures { λ r. ⌜ r ≡ comesTo playedOf reading ⌝ }
+{
+    match reading {
+        Reading::Quiet => Outcome::Fine,
+        Reading::Completed { slot: _, status } => played(status),
     }
 }
 
@@ -174,10 +184,10 @@ fn settle(outcome: Outcome, sent: Sent, t: Track, slot: u32, status: u32) -> Ste
     }
 }
 
-// Rule 2.
-fn hear(sent: Sent, t: Track, reading: Reading) -> Step
+// Rule 2: the reading, and what it comes to.
+fn hear(outcome: Outcome, sent: Sent, t: Track, reading: Reading) -> Step
     requires { ⌜ t .tail < 32 ⌝ }
-    ensures { λ r. ⌜ r ≡ hear sent t reading ⌝ }
+    ensures { λ r. ⌜ r ≡ hear outcome sent t reading ⌝ }
 {
     match reading {
         Reading::Quiet => Step {
@@ -186,24 +196,21 @@ fn hear(sent: Sent, t: Track, reading: Reading) -> Step
             heard: Heard::Silent,
             said: Said::Going,
         },
-        Reading::Completed { slot, status } => {
-            let outcome = played(status);
-            settle(outcome, sent, t, slot, status)
-        }
+        Reading::Completed { slot, status } => settle(outcome, sent, t, slot, status),
     }
 }
 
 // One turn: rule 1, then rule 2.
-pub(crate) fn turn(least: usize, t: Track, reading: Reading) -> Step
+pub(crate) fn turn(least: usize, t: Track, outcome: Outcome, reading: Reading) -> Step
     requires { ⌜ (Placed t) × (t .next ≤ t .total) ⌝ }
-    ensures { λ r. ⌜ r ≡ turnOf least t reading ⌝ }
+    ensures { λ r. ⌜ r ≡ turnOf least t outcome reading ⌝ }
 {
     let choice = choose(least, t);
     match choice {
         Choice::Submit => {
             let sent = outgoing(t);
             let fuller = submit(t);
-            hear(sent, fuller, reading)
+            hear(outcome, sent, fuller, reading)
         }
         Choice::Finish => Step {
             track: t,
@@ -211,7 +218,7 @@ pub(crate) fn turn(least: usize, t: Track, reading: Reading) -> Step
             heard: Heard::Silent,
             said: Said::Done,
         },
-        Choice::Wait => hear(Sent::Nothing, t, reading),
+        Choice::Wait => hear(outcome, Sent::Nothing, t, reading),
     }
 }
 

@@ -9,19 +9,18 @@ use native.Mathlib.Omega.{arith}
 use lib.Dec.{lit<}
 use lib.ListN.{length, getD, drop, set, replicate, length-set}
 use lib.Seq.{getD-set-same, set-set, set-getD}
-use borrow.Author.Tests.{eq-eqb, ne-eqb}
+use borrow.Author.Tests.{ne-eqb}
 use Rattle.layout.specs.Bytes.{le, numAt}
 use Rattle.layout.specs.LayoutLaws.{read-write}
-use Rattle.codes.specs.SaysLaws.{passes}
 use Rattle.records.specs.Records.{transferStatus}
 use Rattle.turns.specs.Cut.{spanOf}
 use Rattle.turns.specs.Ring.{after}
-use Rattle.turns.specs.Rules.{chooseOf, submit, sentOf, settle, act, playedOf, turnOf, ticked, countedBy, countedOf}
+use Rattle.turns.specs.Rules.{chooseOf, submit, sentOf, comesTo, settle, act, playedOf, turnOf, ticked, countedBy, countedOf}
 use Rattle.turns.specs.DecisionLaws.{submits, finishes, good}
-use Rattle.turns.specs.ConsistentLaws.{consistent-true}
-use Rattle.turns.specs.Calls.{offerBy, offerCall}
-use Rattle.turns.specs.HostLaws.{Runs}
+use Rattle.turns.specs.Calls.{offerBy, offerAs, offerCall}
+use Rattle.turns.specs.HostLaws.{Runs, admits}
 use Rattle.turns.specs.declared.ring.Sent.the-variants.{Nothing}
+use Rattle.turns.specs.declared.rules.Outcome.{Outcome}
 use Rattle.turns.specs.declared.rules.Verdict.{Verdict}
 use Rattle.turns.specs.declared.rules.Verdict.the-variants.{Good}
 use Rattle.turns.specs.declared.calls.Offer.the-variants as offer
@@ -99,6 +98,9 @@ trackAt per stream total period budget h o k =
       budget = budget;
       turns = k;
       running = true;
+      capture = false;
+      lent = total;
+      kept = 0;
     }
 
 module _ (per stream total period budget h o k : ℕ) (room : per ≤ 32) where
@@ -116,18 +118,18 @@ module _ (per stream total period budget h o k : ℕ) (room : per ≤ 32) where
 
   -- a turn with a period left, and one with none
   pub goes : o < total → k + 1 < budget
-      → countedOf (turnOf per t (Completed h 0x8000))
+      → countedOf (turnOf per t (comesTo playedOf (Completed h 0x8000)) (Completed h 0x8000))
       ≡ record { track = trackAt per stream total period budget (after h) (o + span) (k + 1); sent = Period h o span; heard = Freed h 0x8000; said = Going }
   unfolding turnOf countedOf playedOf
   goes more left =
-      ap (λ (c : Choice). countedOf (act c t (Completed h 0x8000))) (submitted more)
+      ap (λ (c : Choice). countedOf (act c t (playedOf 0x8000) (Completed h 0x8000))) (submitted more)
       ∙ ap (λ (v : Verdict). countedOf (settle v (sentOf t) (submit t) h 0x8000)) (sym (good (submit t) h (omega arith) refl))
       ∙ ap (λ (b : Bool). countedBy Going b (settle Good (sentOf t) (submit t) h 0x8000)) (ne-eqb (k + 1) budget (λ e. omega arith))
 
-  pub stops : total ≤ o → (reading : Reading) → countedOf (turnOf per t reading) ≡ record { track = ticked false t; sent = Nothing; heard = Silent; said = Done }
+  pub stops : total ≤ o → (outcome : Outcome) (reading : Reading) → countedOf (turnOf per t outcome reading) ≡ record { track = ticked false t; sent = Nothing; heard = Silent; said = Done }
   unfolding turnOf countedOf
-  stops none reading = ap (λ (c : Choice). countedOf (act c t reading)) (finished none)
+  stops none outcome reading = ap (λ (c : Choice). countedOf (act c t outcome reading)) (finished none)
 
   pub offers : Runs total t → offerCall t total ≡ offer.Is (offerBy (chooseOf per t) t)
-  unfolding offerCall
-  offers r = sym (passes _ _ _ (eq-eqb total total refl) (passes _ _ _ (consistent-true t (r .consistent)) (passes _ _ _ refl refl)))
+  unfolding offerAs
+  offers r = sym (admits false total t offer.Refused (offer.Is (offerBy (chooseOf per t) t)) r)

@@ -16,7 +16,7 @@ use Rattle.turns.specs.Rules.{chooseOf, ticked}
 use Rattle.turns.specs.ConsistentLaws.{consistent-facts}
 use Rattle.turns.specs.Asked.{Idle, starts}
 use Rattle.turns.specs.Calls.{carry, startCall, ringAfter, offerBy, shownBy}
-use Rattle.turns.specs.Log.{Ran, Told, onward, waitingBy, loop, called}
+use Rattle.turns.specs.Log.{Ran, Told, onward, waitingBy, loopOf, loop, called}
 use Rattle.turns.specs.HostLaws.{Runs, call-turns, runs-on, begins}
 use Rattle.turns.specs.HostLaws as host
 use Rattle.turns.specs.declared.ring.Sent.the-variants.{Nothing}
@@ -77,14 +77,14 @@ module _ (per stream period budget : ℕ) (frames : List ℕ) (room : per ≤ 32
     turn-stops : total ≤ o → turnAt frames (desk h o k slots d)
         ≡ record { left = record { ring = record { track = ticked false (tk h o k); slots = slots }; device = d }; line = record { sent = Nothing; waiting = w; reading = Quiet; heard = Silent; said = Done } }
     turn-stops none =
-        let e = sym (call-turns total (tk h o k) Quiet r) ∙ stops per stream total period budget h o k room none Quiet in
+        let e = sym (call-turns total (tk h o k) Quiet r) ∙ stops per stream total period budget h o k room none _ Quiet in
         ap (turnBy (desk h o k slots d)) (offers per stream total period budget h o k room r ∙ ap (λ (c : Choice). offer.Is (offerBy c (tk h o k))) (finished per stream total period budget h o k room none))
         ∙ ap (λ (s : Step). record { left = record { ring = ringAfter r₀ s; device = d }; line = record { sent = s .sent; waiting = w; reading = Quiet; heard = s .heard; said = s .said } }) e
 
     runs-next : o < total → k + 1 < budget → Runs total (tk (after h) (o + span) (k + 1))
     runs-next more left =
         let e = goes per stream total period budget h o k room more left in
-        subst (λ (s : Step). Runs total (s .track)) e (runs-on per total (tk h o k) (Completed h 0x8000) (omega arith) r (ap (λ (s : Step). s .said) e))
+        subst (λ (s : Step). Runs total (s .track)) e (runs-on per total (tk h o k) _ (Completed h 0x8000) (omega arith) r (ap (λ (s : Step). s .said) e))
 
   -- the claim of a loop, from a place on; f is enough for the periods that are left
   abbrev Claim : ℕ → Type 0
@@ -97,7 +97,7 @@ module _ (per stream period budget : ℕ) (frames : List ℕ) (room : per ≤ 32
 
   one-more : (fuel : ℕ) → Claim fuel → (f h o k : ℕ) (slots : List Slot) (d : Device) → Plays d stream → Runs total (tk h o k) → total ≤ o + f → length (spans f period total o h) < suc fuel
       → k + suc fuel ≤ budget → Dec (o < total) → Ends (length (spans f period total o h) + 1) (playedBy d stream (total - o)) (loop (λ x _. turnAt frames x) (suc fuel) (desk h o k slots d) [])
-  unfolding loop
+  unfolding loopOf
   one-more fuel claim zero h o k slots d p r enough few left (yes more) = absurd (omega arith)
   one-more fuel claim (suc f) h o k slots d p r enough few left (yes more) =
       let n = spanOf period total o in

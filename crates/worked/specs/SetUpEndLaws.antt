@@ -22,7 +22,7 @@ use Rattle.exchange.specs.KeptLaws.{new-kept, step-kept}
 use Rattle.exchange.specs.State.{jacksOf, pcmsOf, mapsOf}
 use Rattle.exchange.specs.Tables.{lookBy, lookOf, soundAfter}
 use Rattle.exchange.specs.Exchange.{listOf, stepOf}
-use Rattle.worked.specs.Types.{Good, Track, Call, SetParams, Command, Remap, Streams, Supported, Xfer, Stage, Idle, JacksAsked, StreamsAsked, MapsAsked, Core, Look, Effect, Nothing, FillJacks, FillStreams, FillMaps, Plan, Sound, Step, Device}
+use Rattle.worked.specs.Types.{Good, Track, Call, SetParams, Command, Remap, Streams, Supported, Xfer, Capture, Stage, Idle, JacksAsked, StreamsAsked, MapsAsked, Core, Look, Effect, Nothing, FillJacks, FillStreams, FillMaps, Plan, Sound, Step, Device}
 use Rattle.worked.specs.Talk.{Talk, talkOf, opened, relay, Fitting, Lent, newFor}
 use Rattle.model.specs.Control.{laid}
 use Rattle.worked.specs.TalkLaws.{after, Told, asked-length, calls}
@@ -37,6 +37,7 @@ own-stage c g (Remap jack association sequence) look = refl
 own-stage c g (Streams direction) look = refl
 own-stage c g (Supported field stream) look = refl
 own-stage c g (Xfer stream) look = refl
+own-stage c g (Capture stream) look = refl
 
 same-look : (n : ℕ) (c : Core) (s : Sound) (page : List ℕ) (call : Call) → lookOf s call ≡ lookOf (soundAfter (FillMaps n) c s page) call
 same-look n c s page call = λ i. lookBy (sym (maps-leave-jacks n page (s .tables)) i) (sym (maps-leave-pcms n page (s .tables)) i) (s .lives) call

@@ -18,7 +18,7 @@ pub use Rattle.core.specs.declared.state.Params.{Params}
 pub use Rattle.core.specs.declared.state.Kind.{Kind}
 pub use Rattle.core.specs.declared.state.Kind.the-variants.{Prepare, Release, Start, Stop}
 pub use Rattle.core.specs.declared.state.Call.{Call}
-pub use Rattle.core.specs.declared.state.Call.the-variants.{SetParams, Command, Remap, Streams, Supported, Xfer}
+pub use Rattle.core.specs.declared.state.Call.the-variants.{SetParams, Command, Remap, Streams, Supported, Xfer, Capture}
 pub use Rattle.core.specs.declared.state.Stage.{Stage}
 pub use Rattle.core.specs.declared.state.Stage.the-variants.{Idle, JacksAsked, StreamsAsked, MapsAsked, Sent}
 pub use Rattle.core.specs.declared.state.Core.{Core}

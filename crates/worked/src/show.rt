@@ -77,6 +77,7 @@ fn name(r: Refusal) {
         Refusal::BadState => text(b"BadState"),
         Refusal::Full => text(b"Full"),
         Refusal::NotYet => text(b"NotYet"),
+        Refusal::BadCapture => text(b"BadCapture"),
     }
 }
 

@@ -21,15 +21,18 @@ returns-5 c = rw (c .before .before .call5 .given .1) (c .own-supported .ensures
 returns-6 : tie.Need-returns-6
 returns-6 c = rw (c .before .before .call6 .given .1) (c .own-xfer .ensures)
 
+returns-7 : tie.Need-returns-7
+returns-7 c = rw (c .before .before .call7 .given .1) (c .own-xfer2 .ensures)
+
 pub own-spec : {M : Type 1} → statement M
 own-spec =
     tie.close
     (tie.spec
-    (λ c. search needs) (λ c κs. search needs) (λ c. search needs) (λ c κs. search needs) (λ c. search needs) (λ c κs. search needs) (λ c. search needs)
+    (λ c. search needs) (λ c κs. search needs) (λ c. search needs) (λ c κs. search needs) (λ c. search needs) (λ c κs. search needs) (λ c. search needs) (λ c κs. search needs) (λ c. search needs)
     (λ c κs. search needs) (λ c. search needs) (λ c κs. search needs) (λ c. search needs) (λ c κs. search needs)
     returns
     returns-2
     returns-3
     returns-4
     returns-5
-    returns-6)
+    returns-6 returns-7)

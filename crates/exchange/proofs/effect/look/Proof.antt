@@ -23,15 +23,19 @@ returns-5 c = rw (c .before .before .call4 .given .1) (ap look.Stream (c .stream
 returns-6 : tie.Need-returns-6
 returns-6 c = rw (c .before .before .call5 .given .1) (ap look.Life (c .life-at3 .ensures))
 
+returns-7 : tie.Need-returns-7
+returns-7 c = rw (c .before .before .before .call6 .given .1) (λ i. look.Directed (c .before .life-at4 .ensures i) (c .direction-at .ensures i))
+
 pub look-spec : {M : Type 1} → statement M
 look-spec =
     tie.close
     (tie.spec
     (λ c. search needs) (λ c κs. search needs) (λ c. search needs) (λ c κs. search needs) (λ c. search needs) (λ c κs. search needs) (λ c. search needs)
-    (λ c. search needs) (λ c κs. search needs) (λ c. search needs) (λ c κs. search needs)
+    (λ c. search needs) (λ c κs. search needs) (λ c. search needs) (λ c κs. search needs) (λ c. search needs) (λ c κs. search needs) (λ c κs. search needs)
     returns
     returns-2
     returns-3
     returns-4
     returns-5
-    returns-6)
+    returns-6
+    returns-7)

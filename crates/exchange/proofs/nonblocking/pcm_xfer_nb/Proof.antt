@@ -1,5 +1,6 @@
 -- `exchange::nonblocking::pcm_xfer_nb` meets its contract. Assumes nothing.
 use borrow.Author.Needs.{needs}
+use mathlib.Core.Bool.{false}
 use mathlib.Core.Path.{refl, sym, _∙_}
 use lib.ListN.{length}
 use borrow.Author.Tests.{leb-true}
@@ -9,7 +10,7 @@ use Rattle.exchange.proofs.nonblocking.pcm_xfer_nb.Statement.{statement
 use Rattle.exchange.proofs.nonblocking.pcm_xfer_nb.Tie as tie
 
 set-up-nb-requires : tie.Need-set-up-nb-requires
-set-up-nb-requires c κs = leb-true _ _ (set-up-long _ _ (c .before .before .before .before .before .before .before .args .s) _ (c .before .before .before .before .before .before .before .args .stream) (sym (c .before .enum-told .given .1) ∙ c .before .before .before .checked .ensures))
+set-up-nb-requires c κs = leb-true _ _ (set-up-long false _ _ (c .before .before .before .before .before .before .before .args .s) _ (c .before .before .before .before .before .before .before .args .stream) (sym (c .before .enum-told .given .1) ∙ c .before .before .before .checked .ensures))
 
 returns : tie.Need-returns
 returns c =

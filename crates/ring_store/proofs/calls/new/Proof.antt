@@ -16,7 +16,7 @@ returns-2 c =
     let t = p .before .before .before .before in
     let n = t .before .before in
     let i = n .before in
-    made-new (i .before .before .args .ring .now) _ _ (i .if1 .left) (ap (λ (r : Ring). r .track) (n .new .ensures)) (p .put-blanks .ensures ∙ ap blankOver (t .put-track .ensures))
+    made-new (i .before .before .args .ring .now) _ _ (λ k. (i .before .slice-known .given k) .fits) (i .if1 .left) (ap (λ (r : Ring). r .track) (n .new .ensures)) (p .put-blanks .ensures ∙ ap blankOver (t .put-track .ensures))
 
 pub new-spec : {M : Type 1} → statement M
 new-spec = tie.close (tie.spec returns (λ c κs. tt) (λ c κs. search needs) (λ c κs. search needs) (λ c. search needs) returns-2)

@@ -2,7 +2,7 @@
 use borrow.Author.Needs.{needs}
 use borrow.Author.Tests.{leb-true}
 use mathlib.Core.Path.{sym, ap, _∙_}
-use Rattle.turns.specs.Calls.{offerCall}
+use Rattle.turns.specs.Calls.{offerCall, saysSent}
 use Rattle.turns.specs.CallLaws.{passed, failed}
 use Rattle.turns.specs.ConsistentLaws.{both}
 use Rattle.ring_store.specs.Types.{Track}
@@ -24,7 +24,7 @@ returns-2 c =
     let o = m .before .before in
     let t = o .before in
     let a = t .before .before .before .before .before .before .args in
-    told (a .ring .now) (a .result .now) _ _ (ap offerWord (sym (m .offer .given .1) ∙ o .offer-track .ensures ∙ ap (λ (u : Track). offerCall u (a .len)) (t .get-track .ensures))) (c .before .before .tell-sent .ensures)
+    told (a .ring .now) (a .result .now) _ _ (ap (offerWord saysSent) (sym (m .offer .given .1) ∙ o .offer-track .ensures ∙ ap (λ (u : Track). offerCall u (a .len)) (t .get-track .ensures))) (c .before .before .tell-sent .ensures)
 
 returns-3 : tie.Need-returns-3
 returns-3 c =
@@ -32,7 +32,7 @@ returns-3 c =
     let o = m .before .before in
     let t = o .before in
     let a = t .before .before .before .before .before .before .args in
-    told (a .ring .now) (a .result .now) _ _ (ap offerWord (sym (m .offer2 .given .1) ∙ o .offer-track .ensures ∙ ap (λ (u : Track). offerCall u (a .len)) (t .get-track .ensures))) (c .before .before .tell-refusal .ensures)
+    told (a .ring .now) (a .result .now) _ _ (ap (offerWord saysSent) (sym (m .offer2 .given .1) ∙ o .offer-track .ensures ∙ ap (λ (u : Track). offerCall u (a .len)) (t .get-track .ensures))) (c .before .before .tell-refusal .ensures)
 
 pub offered-spec : {M : Type 1} → statement M
 offered-spec = tie.close (tie.spec (λ c κs. tt) (λ c. search needs) returns get-track-requires (λ c κs. tt) (λ c. search needs) (λ c κs. tt) (λ c. search needs) (λ c κs. tt) (λ c. search needs) returns-2 (λ c. search needs) returns-3)

@@ -21,15 +21,19 @@ returns-5 c = rw (c .before .before .before .call5 .given .1) (cc)
 returns-6 : tie.Need-returns-6
 returns-6 c = rw (c .before .before .call6 .given .1) (cc)
 
+returns-7 : tie.Need-returns-7
+returns-7 c = rw (c .before .before .call7 .given .1) (cc)
+
 pub call-flat-spec : {M : Type 1} → statement M
 call-flat-spec =
     tie.close
     (tie.spec
     (λ c. search needs) (λ c κs. tt) (λ c. search needs) (λ c κs. tt) (λ c κs. tt) (λ c. search needs) (λ c κs. tt) (λ c. search needs) (λ c κs. tt)
-    (λ c. search needs) (λ c κs. tt) (λ c κs. tt) (λ c. search needs) (λ c κs. tt)
+    (λ c. search needs) (λ c κs. tt) (λ c κs. tt) (λ c. search needs) (λ c κs. tt) (λ c. search needs) (λ c κs. tt)
     returns
     returns-2
     returns-3
     returns-4
     returns-5
-    returns-6)
+    returns-6
+    returns-7)

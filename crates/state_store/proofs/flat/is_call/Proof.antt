@@ -3,7 +3,7 @@ use mathlib.Core.Path.{ap, _∙_}
 use mathlib.Core.Bool.{Bool, _&&_}
 use lib.Dec.{leb, eqb}
 use borrow.Author.Tests.{eq-eqb, ne-eqb}
-use Rattle.state_store.specs.FlatTestLaws.{set-test, command-test, remap-test, streams-test, supported-test, xfer-test, unknown-test}
+use Rattle.state_store.specs.FlatTestLaws.{set-test, command-test, remap-test, streams-test, supported-test, xfer-test, capture-test, unknown-test}
 use Rattle.state_store.proofs.flat.is_call.Statement.{statement}
 use Rattle.state_store.proofs.flat.is_call.Tie as tie
 
@@ -38,10 +38,16 @@ returns-6 : tie.Need-returns-6
 returns-6 c =
     let a = c .before .before .before .before .before .before .before .before .before .args in
     c .both5 .ensures ∙ ap (λ (b : Bool). eqb (a .f .part) 0 && b) (c .before .is-short4 .ensures)
-    ∙ xfer-test (a .f) (eq-eqb _ 6 (c .before .before .before .if6 .taken)) (simp (ne-eqb _ _ (c .before .before .before .before .before .before .before .before .if1 .left), ne-eqb _ _ (c .before .before .before .before .before .before .before .if2 .left), ne-eqb _ _ (c .before .before .before .before .before .before .if3 .left), ne-eqb _ _ (c .before .before .before .before .before .if4 .left), ne-eqb _ _ (c .before .before .before .before .if5 .left)))
+    ∙ xfer-test (a .f) (eq-eqb _ 6 (c .before .before .before .if6 .taken)) (simp (ne-eqb _ _ (c .before .before .before .before .before .before .before .before .if1 .left), ne-eqb _ _ (c .before .before .before .before .before .before .before .if2 .left), ne-eqb _ _ (c .before .before .before .before .before .before .if3 .left), ne-eqb _ _ (c .before .before .before .before .before .if4 .left), ne-eqb _ _ (c .before .before .before .before .if5 .left), eq-eqb _ _ (c .before .before .before .if6 .taken)))
 
 returns-7 : tie.Need-returns-7
-returns-7 c = let a = c .before .before .before .before .before .before .args in unknown-test (a .f) (ne-eqb _ 6 (c .if6 .left)) (simp (ne-eqb _ _ (c .before .before .before .before .before .if1 .left), ne-eqb _ _ (c .before .before .before .before .if2 .left), ne-eqb _ _ (c .before .before .before .if3 .left), ne-eqb _ _ (c .before .before .if4 .left), ne-eqb _ _ (c .before .if5 .left)))
+returns-7 c =
+    let a = c .before .before .before .before .before .before .before .before .before .before .args in
+    c .both6 .ensures ∙ ap (λ (b : Bool). eqb (a .f .part) 0 && b) (c .before .is-short5 .ensures)
+    ∙ capture-test (a .f) (eq-eqb _ 7 (c .before .before .before .if7 .taken)) (simp (ne-eqb _ _ (c .before .before .before .before .before .before .before .before .before .if1 .left), ne-eqb _ _ (c .before .before .before .before .before .before .before .before .if2 .left), ne-eqb _ _ (c .before .before .before .before .before .before .before .if3 .left), ne-eqb _ _ (c .before .before .before .before .before .before .if4 .left), ne-eqb _ _ (c .before .before .before .before .before .if5 .left), ne-eqb _ _ (c .before .before .before .before .if6 .left)))
+
+returns-8 : tie.Need-returns-8
+returns-8 c = let a = c .before .before .before .before .before .before .before .args in unknown-test (a .f) (ne-eqb _ 7 (c .if7 .left)) (simp (ne-eqb _ _ (c .before .before .before .before .before .before .if1 .left), ne-eqb _ _ (c .before .before .before .before .before .if2 .left), ne-eqb _ _ (c .before .before .before .before .if3 .left), ne-eqb _ _ (c .before .before .before .if4 .left), ne-eqb _ _ (c .before .before .if5 .left), ne-eqb _ _ (c .before .if6 .left)))
 
 pub is-call-spec : {M : Type 1} → statement M
-is-call-spec = tie.close (tie.spec returns (λ c κs. tt) (λ c κs. tt) returns-2 (λ c κs. tt) (λ c κs. tt) returns-3 (λ c κs. tt) (λ c κs. tt) returns-4 (λ c κs. tt) (λ c κs. tt) returns-5 (λ c κs. tt) (λ c κs. tt) returns-6 returns-7)
+is-call-spec = tie.close (tie.spec returns (λ c κs. tt) (λ c κs. tt) returns-2 (λ c κs. tt) (λ c κs. tt) returns-3 (λ c κs. tt) (λ c κs. tt) returns-4 (λ c κs. tt) (λ c κs. tt) returns-5 (λ c κs. tt) (λ c κs. tt) returns-6 (λ c κs. tt) (λ c κs. tt) returns-7 returns-8)

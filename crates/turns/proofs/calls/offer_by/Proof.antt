@@ -6,5 +6,11 @@ use Rattle.turns.proofs.calls.offer_by.Tie as tie
 returns : tie.Need-returns
 returns c = rw (c .outgoing .ensures, c .before .enum-told .given .1)
 
+returns-2 : tie.Need-returns-2
+returns-2 c = rw (c .enum-told2 .given .1)
+
+returns-3 : tie.Need-returns-3
+returns-3 c = rw (c .enum-told3 .given .1)
+
 pub offer-by-spec : {M : Type 1} → statement M
-offer-by-spec = tie.close (tie.spec (λ c. search needs) (λ c κs. search needs) (λ c. search needs) (λ c. search needs) returns (λ c. search needs) (λ c. search needs))
+offer-by-spec = tie.close (tie.spec (λ c. search needs) (λ c κs. search needs) (λ c. search needs) (λ c. search needs) returns returns-2 returns-3)

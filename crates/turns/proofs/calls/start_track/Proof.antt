@@ -28,7 +28,7 @@ returns-5 : tie.Need-returns-5
 unfolding startCall
 returns-5 c =
     passes _ _ _ (search (needs, passed))
-    (passes _ _ _ (search (needs, passed)) (passes _ _ _ (search (needs, positive)) (passes _ _ _ (search (needs, positive)) (rw (c .begun .ensures)))))
+    (passes _ _ _ (search (needs, passed)) (passes _ _ _ (search (needs, positive)) (passes _ _ _ (search (needs, positive)) (rw (c .unchanged .ensures, c .before .begun-as .ensures)))))
 
 pub start-track-spec : {M : Type 1} → statement M
-start-track-spec = tie.close (tie.spec (λ c κs. tt) (λ c κs. tt) returns (λ c κs. tt) (λ c κs. tt) returns-2 (λ c κs. tt) returns-3 (λ c κs. tt) returns-4 (λ c κs. tt) returns-5)
+start-track-spec = tie.close (tie.spec (λ c κs. tt) (λ c κs. tt) returns (λ c κs. tt) (λ c κs. tt) returns-2 (λ c κs. tt) returns-3 (λ c κs. tt) returns-4 (λ c κs. tt) (λ c κs. tt) returns-5)

@@ -7,7 +7,7 @@ returns : tie.Need-returns
 returns c = rw (c .enum-told .given .1)
 
 returns-2 : tie.Need-returns-2
-returns-2 c = rw (c .settle .ensures, c .before .played .ensures, c .before .before .before .reading .given .1)
+returns-2 c = rw (c .settle .ensures, c .before .before .reading .given .1)
 
 pub hear-spec : {M : Type 1} → statement M
-hear-spec = tie.close (tie.spec (λ c. search needs) (λ c. search needs) (λ c κs. tt) (λ c κs. search needs) returns returns-2)
+hear-spec = tie.close (tie.spec (λ c. search needs) (λ c. search needs) (λ c κs. search needs) returns returns-2)
