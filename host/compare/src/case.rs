@@ -32,6 +32,15 @@ pub enum Step {
     },
     /// drain turns
     Drain(Vec<Reading>),
+    /// a capture of so many periods into a recording that holds these bytes before
+    Capture {
+        stream: u32,
+        periods: u64,
+        recording: Frames,
+        budget: u64,
+        heard: Vec<Heard>,
+        answers: Vec<Answer>,
+    },
     /// a submission that does not wait, with so many bytes of places lent
     Submit {
         stream: u32,
@@ -166,6 +175,37 @@ pub enum Reading {
 
 impl Reading {
     pub const DONE: Reading = Reading::Oldest { status: 0x8000 };
+}
+
+/// What a capture's turn reads: the length that the device says it wrote, and how many bytes the host lends. The reading's status stands
+/// behind the payload, as far as it is lent.
+#[derive(Copy, Clone, Debug, PartialEq, Eq)]
+pub struct Heard {
+    pub reading: Reading,
+    pub written: u32,
+    pub lent: u32,
+}
+
+impl Heard {
+    pub const QUIET: Heard = Heard { reading: Reading::Quiet, written: 0, lent: 0 };
+
+    /// Just what was written is lent.
+    pub fn of(reading: Reading, written: u32) -> Self {
+        Heard { reading, written, lent: written }
+    }
+
+    /// The bytes that are lent, with this status.
+    pub fn bytes(&self, status: u32, seed: u8) -> Vec<u8> {
+        lent_bytes(self.lent, self.written, status, seed)
+    }
+}
+
+/// So many bytes of a device's buffer, told apart by a seed; the status stands 8 bytes before the end of what was written.
+pub fn lent_bytes(lent: u32, written: u32, status: u32, seed: u8) -> Vec<u8> {
+    let mut bytes = Frames { len: lent, seed }.bytes();
+    let place = bytes.iter_mut().skip(written.saturating_sub(8) as usize);
+    place.zip(status.to_le_bytes()).for_each(|(byte, of_status)| *byte = of_status);
+    bytes
 }
 
 /// Numbers from a seed (splitmix64).

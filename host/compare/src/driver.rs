@@ -34,6 +34,8 @@ pub struct Seen {
     /// of each its state and its status, and what stands in the places: the Rust has neither
     pub held: Vec<(u64, u64)>,
     pub places: u64,
+    /// what stands in the recording after a capture: the Rust has none
+    pub recorded: u64,
     pub model: Option<ModelSeen>,
     /// bytes written that are not the call's own, numbers that disagree: always none
     pub stray: Vec<String>,
@@ -42,7 +44,7 @@ pub struct Seen {
 impl Seen {
     pub fn new(end: End, values: Vec<u64>) -> Self {
         let (requests, heard, log, sent, in_flight, stray) = Default::default();
-        let (pending, held, places) = Default::default();
+        let (pending, held, places, recorded) = Default::default();
         Seen {
             end,
             high: 0,
@@ -58,6 +60,7 @@ impl Seen {
             pending,
             held,
             places,
+            recorded,
             model: None,
             stray,
         }

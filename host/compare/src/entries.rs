@@ -35,6 +35,9 @@ pub trait Entries {
     fn xfer_start(&mut self, stream: u32, frames: &[u8], budget: u64, message: &mut [u8]) -> u64;
     fn offered(&self, frames: &[u8], result: &mut [u8]) -> u64;
     fn turn(&mut self, frames: &[u8], kind: u32, slot: u32, status: u32) -> u64;
+    fn capture_start(&mut self, stream: u32, periods: u64, recording: &[u8], budget: u64, message: &mut [u8]) -> u64;
+    fn capture_offered(&self, recording: &[u8], result: &mut [u8]) -> u64;
+    fn capture_turn(&mut self, recording: &mut [u8], kind: u32, slot: u32, written: u32, bytes: &[u8]) -> u64;
     fn drain_turn(&mut self, kind: u32, slot: u32, status: u32) -> u64;
     fn ring_read(&self, asked: Asked, result: &mut [u8]) -> u64;
     fn xfer_nb(&mut self, stream: u32, payload: &[u8], places: &mut [u8], message: &mut [u8], result: &mut [u8])

@@ -210,6 +210,38 @@ unsafe extern "C" {
         status: u32,
     ) -> u64;
     pub fn snd_drain_turn(ring: *mut u8, ring_len: usize, kind: u32, slot: u32, status: u32) -> u64;
+    pub fn snd_pcm_capture_start(
+        state: *mut u8,
+        state_len: usize,
+        ring: *mut u8,
+        ring_len: usize,
+        stream: u32,
+        periods: u64,
+        recording: *const u8,
+        recording_len: usize,
+        budget: u64,
+        message: *mut u8,
+        message_len: usize,
+    ) -> u64;
+    pub fn snd_capture_offered(
+        ring: *const u8,
+        ring_len: usize,
+        recording: *const u8,
+        recording_len: usize,
+        result: *mut u8,
+        result_len: usize,
+    ) -> u64;
+    pub fn snd_capture_turn(
+        ring: *mut u8,
+        ring_len: usize,
+        recording: *mut u8,
+        recording_len: usize,
+        kind: u32,
+        slot: u32,
+        written: u32,
+        bytes: *const u8,
+        bytes_len: usize,
+    ) -> u64;
     pub fn snd_ring_running(ring: *const u8, ring_len: usize, result: *mut u8, result_len: usize) -> u64;
     pub fn snd_ring_in_flight(ring: *const u8, ring_len: usize, result: *mut u8, result_len: usize) -> u64;
     pub fn snd_ring_free_descriptors(ring: *const u8, ring_len: usize, result: *mut u8, result_len: usize) -> u64;
@@ -217,6 +249,7 @@ unsafe extern "C" {
     pub fn snd_ring_stream(ring: *const u8, ring_len: usize, result: *mut u8, result_len: usize) -> u64;
     pub fn snd_ring_carried(ring: *const u8, ring_len: usize, slot: usize, result: *mut u8, result_len: usize) -> u64;
     pub fn snd_ring_oldest(ring: *const u8, ring_len: usize, result: *mut u8, result_len: usize) -> u64;
+    pub fn snd_ring_kept(ring: *const u8, ring_len: usize, result: *mut u8, result_len: usize) -> u64;
     pub fn snd_pcm_xfer_nb(
         state: *mut u8,
         state_len: usize,

@@ -1,5 +1,5 @@
 //! A host over the C entries, as the console's is: it sends what it is told to, feeds what came back, submits what is offered.
-use crate::case::{Case, Reading, Step, model_tables};
+use crate::case::{Case, Heard, Reading, Step, model_tables};
 use crate::driver::{DIGEST, Driver, ModelSeen, Seen, digest};
 use crate::entries::Entries;
 use crate::outside::{Device, Scripted, resolve};
@@ -8,7 +8,7 @@ use rules::entries::{Asked, GOING, NOTHING, RESULT_SIZE, SEND};
 use rules::pending::{PLACES, TOKENS};
 use rules::sound::Call;
 use rules::wire::{u32_at, u64_at};
-use rules::{BAD_LENGTH, BAD_STATE, FULL, MESSAGE, NOT_YET, PAGE};
+use rules::{BAD_CAPTURE, BAD_LENGTH, BAD_STATE, FULL, MESSAGE, NOT_YET, PAGE};
 
 /// What lent buffers hold before a call, and bytes lent beyond what is asked for.
 const FILL: u8 = 0xc3;
@@ -58,7 +58,7 @@ fn value(call: Option<Call>, result: &[u8]) -> (usize, Vec<u64>) {
 /// An answer as the way a call ended: its number, and the high half beside it.
 fn ended(answer: u64, values: Vec<u64>) -> Seen {
     let (number, high) = (answer as u32, (answer >> 32) as u32);
-    let known = number <= u32::from(BAD_STATE) || [FULL, NOT_YET].map(u32::from).contains(&number);
+    let known = number <= u32::from(BAD_STATE) || [FULL, NOT_YET, BAD_CAPTURE].map(u32::from).contains(&number);
     let end = if known { End::Number(number as u8) } else { End::Panic(format!("answers {number}")) };
     Seen { high, ..Seen::new(end, values) }
 }
@@ -211,6 +211,77 @@ impl<E: Entries> Host<E> {
             self.note(stopped, "the ring says that an ended transfer runs");
             seen.turns = self.read(Asked::TurnsRun)[0];
         }
+        seen
+    }
+
+    /// One turn of a capture: submit what is offered, look, tell. The turn's number.
+    fn capture_turn(
+        &mut self,
+        stream: u32,
+        recording: &mut [u8],
+        heard: Heard,
+        seed: u8,
+        script: &mut Scripted,
+    ) -> Option<u64> {
+        let mut result = [FILL; RESULT_SIZE + MORE];
+        let number = self.entries.capture_offered(recording, &mut result);
+        self.note(number == 0 && untouched(&result[24..]), "a capture's offer refuses, or writes beyond its result");
+        let mut flight = self.in_flight();
+        if !script.turn(self.read(Asked::FreeDescriptors)[0] as usize) {
+            return None;
+        }
+        let [there, slot, length] = [0, 8, 16].map(|at| u64_at(&result, at));
+        if there == 1 {
+            script.submit_writable(slot as u16, &stream.to_le_bytes(), length);
+            flight.push(slot as u16);
+        }
+        let read = resolve(heard.reading, &flight);
+        let (kind, (slot, status)) = read.map_or((0, (77, 0xdead)), |read| (1, read));
+        let bytes = heard.bytes(status, seed);
+        let (before, kept) = (recording.to_vec(), self.read(Asked::Kept)[0] as usize);
+        let number = self.entries.capture_turn(recording, kind, slot, heard.written, &bytes);
+        script.read(read.map(|(slot, _)| (slot, heard.written)), number != u64::from(BAD_LENGTH));
+        let now = self.read(Asked::Kept)[0] as usize;
+        let joined = kept <= now && now <= recording.len();
+        self.note(joined, "less is kept than before, or more than the recording");
+        if joined {
+            let rest = before[..kept] == recording[..kept] && before[now..] == recording[now..];
+            self.note(rest, "other bytes of the recording written than those accepted");
+        }
+        Some(number)
+    }
+
+    /// The values are how much is kept at the end, and how many turns were refused for what was lent, which runs none.
+    fn capture(&mut self, step: &Step, script: &mut Scripted) -> Seen {
+        let Step::Capture { stream, periods, recording, budget, heard, .. } = step else {
+            unreachable!("of this step alone")
+        };
+        let (mut lent, mut recording) = (Slices::new(), recording.bytes());
+        let number = self.entries.capture_start(*stream, *periods, &recording, *budget, &mut lent.message);
+        let Some((mut number, _)) = self.exchange(number, lent, script) else {
+            return Seen::new(End::Waits, vec![]);
+        };
+        let (began, mut refused) = (number == GOING, 0);
+        let mut script_of_turns = heard.iter().copied().chain(std::iter::repeat(Heard::QUIET)).zip(0u64..);
+        while number == GOING {
+            let running = self.read(Asked::Running)[0] == 1 && self.read(Asked::Stream)[0] == u64::from(*stream);
+            self.note(running, "the ring does not say that this capture runs");
+            let (heard, seed) = script_of_turns.next().expect("it has no end");
+            let Some(next) = self.capture_turn(*stream, &mut recording, heard, seed as u8, script) else {
+                return Seen::new(End::Spins, vec![]);
+            };
+            let runs_none = next == u64::from(BAD_LENGTH);
+            refused += u64::from(runs_none);
+            number = if runs_none { GOING } else { next };
+        }
+        if !began {
+            return ended(number, vec![]);
+        }
+        let stopped = self.read(Asked::Running)[0] == 0;
+        self.note(stopped, "the ring says that an ended capture runs");
+        let mut seen = ended(number, vec![self.read(Asked::Kept)[0], refused]);
+        seen.turns = self.read(Asked::TurnsRun)[0];
+        seen.recorded = digest(DIGEST, &recording);
         seen
     }
 
@@ -385,6 +456,7 @@ impl<E: Entries> Driver for Host<E> {
         let mut seen = match step {
             Step::Control { call, .. } => self.control(*call, &mut script),
             Step::Transfer { stream, budget, .. } => self.transfer(*stream, *budget, &mut script),
+            Step::Capture { .. } => self.capture(step, &mut script),
             Step::Drain(readings) => self.drain(readings),
             Step::Submit { stream, places, .. } => self.submit(*stream, *places as usize, &mut script),
             Step::Mark(readings) => self.mark(readings),

@@ -1,4 +1,5 @@
 //! The Rust driver, the port and the rules, run side by side on the same cases.
+pub mod captures;
 pub mod case;
 pub mod driver;
 pub mod entries;

@@ -8,7 +8,7 @@ use compare::plain::Plain;
 use compare::port::Port;
 use compare::run::{Counts, With, report, run};
 use compare::waves::{self, Kinds};
-use compare::{guarded, pending, raw, record, rust, short, shown, stages, versions};
+use compare::{captures, guarded, pending, raw, record, rust, short, shown, stages, versions};
 use options::{Options, Run, Seeds, USAGE, options};
 use std::process::exit;
 use std::time::Instant;
@@ -18,6 +18,8 @@ const CASES: Seeds = 1..=60_000;
 const STRICT: Seeds = 1..=10_000;
 const GUARD: Seeds = 1..=10_000;
 const PENDING: Seeds = 1..=10_000;
+/// A million turns of captures and more.
+const CAPTURES: Seeds = 1..=10_000;
 const ENTRIES: Seeds = 1..=8_000;
 const WAVES: Seeds = 1..=200_000;
 /// From so many files on every kind of fault must have been seen.
@@ -44,11 +46,12 @@ fn main() {
         Run::Case(case) => finish(one(&case, with)),
         Run::Short => finish(short_cases(with)),
         Run::Differences => finish(shown::print() == 0),
-        Run::Random { cases, strict, guard, pending, entries, waves } => {
+        Run::Random { cases, strict, guard, pending, captures, entries, waves } => {
             let agreed = cases.is_none_or(|seeds| random_cases(with, seeds));
             let agreed = agreed && strict.is_none_or(|seeds| strict_cases(with, seeds));
             let agreed = agreed && guard.is_none_or(|seeds| guarded_cases(with, seeds));
             let agreed = agreed && pending.is_none_or(|seeds| pending_cases(with, seeds));
+            let agreed = agreed && captures.is_none_or(|seeds| capture_cases(with, seeds));
             let agreed = agreed && entries.is_none_or(random_entries);
             finish(agreed && waves.is_none_or(|seeds| random_waves(seeds) && large_waves()))
         }
@@ -70,7 +73,7 @@ fn finish(agreed: bool) -> ! {
 fn gate(with: With, short: bool) -> bool {
     let short = !short || short_cases(with);
     let random = random_cases(with, CASES) && strict_cases(with, STRICT) && guarded_cases(with, GUARD);
-    let random = random && pending_cases(with, PENDING);
+    let random = random && pending_cases(with, PENDING) && (!with.port || capture_cases(with, CAPTURES));
     let entries = !with.port || entries_by_stage() && random_entries(ENTRIES);
     let waves = !with.port || random_waves(WAVES) && large_waves();
     let versions = !with.port || by_version();
@@ -100,7 +103,13 @@ fn agrees(case: &Case, with: With, counts: &mut Counts) -> bool {
 
 fn short_cases(with: With) -> bool {
     let (mut counts, since, mut agreed) = (Counts::default(), Instant::now(), true);
-    for (_, group) in short::GROUPS.into_iter().chain(short::STRICT).chain(guarded::GROUPS).chain(pending::GROUPS) {
+    for (_, group) in short::GROUPS
+        .into_iter()
+        .chain(short::STRICT)
+        .chain(guarded::GROUPS)
+        .chain(pending::GROUPS)
+        .chain(captures::GROUPS)
+    {
         group(&mut |case| agreed = agreed && agrees(&case, with, &mut counts));
     }
     told("short cases", &counts, since);
@@ -133,6 +142,10 @@ fn pending_cases(with: With, seeds: Seeds) -> bool {
     from_seeds("pending", compare::random::pending, with, seeds)
 }
 
+fn capture_cases(with: With, seeds: Seeds) -> bool {
+    from_seeds("captures", compare::random::capture, with, seeds)
+}
+
 fn from_seeds(option: &str, made: fn(u64) -> Case, with: With, seeds: Seeds) -> bool {
     let (mut counts, since, first) = (Counts::default(), Instant::now(), *seeds.start());
     for seed in seeds {
@@ -145,6 +158,7 @@ fn from_seeds(option: &str, made: fn(u64) -> Case, with: With, seeds: Seeds) -> 
         "strict" => "random cases in strict mode",
         "guard" => "random cases under the guard",
         "pending" => "random cases of what does not wait",
+        "captures" => "random cases of captures",
         _ => "random cases",
     };
     told(&format!("{name} from seed {first}"), &counts, since);

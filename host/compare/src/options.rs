@@ -10,6 +10,7 @@ compare --cases N --seed S   N random cases from seed S; case i has seed S + i, 
 compare --strict N --seed S  the same in strict mode
 compare --guard N --seed S   the same under the guard
 compare --pending N --seed S the same of what does not wait
+compare --captures N --seed S the same of captures, the port against the rules
 compare --short              the short cases alone
 compare --entries N --seed S N sequences of single entries, the port against the rules
 compare --wav N --seed S     N random WAVE files read and N written, and large ones, the port against the rules
@@ -24,12 +25,13 @@ pub enum Run {
         short: bool,
     },
     Short,
-    /// random cases, those of strict mode, those under the guard, those of what does not wait, sequences of entries, and WAVE files, by their seeds
+    /// random cases, those of strict mode, those under the guard, those of what does not wait, those of captures, sequences of entries, and WAVE files, by their seeds
     Random {
         cases: Option<Seeds>,
         strict: Option<Seeds>,
         guard: Option<Seeds>,
         pending: Option<Seeds>,
+        captures: Option<Seeds>,
         entries: Option<Seeds>,
         waves: Option<Seeds>,
     },
@@ -48,11 +50,12 @@ pub struct Options {
 }
 
 const WORDS: [&str; 5] = ["--short", "--differences", "--no-port", "--no-rust", "--no-short"];
-const WITH_VALUE: [&str; 11] = [
+const WITH_VALUE: [&str; 12] = [
     "--cases",
     "--strict",
     "--guard",
     "--pending",
+    "--captures",
     "--entries",
     "--wav",
     "--seed",
@@ -62,7 +65,7 @@ const WITH_VALUE: [&str; 11] = [
     "--replay",
 ];
 /// These go together; of all others one at a time.
-const SEEDED: [&str; 6] = ["--cases", "--strict", "--guard", "--pending", "--entries", "--wav"];
+const SEEDED: [&str; 7] = ["--cases", "--strict", "--guard", "--pending", "--captures", "--entries", "--wav"];
 const OTHERS: [&str; 6] = ["--short", "--differences", "--case", "--record", "--check", "--replay"];
 
 /// The options given, each with its value, if it takes one.
@@ -115,7 +118,7 @@ impl Given {
         let runs: Vec<&str> = OTHERS.into_iter().chain(SEEDED).filter(|name| self.has(name)).collect();
         let file = |name| self.value(name).unwrap_or_default().to_string();
         if self.has("--seed") && !SEEDED.iter().any(|name| self.has(name)) {
-            return Err("--seed goes with --cases, --strict, --guard, --pending, --entries or --wav".into());
+            return Err("--seed goes with --cases, --strict, --guard, --pending, --captures, --entries or --wav".into());
         }
         Ok(match runs[..] {
             [] => Run::Gate { short: !self.has("--no-short") },
@@ -130,6 +133,7 @@ impl Given {
                 strict: self.seeds("--strict")?,
                 guard: self.seeds("--guard")?,
                 pending: self.seeds("--pending")?,
+                captures: self.seeds("--captures")?,
                 entries: self.seeds("--entries")?,
                 waves: self.seeds("--wav")?,
             },
@@ -146,7 +150,12 @@ pub fn options(args: impl IntoIterator<Item = String>, rust_at_hand: bool) -> Re
     let nothing = match &run {
         _ if given.has("--no-rust") && given.has("--no-port") => "--no-rust and --no-port leave nothing to compare",
         Run::Short if given.has("--no-short") => "--short and --no-short leave no case",
-        Run::Random { entries: Some(_), .. } | Run::Random { waves: Some(_), .. } | Run::Replay(_) if !with.port => {
+        Run::Random { captures: Some(_), .. }
+        | Run::Random { entries: Some(_), .. }
+        | Run::Random { waves: Some(_), .. }
+        | Run::Replay(_)
+            if !with.port =>
+        {
             "--no-port leaves nothing of this to run"
         }
         Run::Case(case) if case.steps.is_empty() => "the case has no step",

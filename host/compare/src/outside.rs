@@ -55,6 +55,10 @@ impl Scripted {
                 (script.readings, script.budget) = (readings.clone(), *budget);
                 (script.frames, script.stream) = (Rc::from(frames.bytes()), stream.to_le_bytes());
             }
+            Step::Capture { answers, .. } => {
+                script.answers = answers.iter().cloned().collect();
+                script.budget = u64::MAX;
+            }
             Step::Submit { stream, payload, answers, .. } => {
                 script.answers = answers.iter().cloned().collect();
                 (script.frames, script.stream) = (Rc::from(payload.bytes()), stream.to_le_bytes());
@@ -117,6 +121,18 @@ impl Scripted {
         let digest = digest(digest(DIGEST, stream), payload);
         self.sent.push(Sent { slot, offset: offset as u64, length: payload.len() as u64, digest });
         self.log.last_mut().expect("a turn began").sent = Some(slot);
+    }
+
+    /// The stream id, and so many bytes to write.
+    pub fn submit_writable(&mut self, slot: u16, stream: &[u8], length: u64) {
+        self.sent.push(Sent { slot, offset: 0, length, digest: digest(DIGEST, stream) });
+        self.log.last_mut().expect("a turn began").sent = Some(slot);
+    }
+
+    /// What a capture's turn read, and whether the turn ran.
+    pub fn read(&mut self, read: Option<(u32, u32)>, ran: bool) {
+        let turn = self.log.last_mut().expect("a turn began");
+        (turn.looked, turn.read) = (ran, read);
     }
 
     /// Stream id and period in one buffer, under a token.

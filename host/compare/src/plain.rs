@@ -1,6 +1,7 @@
 //! The rules, behind the same entries.
 use crate::entries::{Entries, Lent};
 use oracle::Inside;
+use rules::capture::Heard;
 use rules::entries::{self as e, Asked, Store, number};
 use rules::model::Model;
 use rules::ring::{Reading, Ring};
@@ -97,6 +98,16 @@ impl Entries for Plain {
     }
     fn turn(&mut self, frames: &[u8], kind: u32, slot: u32, status: u32) -> u64 {
         number(e::turn(self.ring_mut(), frames.len(), Reading::from_words(kind, slot, status)))
+    }
+    fn capture_start(&mut self, stream: u32, periods: u64, recording: &[u8], budget: u64, message: &mut [u8]) -> u64 {
+        let (state, ring) = self.state();
+        number(e::capture_start(state, ring, stream, periods, recording.len(), budget, message))
+    }
+    fn capture_offered(&self, recording: &[u8], result: &mut [u8]) -> u64 {
+        number(e::capture_offered(self.ring(), recording.len(), result))
+    }
+    fn capture_turn(&mut self, recording: &mut [u8], kind: u32, slot: u32, written: u32, bytes: &[u8]) -> u64 {
+        number(e::capture_turn(self.ring_mut(), recording, Heard::from_words(kind, slot, written, bytes)))
     }
     fn drain_turn(&mut self, kind: u32, slot: u32, status: u32) -> u64 {
         number(e::drain_turn(self.ring_mut(), Reading::from_words(kind, slot, status)))

@@ -45,7 +45,7 @@ impl Port {
             Call::OutputStreams => Shape::Plain(snd_output_streams),
             Call::InputStreams => Shape::Plain(snd_input_streams),
             Call::Remap { .. } | Call::SetParams { .. } => Shape::Other,
-            Call::Transfer(_) => panic!("a transfer is started, not called"),
+            Call::Transfer(_) | Call::Capture(_) => panic!("a transfer is started, not called"),
         }
     }
 }
@@ -143,6 +143,22 @@ impl Entries for Port {
         let ((r, rn), (f, fl)) = (lend!(mut self.ring[LEAD..][..self.lent.ring]), lend!(frames));
         unsafe { snd_turn(r, rn, f, fl, kind, slot, status) }
     }
+    fn capture_start(&mut self, stream: u32, periods: u64, recording: &[u8], budget: u64, message: &mut [u8]) -> u64 {
+        let (s, sn) = lend!(mut self.state[LEAD..][..self.lent.state]);
+        let (r, rn) = lend!(mut self.ring[LEAD..][..self.lent.ring]);
+        let ((c, cn), (m, mn)) = (lend!(recording), lend!(mut message));
+        unsafe { snd_pcm_capture_start(s, sn, r, rn, stream, periods, c, cn, budget, m, mn) }
+    }
+    fn capture_offered(&self, recording: &[u8], result: &mut [u8]) -> u64 {
+        let ((r, rn), (c, cn)) = (lend!(self.ring[LEAD..][..self.lent.ring]), lend!(recording));
+        let (o, on) = lend!(mut result);
+        unsafe { snd_capture_offered(r, rn, c, cn, o, on) }
+    }
+    fn capture_turn(&mut self, recording: &mut [u8], kind: u32, slot: u32, written: u32, bytes: &[u8]) -> u64 {
+        let ((r, rn), (c, cn)) = (lend!(mut self.ring[LEAD..][..self.lent.ring]), lend!(mut recording));
+        let (b, bn) = lend!(bytes);
+        unsafe { snd_capture_turn(r, rn, c, cn, kind, slot, written, b, bn) }
+    }
     fn drain_turn(&mut self, kind: u32, slot: u32, status: u32) -> u64 {
         let (r, rn) = lend!(mut self.ring[LEAD..][..self.lent.ring]);
         unsafe { snd_drain_turn(r, rn, kind, slot, status) }
@@ -156,6 +172,7 @@ impl Entries for Port {
             Asked::TurnsRun => snd_ring_turns_run,
             Asked::Stream => snd_ring_stream,
             Asked::Oldest => snd_ring_oldest,
+            Asked::Kept => snd_ring_kept,
             Asked::Carried(slot) => return unsafe { snd_ring_carried(r, rn, slot, o, on) },
         };
         unsafe { entry(r, rn, o, on) }

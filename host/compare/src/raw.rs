@@ -2,7 +2,7 @@
 //! leaves the port's stores as they were, byte for byte; the guard, each stream's state and the tokens of what does not wait are looked up
 //! in them. Then the same with damaged stores, where only what holds of any bytes is asked, but of a damaged guard, stream's state or
 //! token, which both readings know.
-use crate::case::{Body, Frames, Kind, Rng};
+use crate::case::{Body, Frames, Kind, Rng, lent_bytes};
 use crate::entries::{Entries, Lent};
 use crate::plain::Plain;
 use crate::port::{LEAD, PAST, Port};
@@ -10,6 +10,7 @@ use crate::random::STATUSES;
 use crate::stages;
 use rules::entries::{Asked, GUARD, LIVES, RESULT_SIZE, RING_RESERVED, STATE_RESERVED, TOKENS};
 use rules::pending::{PLACES, TOKEN_SIZE, Token, WAITS};
+use rules::ring::Way;
 use rules::sound::{Call, Params};
 use rules::{FIT, MESSAGE, PAGE, wire};
 
@@ -58,6 +59,24 @@ pub enum What {
         slot: u32,
         status: u32,
     },
+    CaptureStart {
+        stream: u32,
+        periods: u64,
+        recording: u32,
+        budget: u64,
+    },
+    CaptureOffered {
+        recording: u32,
+    },
+    /// so many bytes are lent, with a status 8 before the end of what was written
+    CaptureTurn {
+        recording: u32,
+        kind: u32,
+        slot: u32,
+        written: u32,
+        status: u32,
+        lent: u32,
+    },
     Drain {
         kind: u32,
         slot: u32,
@@ -101,7 +120,7 @@ struct Left {
     number: u64,
     message: Vec<u8>,
     result: Vec<u8>,
-    /// a page, a transfer's answer, or the places of what does not wait
+    /// a page, a transfer's answer, a recording, or the places of what does not wait
     other: Vec<u8>,
 }
 
@@ -134,6 +153,15 @@ fn enter<E: Entries>(e: &mut E, op: &Op) -> Left {
         What::Start { stream, frames: len, budget } => e.xfer_start(*stream, &frames(*len), *budget, m),
         What::Offered { frames: len } => e.offered(&frames(*len), o),
         What::Turn { frames: len, kind, slot, status } => e.turn(&frames(*len), *kind, *slot, *status),
+        What::CaptureStart { stream, periods, recording, budget } => {
+            e.capture_start(*stream, *periods, &frames(*recording), *budget, m)
+        }
+        What::CaptureOffered { recording } => e.capture_offered(&frames(*recording), o),
+        What::CaptureTurn { recording, kind, slot, written, status, lent } => {
+            other = vec![FILL; *recording as usize];
+            let bytes = lent_bytes(*lent, *written, *status, *slot as u8);
+            e.capture_turn(&mut other, *kind, *slot, *written, &bytes)
+        }
         What::Drain { kind, slot, status } => e.drain_turn(*kind, *slot, *status),
         What::Read(asked) => e.ring_read(*asked, o),
         What::Submit { stream, payload, places } => {
@@ -173,8 +201,8 @@ fn keeps(what: &What, left: &Left, open: bool) -> bool {
         What::New(_) | What::NewGuarded(_) | What::RingNew | What::ModelNew(_) => number != 0,
         What::Call(_) => number < 256 && number != 0,
         What::Feed { .. } | What::FeedWritten { .. } | What::FeedFailure => number == 10 || (number == 1 && !open),
-        What::Start { .. } => number < 256,
-        What::Turn { .. } => number == 1 || number == 10,
+        What::Start { .. } | What::CaptureStart { .. } => number < 256,
+        What::Turn { .. } | What::CaptureTurn { .. } => number == 1 || number == 10,
         What::Drain { kind, .. } | What::Mark { kind, .. } => number != 0 || *kind == 0,
         What::Submit { .. } => number < 256 && number != 0,
         // 2 frees the place too
@@ -191,8 +219,8 @@ fn writes(what: &What) -> [bool; 3] {
     match what {
         What::New(_) | What::NewGuarded(_) => [true, false, false],
         What::Call(_) | What::Feed { .. } | What::FeedWritten { .. } | What::FeedFailure => [true, false, false],
-        What::RingNew | What::Turn { .. } | What::Drain { .. } => [false, true, false],
-        What::Start { .. } => [true, true, false],
+        What::RingNew | What::Turn { .. } | What::CaptureTurn { .. } | What::Drain { .. } => [false, true, false],
+        What::Start { .. } | What::CaptureStart { .. } => [true, true, false],
         What::Submit { .. } | What::Mark { .. } | What::Finish(_) => [true, false, false],
         What::ModelNew(_) | What::ModelControl { .. } | What::ModelTransfer { .. } => [false, false, true],
         _ => [false; 3],
@@ -377,8 +405,10 @@ fn what(rng: &mut Rng, guide: &Plain) -> What {
         3..=8 if open => feed(rng, guide),
         3 => feed(rng, guide),
         4..=8 => What::Call(call(rng, guide)),
-        9 | 10 if !guide.ring.running => start(rng, guide),
-        11 => What::Offered { frames: frames_len(rng, guide) },
+        9 | 10 if !guide.ring.running && rng.one_in(2) => start(rng, guide),
+        9 | 10 if !guide.ring.running => capture_start(rng, guide),
+        11 if rng.one_in(2) => What::Offered { frames: lent(rng, guide) },
+        11 => What::CaptureOffered { recording: lent(rng, guide) },
         9..=17 => turn(rng, guide),
         18..=20 => drain(rng, guide),
         21 | 22 => What::Read(asked(rng)),
@@ -507,8 +537,23 @@ fn start(rng: &mut Rng, guide: &Plain) -> What {
     What::Start { stream, frames: rng.below(60) as u32, budget: rng.pick(&[0, 1, 5, 30, 30, u64::MAX]) }
 }
 
-fn frames_len(rng: &mut Rng, guide: &Plain) -> u32 {
-    let right = guide.ring.frames_len as u32;
+/// Mostly of an input that has parameters, with room for all periods.
+fn capture_start(rng: &mut Rng, guide: &Plain) -> What {
+    let sound = &guide.sound;
+    let input = |stream: &u32| sound.tables[1].get(*stream as usize).is_some_and(|r| r[wire::DIRECTION] == wire::INPUT);
+    let inputs: Vec<u32> = sound.params.keys().copied().filter(input).collect();
+    let stream = if inputs.is_empty() || rng.one_in(5) { rng.below(4) as u32 } else { rng.pick(&inputs) };
+    let period = sound.params.get(&stream).map_or(3, |params| params.period);
+    let periods = rng.below(13);
+    let need = period * periods as u32;
+    let recording = if rng.one_in(8) { need.saturating_sub(1) } else { need + rng.below(9) as u32 };
+    let periods = if rng.one_in(30) { rng.pick(&[1 << 32, 1 << 63, u64::MAX]) } else { periods };
+    What::CaptureStart { stream, periods, recording, budget: rng.pick(&[0, 1, 5, 30, 30, u64::MAX]) }
+}
+
+/// As long as at the start mostly.
+fn lent(rng: &mut Rng, guide: &Plain) -> u32 {
+    let right = guide.ring.lent as u32;
     if rng.one_in(12) { right.wrapping_add(rng.pick(&[1, u32::MAX])).min(100) } else { right }
 }
 
@@ -523,7 +568,30 @@ fn read(rng: &mut Rng, guide: &Plain) -> (u32, u32, u32) {
 
 fn turn(rng: &mut Rng, guide: &Plain) -> What {
     let (kind, slot, status) = read(rng, guide);
-    What::Turn { frames: frames_len(rng, guide), kind, slot, status }
+    // the other way seldom
+    if (guide.ring.way == Way::Capture) != rng.one_in(12) {
+        return capture_turn(rng, guide);
+    }
+    What::Turn { frames: lent(rng, guide), kind, slot, status }
+}
+
+/// A good length mostly, and as many bytes.
+fn capture_turn(rng: &mut Rng, guide: &Plain) -> What {
+    let (kind, slot, status) = read(rng, guide);
+    let period = guide.ring.period.min(100) as u32;
+    let whole = period + 8;
+    let written = match rng.below(20) {
+        0 => rng.pick(&[0, 7, whole + 1, 1 << 31, u32::MAX]),
+        1..=6 => whole,
+        7 | 8 => 8,
+        _ => 8 + rng.below(u64::from(period) + 1) as u32,
+    };
+    let bytes = match rng.below(12) {
+        0 => rng.below(u64::from(whole)) as u32,
+        1..=4 => whole,
+        _ => written.min(whole),
+    };
+    What::CaptureTurn { recording: lent(rng, guide), kind, slot, written, status, lent: bytes }
 }
 
 fn drain(rng: &mut Rng, guide: &Plain) -> What {
@@ -533,8 +601,15 @@ fn drain(rng: &mut Rng, guide: &Plain) -> What {
 
 fn asked(rng: &mut Rng) -> Asked {
     let slot = rng.pick(&[0, 1, 2, 9, 10, 30, 31, 32, 33, usize::MAX]);
-    let plain =
-        [Asked::Running, Asked::InFlight, Asked::FreeDescriptors, Asked::TurnsRun, Asked::Stream, Asked::Oldest];
+    let plain = [
+        Asked::Running,
+        Asked::InFlight,
+        Asked::FreeDescriptors,
+        Asked::TurnsRun,
+        Asked::Stream,
+        Asked::Oldest,
+        Asked::Kept,
+    ];
     if rng.one_in(3) { Asked::Carried(slot) } else { rng.pick(&plain) }
 }
 
@@ -607,7 +682,7 @@ pub fn sequence(seed: u64, length: usize) -> Result<(), (Vec<Op>, String)> {
 
 /// The beginning of a driver's life, so that sequences are not all of an empty device.
 fn begun(rng: &mut Rng) -> Vec<Op> {
-    let life = rng.pick(&[stages::life, stages::guarded_life, stages::pending_life])();
+    let life = rng.pick(&[stages::life, stages::guarded_life, stages::pending_life, stages::capture_life])();
     let length = rng.below(life.len() as u64 + 1) as usize;
     life.into_iter().take(length).map(stages::whole).collect()
 }
@@ -635,7 +710,7 @@ pub fn shrink(mut ops: Vec<Op>) -> (Vec<Op>, String) {
 /// A number that entries answer, and a high half of 2 and 3 alone.
 fn known(answer: u64) -> bool {
     let (number, high) = (answer as u32, answer >> 32);
-    let known = matches!(number, 0..=12 | 15 | 16 | 512 | 513) || (257..=256 + MESSAGE as u32).contains(&number);
+    let known = matches!(number, 0..=12 | 15..=17 | 512 | 513) || (257..=256 + MESSAGE as u32).contains(&number);
     known && (high == 0 || matches!(number, 2 | 3))
 }
 

@@ -47,6 +47,9 @@ pub fn seen_text(seen: &Seen) -> String {
     }
     add("flight", list(&seen.in_flight, |(slot, offset, length)| format!("{slot}:{offset}+{length}")));
     add("pending", list(&seen.pending, u64::to_string));
+    if seen.recorded != 0 {
+        add("recorded", format!("{:016x}", seen.recorded));
+    }
     if let Some(model) = &seen.model {
         add("answer", model.answer.as_ref().map_or_else(|text| panics(text), |a| hex(a)));
         add("payload", if model.payload.is_empty() { String::new() } else { hex(&model.payload) });

@@ -1,5 +1,6 @@
 //! Every entry at every stage of a driver's life, without the guard and with it, with each lent slice in turn empty, one short, right and one
 //! long, with each reserved byte in turn not 0, and with the guard and a stream's state in turn damaged: the port against the rules.
+use crate::captures::direction_at;
 use crate::case::{Body, Kind};
 use crate::entries::Lent;
 use crate::raw::{Damage, Op, Pair, What};
@@ -57,6 +58,50 @@ pub fn guarded_life() -> Vec<What> {
     all.extend(command(wire::START));
     all.extend_from_slice(&life()[8..]);
     all.extend([turn(0, 0, 0, 0)].into_iter().chain(command(wire::STOP)).chain(command(wire::RELEASE)));
+    all
+}
+
+/// A capture's turn of a period of 4: what was written is lent.
+fn capture_turn(recording: u32, slot: u32, written: u32, status: u32) -> What {
+    What::CaptureTurn { recording, kind: 1, slot, written, status, lent: written.min(12) }
+}
+
+/// Set up with an input that has parameters, then captures to each of their ends, owed slots drained between, and a playback at last.
+pub fn capture_life() -> Vec<What> {
+    let start = |recording, budget| What::CaptureStart { stream: 0, periods: 3, recording, budget };
+    let quiet = What::CaptureTurn { recording: 14, kind: 0, slot: 0, written: 0, status: 0, lent: 0 };
+    let damage = vec![(direction_at(0), wire::INPUT), (direction_at(1), wire::OUTPUT)];
+    let inputs = What::Feed { status: wire::STATUS_OK, body: Body { kind: Kind::Streams, seed: 5, damage }, len: PAGE };
+    let mut all = life()[..8].to_vec();
+    all[4] = inputs;
+    all.extend([start(14, 5), quiet.clone(), capture_turn(14, 0, 10, wire::STATUS_OK)]);
+    all.extend([capture_turn(14, 1, 12, 0x8003), What::Drain { kind: 1, slot: 2, status: 0 }]);
+    all.extend([start(12, 9), capture_turn(12, 0, 12, wire::STATUS_OK), capture_turn(12, 1, 7, wire::STATUS_OK)]);
+    all.extend([start(14, 2), quiet.clone(), quiet]);
+    all.extend([0, 1].map(|slot| What::Drain { kind: 1, slot, status: 0 }));
+    all.push(What::Start { stream: 0, frames: 10, budget: 5 });
+    all
+}
+
+/// Captures of each length around a period of 4 and a recording of 14.
+fn captures() -> Vec<What> {
+    let mut all = vec![What::Read(Asked::Kept)];
+    for (stream, periods, recording, budget) in
+        [(0, 3, 12, 5), (0, 3, 11, 5), (0, 3, 11, 0), (0, 1 << 62, 20, 5), (1, 3, 12, 5), (2, 3, 12, 5), (0, 0, 0, 1)]
+    {
+        all.push(What::CaptureStart { stream, periods, recording, budget });
+    }
+    for recording in [10, 12, 13, 14] {
+        all.push(What::CaptureOffered { recording });
+        all.push(What::CaptureTurn { recording, kind: 0, slot: 9, written: 9, status: 0, lent: 0 });
+        all.extend((0..3).map(|slot| capture_turn(recording, slot, 9, wire::STATUS_OK)));
+    }
+    for written in [0, 7, 8, 12, 13, u32::MAX] {
+        for lent in [0, 7, 8, 11, 12, 13] {
+            let (recording, status) = (14, if lent == 13 { 0x8003 } else { wire::STATUS_OK });
+            all.push(What::CaptureTurn { recording, kind: 2, slot: 0, written, status, lent });
+        }
+    }
     all
 }
 
@@ -198,15 +243,19 @@ fn damages() -> Vec<Damage> {
 pub fn all() -> Result<u64, String> {
     let all = |_: usize| true;
     let lives = along(life(), "life", all)? + along(guarded_life(), "guarded_life", all)?;
-    Ok(lives + along(pending_life(), "pending_life", |at| PENDING_STAGES.contains(&at))?)
+    let captures = along(capture_life(), "capture_life", |at| at >= CAPTURES_FROM)?;
+    Ok(lives + captures + along(pending_life(), "pending_life", |at| PENDING_STAGES.contains(&at))?)
 }
 
 /// Of the third, where one token is out, where one is marked, where all are out, where all are marked, and where a transfer runs again.
 const PENDING_STAGES: [usize; 5] = [8, 10, 26, 42, 59];
 
+/// Of the one of captures, from the first of them on.
+const CAPTURES_FROM: usize = 8;
+
 /// Tries every entry at those stages of a life that are looked at.
 fn along(life: Vec<What>, name: &str, looked: impl Fn(usize) -> bool) -> Result<u64, String> {
-    let whats = [calls(), rings(), pendings(), others()].concat();
+    let whats = [calls(), rings(), captures(), pendings(), others()].concat();
     let mut count = 0;
     let mut pair = Pair::new();
     for (at, step) in life.into_iter().enumerate() {

@@ -5,12 +5,13 @@
 //!
 //! STEP = CALL [< ANSWER ..]. Calls: `remap JACK ASSOCIATION SEQUENCE`, `set STREAM BUFFER PERIOD FEATURES CHANNELS FORMAT RATE`,
 //! `prepare|release|start|stop STREAM`, `outputs`, `inputs`, `rates|formats|channels|features STREAM`, `counts`,
-//! `xfer STREAM LENGTH.SEED BUDGET READING ..`, `drain READING ..`, `submit STREAM LENGTH.SEED PLACES` (which does not wait, with so many
+//! `xfer STREAM LENGTH.SEED BUDGET READING ..`, `capture STREAM PERIODS LENGTH.SEED BUDGET HEARD ..`, `drain READING ..`, `submit STREAM LENGTH.SEED PLACES` (which does not wait, with so many
 //! bytes of places), `mark READING ..` (of the tokens that wait), `finish TOKEN`, `event BYTES|none`, `ctl BYTES`, `tx BYTES` (the last two to the
 //! model device). ANSWER: STATUS[.KINDSEED][/WROTE][~PLACE=BYTE ..] with KIND n, j, s, m for noise or good records, `F` for the queue's
 //! failure, `M` for the model. READING: `q`, `o[:STATUS]` oldest, `kN[:STATUS]` N-th later, `sN[:STATUS]` slot N, `d` device; each may
-//! end in `*TIMES`. Statuses and bytes are hexadecimal; `-` is no bytes.
-use crate::case::{Answer, Body, Case, Frames, Kind, Reading, Step};
+//! end in `*TIMES`. HEARD: READING[@WRITTEN[/LENT]], the length that the device says it wrote and how many bytes are lent, as many where it is
+//! not named. Statuses and bytes are hexadecimal; `-` is no bytes.
+use crate::case::{Answer, Body, Case, Frames, Heard, Kind, Reading, Step};
 use oracle::Tokens;
 use rules::sound::{Call, Params};
 use rules::wire;
@@ -85,32 +86,59 @@ fn reading_text(reading: Reading) -> String {
     }
 }
 
-fn readings_text(readings: &[Reading]) -> String {
-    let runs = readings.chunk_by(|a, b| a == b);
+fn heard_text(heard: Heard) -> String {
+    let reading = reading_text(heard.reading);
+    match heard {
+        Heard { written: 0, lent: 0, .. } => reading,
+        Heard { written, lent, .. } if written == lent => format!("{reading}@{written}"),
+        Heard { written, lent, .. } => format!("{reading}@{written}/{lent}"),
+    }
+}
+
+/// Equal ones that follow each other are one word.
+fn runs_text<T: Copy + PartialEq>(all: &[T], text: fn(T) -> String) -> String {
+    let runs = all.chunk_by(|a, b| a == b);
     let text = runs.map(|run| match run.len() {
-        1 => format!(" {}", reading_text(run[0])),
-        n => format!(" {}*{n}", reading_text(run[0])),
+        1 => format!(" {}", text(run[0])),
+        n => format!(" {}*{n}", text(run[0])),
     });
     text.collect()
 }
 
-fn readings_of(words: &[&str]) -> Vec<Reading> {
-    let mut readings = vec![];
+fn readings_text(readings: &[Reading]) -> String {
+    runs_text(readings, reading_text)
+}
+
+fn runs_of<T: Copy>(words: &[&str], of: fn(&str) -> T) -> Vec<T> {
+    let mut all = vec![];
     for word in words {
         let (word, times) = word.split_once('*').map_or((*word, 1), |(word, n)| (word, number(n)));
-        let (name, status) = word.split_once(':').unwrap_or((word, "8000"));
-        let status = u32::from_str_radix(status, 16).expect("a status");
-        let reading = match name.split_at(1) {
-            ("q", _) => Reading::Quiet,
-            ("d", _) => Reading::Device,
-            ("o", _) => Reading::Oldest { status },
-            ("k", k) => Reading::Later { k: number(k), status },
-            ("s", slot) => Reading::Slot { slot: number(slot), status },
-            _ => panic!("{word} is no reading"),
-        };
-        readings.extend(std::iter::repeat_n(reading, times));
+        all.extend(std::iter::repeat_n(of(word), times));
     }
-    readings
+    all
+}
+
+fn reading_of(word: &str) -> Reading {
+    let (name, status) = word.split_once(':').unwrap_or((word, "8000"));
+    let status = u32::from_str_radix(status, 16).expect("a status");
+    match name.split_at(1) {
+        ("q", _) => Reading::Quiet,
+        ("d", _) => Reading::Device,
+        ("o", _) => Reading::Oldest { status },
+        ("k", k) => Reading::Later { k: number(k), status },
+        ("s", slot) => Reading::Slot { slot: number(slot), status },
+        _ => panic!("{word} is no reading"),
+    }
+}
+
+fn readings_of(words: &[&str]) -> Vec<Reading> {
+    runs_of(words, reading_of)
+}
+
+fn heard_of(word: &str) -> Heard {
+    let (reading, lengths) = word.split_once('@').unwrap_or((word, "0"));
+    let (written, lent) = lengths.split_once('/').unwrap_or((lengths, lengths));
+    Heard { reading: reading_of(reading), written: number(written), lent: number(lent) }
 }
 
 const COMMANDS: [(&str, u32); 4] =
@@ -134,6 +162,7 @@ fn call_text(call: &Call) -> String {
         Call::ChannelRange(stream) => format!("channels {stream}"),
         Call::Features(stream) => format!("features {stream}"),
         Call::Transfer(stream) => format!("xfer {stream}"),
+        Call::Capture(stream) => format!("capture {stream}"),
     }
 }
 
@@ -172,6 +201,10 @@ pub fn step_text(step: &Step) -> String {
             let start = format!("xfer {stream} {}.{} {budget}", frames.len, frames.seed);
             start + &readings_text(readings) + &answers_text(answers)
         }
+        Step::Capture { stream, periods, recording, budget, heard, answers } => {
+            let start = format!("capture {stream} {periods} {}.{} {budget}", recording.len, recording.seed);
+            start + &runs_text(heard, heard_text) + &answers_text(answers)
+        }
         Step::Drain(readings) => "drain".to_string() + &readings_text(readings),
         Step::Submit { stream, payload, places, answers } => {
             format!("submit {stream} {}.{} {places}", payload.len, payload.seed) + &answers_text(answers)
@@ -206,6 +239,11 @@ pub fn step_of(text: &str) -> Step {
             let frames = frames_of(words[2]);
             let readings = readings_of(&words[4..]);
             Step::Transfer { stream: number(words[1]), frames, budget: number(words[3]), readings, answers }
+        }
+        "capture" => {
+            let (recording, heard) = (frames_of(words[3]), runs_of(&words[5..], heard_of));
+            let (stream, periods, budget) = (number(words[1]), number(words[2]), number(words[4]));
+            Step::Capture { stream, periods, recording, budget, heard, answers }
         }
         "drain" => Step::Drain(readings_of(&words[1..])),
         "event" => Step::Event((words[1] != "none").then(|| unhex(words[1]))),

@@ -1,7 +1,7 @@
 //! The comparison in small, for `cargo test`; the gate's run is the program's own.
 use compare::run::{Counts, With, report, run};
 use compare::{
-    guarded, judge::Intended, pending, random, raw, record, rust, short, shown, stages, text, versions, waves,
+    captures, guarded, judge::Intended, pending, random, raw, record, rust, short, shown, stages, text, versions, waves,
 };
 
 const WITH: With = With { rust: oracle::AT_HAND, port: true };
@@ -15,7 +15,8 @@ fn agrees(case: compare::case::Case) {
 #[test]
 fn a_case_is_its_text() {
     for seed in 0..400 {
-        for case in [random::case(seed), random::strict(seed), random::guarded(seed), random::pending(seed)] {
+        let cases = [random::case(seed), random::strict(seed), random::guarded(seed), random::pending(seed)];
+        for case in cases.into_iter().chain([random::capture(seed)]) {
             assert_eq!(text::case_of(&text::case_text(&case)), case);
         }
     }
@@ -42,6 +43,14 @@ fn drivers_agree() {
     pending::meanwhile(&mut agrees);
     pending::played(&mut agrees);
     (0..200).for_each(|seed| agrees(random::pending(seed)));
+}
+
+#[test]
+fn captures_agree() {
+    for group in [captures::lengths, captures::orders, captures::set_ups, captures::owed] {
+        group(&mut agrees);
+    }
+    (0..300).for_each(|seed| agrees(random::capture(seed)));
 }
 
 #[test]

@@ -1,6 +1,7 @@
 //! The C entries over the rules: the order of refusals, the lent stores and the result slice
 //! (host/include/snd.h says what each answers and writes).
 
+use crate::capture::Heard;
 use crate::event::{Event, latest_notification};
 use crate::model::Model;
 use crate::ring::{Reading, Ring, Turn};
@@ -8,7 +9,7 @@ use crate::sound::{Call, Fed, Say, Sound, Value};
 use crate::*;
 
 pub const STATE_SIZE: usize = 14703;
-pub const RING_SIZE: usize = 608;
+pub const RING_SIZE: usize = 628;
 /// Where the reserved bytes of a state's and of a ring's store stand.
 pub const STATE_RESERVED: usize = 48;
 pub const RING_RESERVED: usize = 80;
@@ -125,6 +126,23 @@ pub fn xfer_start(
     Ok(said(say, &mut []))
 }
 
+/// The recording's length is not among the first: it is "the last check before the first turn".
+pub fn capture_start(
+    state: Store<&mut Sound>,
+    ring: Store<&mut Ring>,
+    stream: u32,
+    periods: u64,
+    recording_len: usize,
+    budget: u64,
+    message: &mut [u8],
+) -> Answer {
+    let stores = state.len >= STATE_SIZE && ring.len >= RING_SIZE;
+    lengths(stores && message.len() >= MESSAGE)?;
+    let (state, ring) = (state.known()?, ring.known()?);
+    let say = state.capture_start(ring, stream, periods, recording_len as u64, budget, message);
+    Ok(said(say, &mut []))
+}
+
 /// Neither the payload's length nor that of the places is among the first: the call has its own order for them.
 pub fn pcm_xfer_nb(
     state: Store<&mut Sound>,
@@ -188,6 +206,22 @@ pub fn turn(ring: Store<&mut Ring>, frames_len: usize, reading: Reading) -> Answ
     }
 }
 
+/// Result: there 8, slot 8, length 8.
+pub fn capture_offered(ring: Store<&Ring>, recording_len: usize, result: &mut [u8]) -> Answer {
+    lengths(ring.len >= RING_SIZE && result.len() >= RESULT_SIZE)?;
+    let offer = ring.known()?.capture_offered(recording_len as u64).map_err(u64::from)?;
+    put(result, &offer.map_or([0; 3], |offer| [1, offer.slot, offer.length]));
+    Ok(OK as u64)
+}
+
+pub fn capture_turn(ring: Store<&mut Ring>, recording: &mut [u8], heard: Heard) -> Answer {
+    lengths(ring.len >= RING_SIZE)?;
+    match ring.known()?.capture_turn(recording, heard) {
+        Turn::Going => Ok(GOING),
+        Turn::Ended(said) => Ok(said.answer()),
+    }
+}
+
 pub fn drain_turn(ring: Store<&mut Ring>, reading: Reading) -> Answer {
     lengths(ring.len >= RING_SIZE)?;
     Ok(ring.known()?.drain_turn(reading) as u64)
@@ -203,6 +237,7 @@ pub enum Asked {
     Stream,
     Carried(usize),
     Oldest,
+    Kept,
 }
 
 pub fn ring_read(ring: Store<&Ring>, asked: Asked, result: &mut [u8]) -> Answer {
@@ -217,6 +252,7 @@ pub fn ring_read(ring: Store<&Ring>, asked: Asked, result: &mut [u8]) -> Answer 
         Asked::FreeDescriptors => put(result, &[ring.free()]),
         Asked::TurnsRun => put(result, &[ring.turns]),
         Asked::Stream => put(result, &[ring.stream as u64]),
+        Asked::Kept => put(result, &[ring.kept]),
         Asked::Oldest => put(result, &[ring.oldest().is_some() as u64, ring.oldest().unwrap_or(0)]),
         Asked::Carried(slot) => match ring.slots.get(slot) {
             None => return Err(INVALID_PARAM as u64),

@@ -2,10 +2,11 @@
 //! it leaves open) and from nothing else. The port and the Rust driver are both held to it by `compare`.
 //! Of document 02 these requests are read here too: 2026-01, feeds that carry the length the device wrote; 2026-02, the guard
 //! over a stream's lifecycle; 2026-03, announcements from WAV; 2026-05, the device's status in 2 and 3;
-//! 2026-06, submissions that do not wait; 2026-08, VirtIO 1.3 beside 1.2.
+//! 2026-06, submissions that do not wait; 2026-08, VirtIO 1.3 beside 1.2; 2026-09, microphones.
 //!
 //! Clarity before speed: tables are vectors, refusals are numbers.
 
+pub mod capture;
 pub mod entries;
 pub mod event;
 pub mod life;
@@ -40,6 +41,8 @@ pub const BAD_SOUND: u8 = 14;
 /// Of submissions that do not wait: no place is free; finishing one that is not marked.
 pub const FULL: u8 = 15;
 pub const NOT_YET: u8 = 16;
+/// Of captures only: a written length under 8 or above period plus 8.
+pub const BAD_CAPTURE: u8 = 17;
 
 /// The answer page.
 pub const PAGE: usize = 4096;

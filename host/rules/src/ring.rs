@@ -1,4 +1,4 @@
-//! Turns of a transfer.
+//! Turns of a transfer, of either way.
 
 use crate::status::{Status, Verdict};
 use crate::{BAD_LENGTH, BUSY, INVALID_PARAM, OUT_OF_TURNS, RESERVED, WRONG_TOKEN};
@@ -8,11 +8,24 @@ pub const SLOTS: usize = 32;
 pub const PER: u64 = 3;
 const LEAST: u64 = 3;
 
+/// Which way a transfer goes.
+#[derive(Copy, Clone, Debug, PartialEq, Eq)]
+pub enum Way {
+    Playback,
+    Capture,
+}
+
 #[derive(Clone, Debug, PartialEq, Eq)]
 pub struct Ring {
     pub running: bool,
+    pub way: Way,
     pub stream: u32,
+    /// what is cut into periods: the frames, or all that a capture asks for
     pub frames_len: u64,
+    /// how long the frames, or the recording, were at the start
+    pub lent: u64,
+    /// the accepted bytes of a recording
+    pub kept: u64,
     pub period: u64,
     pub budget: u64,
     pub turns: u64,
@@ -68,8 +81,11 @@ impl Default for Ring {
     fn default() -> Self {
         Ring {
             running: false,
+            way: Way::Playback,
             stream: 0,
             frames_len: 0,
+            lent: 0,
+            kept: 0,
             period: 0,
             budget: 0,
             turns: 0,
@@ -91,6 +107,7 @@ impl Ring {
             && self.reserved == [0; RESERVED]
             && self.head == (self.tail + self.in_flight) % slots
             && self.next <= self.frames_len
+            && self.kept <= self.lent
             && (!self.running || (self.period > 0 && self.turns < self.budget))
     }
 
@@ -107,30 +124,41 @@ impl Ring {
         (self.in_flight > 0).then_some(self.tail)
     }
 
-    /// A transfer whose stream and period passed their checks begins; slots keep what they carried.
+    /// A transfer whose stream and period passed their checks begins.
     pub fn start(&mut self, stream: u32, frames_len: u64, period: u64, budget: u64) -> Turn {
-        if self.busy() {
-            return Turn::ended(BUSY);
+        if let Some(number) = self.bars_start(budget) {
+            return Turn::ended(number);
         }
-        if budget == 0 {
-            return Turn::ended(OUT_OF_TURNS);
+        self.begin(Ring { stream, frames_len, lent: frames_len, period, budget, ..Ring::default() })
+    }
+
+    /// Why a transfer of any way cannot begin.
+    pub(crate) fn bars_start(&self, budget: u64) -> Option<u8> {
+        match budget {
+            _ if self.busy() => Some(BUSY),
+            0 => Some(OUT_OF_TURNS),
+            _ => None,
         }
-        *self = Ring { running: true, stream, frames_len, period, budget, slots: self.slots, ..Ring::default() };
+    }
+
+    /// Slots keep what they carried.
+    pub(crate) fn begin(&mut self, start: Ring) -> Turn {
+        *self = Ring { running: true, slots: self.slots, ..start };
         Turn::Going
     }
 
-    /// Why a turn with frames of this length would be refused.
-    fn bars(&self, frames_len: u64) -> Option<u8> {
-        if self.running && frames_len != self.frames_len {
+    /// Why a turn of this way, lent frames or a recording of this length, would be refused.
+    pub(crate) fn bars(&self, way: Way, lent: u64) -> Option<u8> {
+        if self.running && lent != self.lent {
             Some(BAD_LENGTH)
-        } else if !self.consistent() || !self.running {
+        } else if !self.consistent() || !self.running || self.way != way {
             Some(INVALID_PARAM)
         } else {
             None
         }
     }
 
-    fn next_offer(&self) -> Option<Offer> {
+    pub(crate) fn next_offer(&self) -> Option<Offer> {
         let room = self.free() >= LEAST;
         (room && self.next < self.frames_len).then(|| Offer {
             slot: self.head,
@@ -140,7 +168,7 @@ impl Ring {
     }
 
     pub fn offered(&self, frames_len: u64) -> Result<Option<Offer>, u8> {
-        match self.bars(frames_len) {
+        match self.bars(Way::Playback, frames_len) {
             Some(number) => Err(number),
             None => Ok(self.next_offer()),
         }
@@ -157,9 +185,22 @@ impl Ring {
     }
 
     pub fn turn(&mut self, frames_len: u64, reading: Reading) -> Turn {
-        if let Some(number) = self.bars(frames_len) {
+        if let Some(number) = self.bars(Way::Playback, frames_len) {
             return Turn::ended(number);
         }
+        match reading {
+            Reading::Quiet => self.ruled(None, |_| Ok(())),
+            Reading::Completed { slot, status } => self.ruled(Some(slot), |_| Status::read(status).judged()),
+        }
+    }
+
+    /// The rules of one turn of either way: "turn order, ring and budget are playback's, by one shared statement". The judgement of a
+    /// completion is the way's own; it comes when the slot is the oldest, which is freed whatever it says.
+    pub(crate) fn ruled(
+        &mut self,
+        completed: Option<u32>,
+        judge: impl FnOnce(&mut Self) -> Result<(), Verdict>,
+    ) -> Turn {
         self.turns += 1;
         // 1. submit a period, or end where none remains and nothing is in flight
         if let Some(offer) = self.next_offer() {
@@ -171,12 +212,12 @@ impl Ring {
             return self.end(crate::OK);
         }
         // 2. the reading
-        if let Reading::Completed { slot, status } = reading {
+        if let Some(slot) = completed {
             if self.oldest() != Some(slot as u64) {
                 return self.end(WRONG_TOKEN);
             }
             self.free_oldest();
-            if let Err(refused) = Status::read(status).judged() {
+            if let Err(refused) = judge(self) {
                 return self.end(refused);
             }
         }

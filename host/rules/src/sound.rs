@@ -2,7 +2,7 @@
 
 use crate::life::{self, Life};
 use crate::pending::Pending;
-use crate::ring::{Ring, Turn};
+use crate::ring::{Ring, Turn, Way};
 use crate::status::{Status, Verdict};
 use crate::wire::{self, u32_at, u64_at};
 use crate::*;
@@ -43,6 +43,8 @@ pub enum Call {
     Features(u32),
     /// a transfer that had to begin set-up
     Transfer(u32),
+    /// a capture that had to
+    Capture(u32),
 }
 
 #[derive(Copy, Clone, Debug, PartialEq, Eq)]
@@ -276,16 +278,15 @@ impl Sound {
             Call::Remap { jack, association, sequence } => self.own_remap(jack, association, sequence),
             Call::SetParams { stream, params } => self.own_set(stream, params),
             Call::Command { code, stream } => self.own_command(code, stream),
-            Call::OutputStreams => done(Value::Streams(self.streams_of(0))),
-            Call::InputStreams => done(Value::Streams(self.streams_of(1))),
+            Call::OutputStreams => done(Value::Streams(self.streams_of(wire::OUTPUT))),
+            Call::InputStreams => done(Value::Streams(self.streams_of(wire::INPUT))),
             Call::Features(s) => self.of_stream(s, |r| Value::Bits(u32_at(r, 4) as u64)),
             Call::Formats(s) => self.of_stream(s, |r| Value::Bits(u64_at(r, 8))),
             Call::Rates(s) => self.of_stream(s, |r| Value::Bits(u64_at(r, 16))),
             Call::ChannelRange(s) => self.of_stream(s, |r| Value::Range(r[25], r[26])),
-            Call::Transfer(s) if s >= self.counts[1] => refuse(INVALID_PARAM),
-            Call::Transfer(s) if self.bars_transfers(s) => refuse(BAD_STATE),
             // no stream has parameters before set-up is done
-            Call::Transfer(_) => refuse(IO_ERROR),
+            Call::Transfer(s) => refuse(self.bars_transfers(Way::Playback, s).unwrap_or(IO_ERROR)),
+            Call::Capture(s) => refuse(self.bars_transfers(Way::Capture, s).unwrap_or(IO_ERROR)),
         };
         if let Plan::Ask(_) = plan {
             self.open = Some((Awaits::Own, call));
@@ -322,8 +323,17 @@ impl Sound {
         self.guard && !life::permits(self.lives[stream as usize], code)
     }
 
-    fn bars_transfers(&self, stream: u32) -> bool {
-        self.guard && !life::takes_transfers(self.lives[stream as usize])
+    /// Why no transfer of this way is taken of a stream, set-up done: the stream range, its state "right after" it, and of a capture
+    /// "stream direction not 1 gives 1, after the range check".
+    fn bars_transfers(&self, way: Way, stream: u32) -> Option<u8> {
+        if stream >= self.counts[1] {
+            return Some(INVALID_PARAM);
+        }
+        if self.guard && !life::takes_transfers(self.lives[stream as usize]) {
+            return Some(BAD_STATE);
+        }
+        (way == Way::Capture && self.tables[1][stream as usize][wire::DIRECTION] != wire::INPUT)
+            .then_some(INVALID_PARAM)
     }
 
     fn own_set(&self, stream: u32, p: Params) -> Plan {
@@ -340,7 +350,7 @@ impl Sound {
 
     fn streams_of(&self, direction: u8) -> Vec<u32> {
         let numbered = (0u32..).zip(&self.tables[1]);
-        numbered.filter(|(_, r)| r[24] == direction).map(|(i, _)| i).collect()
+        numbered.filter(|(_, r)| r[wire::DIRECTION] == direction).map(|(i, _)| i).collect()
     }
 
     fn of_stream(&self, stream: u32, value: impl Fn(&[u8]) -> Value) -> Plan {
@@ -415,11 +425,12 @@ impl Sound {
         }
     }
 
-    /// What a transfer and a submission that does not wait test alike: Busy, set-up, stream range, its state under the guard, parameters
-    /// set. What is said where they fail, or those parameters.
+    /// What a transfer of either way and a submission that does not wait test alike: Busy, set-up, what bars the stream, parameters set.
+    /// What is said where they fail, or those parameters.
     pub(crate) fn transfer_checks(
         &mut self,
         ring: &Ring,
+        way: Way,
         stream: u32,
         busy: bool,
         message: &mut [u8],
@@ -434,19 +445,22 @@ impl Sound {
             return Err(Say::refused(BUSY));
         }
         if !self.set_up {
-            let plan = self.begin(Call::Transfer(stream));
+            let call = if way == Way::Playback { Call::Transfer(stream) } else { Call::Capture(stream) };
+            let plan = self.begin(call);
             return Err(finish(plan, message));
         }
-        if stream >= self.counts[1] {
-            return Err(Say::refused(INVALID_PARAM));
-        }
-        if self.bars_transfers(stream) {
-            return Err(Say::refused(BAD_STATE));
+        if let Some(number) = self.bars_transfers(way, stream) {
+            return Err(Say::refused(number));
         }
         self.params.get(&stream).copied().ok_or(Say::refused(IO_ERROR))
     }
 
-    /// "A blocking transfer while any is pending is Busy"; after the tests of its stream comes the budget.
+    /// "A blocking transfer while any is pending is Busy."
+    pub(crate) fn busy_for_transfers(&self, ring: &Ring) -> bool {
+        self.busy(ring) || self.pending.count() > 0
+    }
+
+    /// After the tests of its stream comes the budget.
     pub fn xfer_start(
         &mut self,
         ring: &mut Ring,
@@ -455,12 +469,19 @@ impl Sound {
         budget: u64,
         message: &mut [u8],
     ) -> Say {
-        let busy = self.busy(ring) || self.pending.count() > 0;
-        let params = match self.transfer_checks(ring, stream, busy, message) {
+        let busy = self.busy_for_transfers(ring);
+        let params = match self.transfer_checks(ring, Way::Playback, stream, busy, message) {
             Ok(params) => params,
             Err(say) => return say,
         };
-        match ring.start(stream, frames_len, params.period as u64, budget) {
+        ring.start(stream, frames_len, params.period as u64, budget).into()
+    }
+}
+
+/// Of a start: it goes on, or is refused.
+impl From<Turn> for Say {
+    fn from(turn: Turn) -> Self {
+        match turn {
             Turn::Going => Say::Going,
             Turn::Ended(why) => Say::Refused(why),
         }

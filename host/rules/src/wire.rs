@@ -7,6 +7,10 @@ pub const PCM: usize = 32;
 pub const MAP: usize = 24;
 /// The sizes of a table's record: jacks, streams, maps.
 pub const SIZES: [usize; 3] = [JACK, PCM, MAP];
+/// Where a PCM info has its direction, and the two that have a name.
+pub const DIRECTION: usize = 24;
+pub const OUTPUT: u8 = 0;
+pub const INPUT: u8 = 1;
 /// The codes of the three queries.
 pub const QUERIES: [u32; 3] = [1, 0x0100, 0x0200];
 pub const REMAP: u32 = 2;
