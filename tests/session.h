@@ -2,7 +2,7 @@
  * which makes a call and gives its answer; all that calls may change stands in `s`. A call's arguments may be evaluated more than once. */
 #include "snd.h"
 
-enum { JACKS = 3, STREAMS = 2, MAPS = 1, FRAMES = 40000, PERIOD = 48 };
+enum { JACKS = 3, STREAMS = 2, MAPS = 1, FRAMES = 40000, PERIOD = 48, RECORDED = 12 };
 
 /* Everything that a call may change. */
 struct stores {
@@ -10,6 +10,7 @@ struct stores {
     uint8_t state[SND_STATE_SIZE], ring[SND_RING_SIZE], message[SND_MESSAGE_SIZE], result[SND_RESULT_SIZE];
     uint8_t page[SND_PAGE_SIZE], model[SND_MODEL_SIZE], status[8], file[64];
     uint8_t places[SND_PLACES * (4 + PERIOD) + 5];
+    uint8_t recording[RECORDED * PERIOD + 3];
 };
 
 static struct stores s;
@@ -23,6 +24,7 @@ static uint8_t frames[FRAMES];
 #define MODEL s.model, sizeof s.model
 #define WAVE s.file, sizeof s.file
 #define PLACES s.places, sizeof s.places
+#define RECORDING s.recording, sizeof s.recording
 
 /* Hands each request to the model device and feeds its answer, until the call says something else. */
 static uint64_t answered(uint64_t said) {
@@ -161,12 +163,55 @@ static void go_on(void) {
     }
 }
 
+/* A turn of a capture, whose device wrote so much with this status behind it; where it can, the bytes of the frames from a place on. */
+static uint64_t heard(uint32_t slot, uint32_t written, uint32_t status) {
+    static uint8_t buffer[PERIOD + 8];
+    for (uint32_t i = 0; i < sizeof buffer; i++)
+        buffer[i] = frames[9 * slot + i];
+    if (written >= 8 && written <= sizeof buffer)
+        memcpy(buffer + written - 8, &status, 4);
+    CALL(snd_capture_offered, RING, RECORDING, RESULT);
+    return CALL(snd_capture_turn, RING, RECORDING, 1, slot, written, buffer, sizeof buffer);
+}
+
+static void begun(uint64_t budget) {
+    CALL(snd_pcm_capture_start, STATE, RING, 1, RECORDED, RECORDING, budget, MESSAGE);
+}
+
+/* Captures: whole and short periods to the end, and each way to be refused. */
+static void record(void) {
+    begun(9); /* no parameters */
+    answered(CALL(snd_pcm_set_params, STATE, RING, 1, 2 * PERIOD, PERIOD, 0, 2, 5, 7, MESSAGE, RESULT));
+    CALL(snd_pcm_capture_start, STATE, RING, 0, RECORDED, RECORDING, 9, MESSAGE);     /* an output */
+    CALL(snd_pcm_capture_start, STATE, RING, 1, RECORDED + 1, RECORDING, 9, MESSAGE); /* no room */
+    begun(0);
+    begun(99);
+    CALL(snd_capture_turn, RING, s.recording, PERIOD, 0, 0, 0, frames, 0);    /* another length */
+    CALL(snd_capture_turn, RING, RECORDING, 1, 0, PERIOD + 8, frames, PERIOD); /* too few bytes */
+    CALL(snd_turn, RING, frames, sizeof s.recording, 0, 0, 0);                 /* no playback */
+    CALL(snd_capture_turn, RING, RECORDING, 0, 0, 0, frames, 0);               /* quiet */
+    for (uint32_t i = 0; i < RECORDED; i++)
+        heard(i, i % 3 == 1 ? 8 + i : PERIOD + 8, 0x8000);
+    CALL(snd_capture_turn, RING, RECORDING, 0, 0, 0, frames, 0); /* done */
+    CALL(snd_ring_kept, RING, RESULT);
+    begun(99);
+    heard(0, PERIOD + 9, 0x8000); /* BadCapture */
+    begun(99);
+    heard(0, 8, 0x8003); /* the device failed it */
+    begun(99);
+    heard(1, PERIOD + 8, 0x8000); /* another slot */
+    CALL(snd_drain_turn, RING, 1, 0, 0);
+    CALL(snd_capture_turn, RING, RECORDING, 0, 0, 0, frames, 0); /* nothing runs */
+}
+
 static void strict(void) {
     CALL(snd_new, STATE, JACKS, STREAMS, MAPS);
     answered_in(4, CALL(snd_jack_remap, STATE, RING, 0, 1, 2, MESSAGE, RESULT)); /* headers alone: no jacks, and Short for the streams */
     answered_in(SND_PAGE_SIZE, CALL(snd_pcm_set_params, STATE, RING, 0, 8192, 2048, 0, 2, 5, 7, MESSAGE, RESULT));
     CALL(snd_new, STATE, JACKS, STREAMS, MAPS);
     answered_in(SND_PAGE_SIZE, CALL(snd_pcm_xfer_nb, STATE, RING, 0, frames, PERIOD, PLACES, MESSAGE, RESULT)); /* set-up, and no parameters */
+    CALL(snd_new, STATE, JACKS, STREAMS, MAPS);
+    answered_in(SND_PAGE_SIZE, CALL(snd_pcm_capture_start, STATE, RING, 1, RECORDED, RECORDING, 9, MESSAGE)); /* the same of a capture */
     answered_in(3, CALL(snd_pcm_prepare, STATE, RING, 0, MESSAGE, RESULT)); /* Short */
     CALL(snd_pcm_prepare, STATE, RING, 0, MESSAGE, RESULT);
     CALL(snd_feed_written, STATE, PAGE, SND_PAGE_SIZE + 1, MESSAGE, RESULT); /* no page has so many bytes */
@@ -246,6 +291,7 @@ static void session(void) {
     transfer(100, 7);
     transfer(5, ~0u);
     go_on();
+    record();
     others();
     guarded();
     waves();

@@ -1,14 +1,15 @@
 /* The driver's C entries. docs/BOUNDARY.md says what each answers and writes.
  *
  * Every entry answers one number: the answer's own in its low 32 bits, SND_NUMBER. 0 to 10 are
- * document 01's answers, 11 to 16 are document 02's; a request of n bytes to send is SND_SEND + n; a turn
+ * document 01's answers, 11 to 17 are document 02's; a request of n bytes to send is SND_SEND + n; a turn
  * that goes on is SND_GOING; an event that says nothing is SND_NOTHING. Of 2 and 3 the high 32 bits,
  * SND_STATUS, are the status by which the device refused, or SND_NO_STATUS; of every other answer 0.
  *
  * A slice is a pointer and a length; an empty one may have any pointer but NULL. Slices that are
  * written must not overlap any other. Any bytes at all are safe to pass: a store that is too short
  * is refused with 10, one that is inconsistent with 1, and a refusal leaves every lent byte as it
- * was, but for what document 01 names: 2, 6 and 9 end a transfer, and a feed ends its exchange.
+ * was, but for what the documents name: 2, 6 and 9 end a transfer, as 17 does a capture, which keeps
+ * what it had accepted before; and a feed ends its exchange.
  * Numbers in results are least byte first.
  *
  * The caller's duties, which no entry can test: as many bytes as a length says are there, at most
@@ -31,7 +32,7 @@ extern "C" {
 /* The version of this header and of the archive beside it: docs/BOUNDARY.md says when it changes.
  * As one number it can be compared by #if. */
 #define SND_VERSION_MAJOR 0u
-#define SND_VERSION_MINOR 7u
+#define SND_VERSION_MINOR 8u
 #define SND_VERSION_PATCH 0u
 #define SND_VERSION (SND_VERSION_MAJOR * 1000000u + SND_VERSION_MINOR * 1000u + SND_VERSION_PATCH)
 
@@ -52,6 +53,7 @@ extern "C" {
 #define SND_BAD_SOUND 14u
 #define SND_FULL 15u
 #define SND_NOT_YET 16u
+#define SND_BAD_CAPTURE 17u
 #define SND_SEND 256u
 #define SND_GOING 512u
 #define SND_NOTHING 513u
@@ -67,7 +69,7 @@ extern "C" {
 
 /* Sizes of the stores and buffers, the same as the entries below hand out. */
 #define SND_STATE_SIZE 14703u
-#define SND_RING_SIZE 608u
+#define SND_RING_SIZE 628u
 #define SND_MESSAGE_SIZE 24u
 #define SND_RESULT_SIZE 512u
 #define SND_PAGE_SIZE 4096u
@@ -164,7 +166,37 @@ uint64_t snd_turn(uint8_t *ring, size_t ring_len, const uint8_t *frames, size_t 
                   uint32_t kind, uint32_t slot, uint32_t status);
 uint64_t snd_drain_turn(uint8_t *ring, size_t ring_len, uint32_t kind, uint32_t slot, uint32_t status);
 
-/* Reads of the ring. Result: a number, 8; of a slot its offset 8 and length 8; of the oldest there 8, slot 8. */
+/* A capture: a transfer that goes the other way, on a stream of direction 1. Its ring, turn order and
+ * budget are a playback's, and drain turns and reads are the same; a playback's turn or offer on a
+ * ring that runs a capture, and the other way round, is 1.
+ *
+ * The start takes how many whole periods are submitted, and of the recording only its length, which is
+ * then that of every turn. SND_GOING, a request of set-up, or a refusal, in this order: 10 of message,
+ * state or ring; 1 an inconsistent store; 8 also where a token is pending; set-up; 1 stream too high;
+ * 12 under the guard; 1 a stream that is no input; 2 no parameters; 9 budget 0; 10 a recording that is
+ * shorter than the periods.
+ *
+ * What the next turn submits (result: there 8, slot 8, length 8): 4 bytes of stream id for the device to
+ * read, then a period of that length and 8 bytes of status for it to write, in a buffer of the host's
+ * own, never in the recording. The buffer is the device's until the slot is freed.
+ *
+ * A turn takes what was seen. Kind 0 is a quiet reading, any other a completed slot with the length that
+ * the queue reports as written, as it stands there, and the buffer's bytes: the payload, which is the
+ * first written - 8, and then the status. 10 a recording that is not as long as at the start, or fewer
+ * bytes lent than were written, as far as a period and 8 go; 1 no capture runs; neither counts. Then 6
+ * another slot than the oldest; 17 written under 8 or above period + 8; 2 a status that is not ok; 9.
+ * 17 and 2 free the slot and accept nothing. An accepted payload is copied behind what was kept before,
+ * and no other byte of the recording changes, however it ends. */
+uint64_t snd_pcm_capture_start(uint8_t *state, size_t state_len, uint8_t *ring, size_t ring_len, uint32_t stream,
+                               uint64_t periods, const uint8_t *recording, size_t recording_len, uint64_t budget,
+                               uint8_t *message, size_t message_len);
+uint64_t snd_capture_offered(const uint8_t *ring, size_t ring_len, const uint8_t *recording, size_t recording_len,
+                             uint8_t *result, size_t result_len);
+uint64_t snd_capture_turn(uint8_t *ring, size_t ring_len, uint8_t *recording, size_t recording_len,
+                          uint32_t kind, uint32_t slot, uint32_t written, const uint8_t *bytes, size_t bytes_len);
+
+/* Reads of the ring. Result: a number, 8; of a slot its offset 8 and length 8; of the oldest there 8, slot 8.
+ * Kept are the bytes that a capture has accepted: the recording's first. */
 uint64_t snd_ring_running(const uint8_t *ring, size_t ring_len, uint8_t *result, size_t result_len);
 uint64_t snd_ring_in_flight(const uint8_t *ring, size_t ring_len, uint8_t *result, size_t result_len);
 uint64_t snd_ring_free_descriptors(const uint8_t *ring, size_t ring_len, uint8_t *result, size_t result_len);
@@ -172,6 +204,7 @@ uint64_t snd_ring_turns_run(const uint8_t *ring, size_t ring_len, uint8_t *resul
 uint64_t snd_ring_stream(const uint8_t *ring, size_t ring_len, uint8_t *result, size_t result_len);
 uint64_t snd_ring_carried(const uint8_t *ring, size_t ring_len, size_t slot, uint8_t *result, size_t result_len);
 uint64_t snd_ring_oldest(const uint8_t *ring, size_t ring_len, uint8_t *result, size_t result_len);
+uint64_t snd_ring_kept(const uint8_t *ring, size_t ring_len, uint8_t *result, size_t result_len);
 
 /* Submissions that do not wait: a period goes out, and the console goes on.
  *

@@ -1,6 +1,6 @@
 /*
  * A host in C: sets the driver up against the model device and plays an announcement of ten bytes in periods of four; then the device
- * refuses. Prints what it was sent, what it accepted and what it said; the test beside host/snd compares that with the text it expects.
+ * refuses; then a microphone is recorded. Prints what it was sent, what it accepted and what it said; the test beside host/snd compares that with the text it expects.
  */
 #include <stdio.h>
 #include <stdlib.h>
@@ -16,7 +16,7 @@ static uint8_t message[SND_MESSAGE_SIZE];
 static uint8_t result[SND_RESULT_SIZE];
 
 static const uint8_t frames[10] = "ten bytes.";
-enum { STREAM = 0, BUDGET = 4 };
+enum { STREAM = 0, INPUT = 1, PERIOD = 4, BUDGET = 4 };
 
 /* The number of 8 bytes at a place of the result. */
 static uint64_t number_at(size_t at)
@@ -109,15 +109,59 @@ static void refused(uint32_t status)
 
 static void set_up(void)
 {
-	/* one output stream of one or two channels */
-	static const uint8_t pcm[32] = { [25] = 1, [26] = 2 };
+	/* an output and an input stream of one or two channels */
+	static const uint8_t pcm[64] = { [25] = 1, [26] = 2, [32 + 24] = 1, [32 + 25] = 1, [32 + 26] = 2 };
 
 	want("model", snd_model_new(model, sizeof model, pcm, 0, pcm, sizeof pcm, pcm, 0), SND_OK);
-	want("new", snd_new(state, sizeof state, 0, 1, 0), SND_OK);
+	want("new", snd_new(state, sizeof state, 0, 2, 0), SND_OK);
 	want("ring", snd_ring_new(ring, sizeof ring), SND_OK);
-	finish("set parameters", snd_pcm_set_params(state, sizeof state, ring, sizeof ring, STREAM, 8, 4, 0, 2, 5, 7, message,
-						    sizeof message, result, sizeof result));
+	finish("set parameters", snd_pcm_set_params(state, sizeof state, ring, sizeof ring, STREAM, 2 * PERIOD, PERIOD, 0, 2, 5, 7,
+						    message, sizeof message, result, sizeof result));
 	finish("start", snd_pcm_start(state, sizeof state, ring, sizeof ring, STREAM, message, sizeof message, result, sizeof result));
+}
+
+/* A turn of a capture: the microphone has heard this, and right behind it stands the status. Without room nothing comes back. */
+static uint64_t heard(uint8_t *recording, size_t size, const char *payload, uint32_t written)
+{
+	uint8_t buffer[PERIOD + 8] = { 0 };
+	size_t length = strlen(payload);
+
+	memcpy(buffer, payload, length);
+	buffer[length + 1] = 0x80;
+	want("offered", snd_capture_offered(ring, sizeof ring, recording, size, result, sizeof result), SND_OK);
+	if (!number_at(0))
+		return snd_capture_turn(ring, sizeof ring, recording, size, 0, 0, 0, buffer, 0);
+	want("room", number_at(16), PERIOD);
+	return snd_capture_turn(ring, sizeof ring, recording, size, 1, (uint32_t)number_at(8), written, buffer, sizeof buffer);
+}
+
+static void recorded(const uint8_t *recording, size_t size, uint64_t answer)
+{
+	want("kept", snd_ring_kept(ring, sizeof ring, result, sizeof result), SND_OK);
+	printf("recorded: %.*s, kept %llu -> %s\n", (int)size, (const char *)recording, (unsigned long long)number_at(0), named(answer));
+}
+
+/* Three periods, of which one is short; then a length that cannot be. */
+static void record(void)
+{
+	uint8_t recording[3 * PERIOD];
+	uint64_t answer;
+
+	finish("set parameters", snd_pcm_set_params(state, sizeof state, ring, sizeof ring, INPUT, 2 * PERIOD, PERIOD, 0, 2, 5, 7,
+						    message, sizeof message, result, sizeof result));
+	memset(recording, '-', sizeof recording);
+	answer = snd_pcm_capture_start(state, sizeof state, ring, sizeof ring, STREAM, 3, recording, sizeof recording, BUDGET, message, sizeof message);
+	printf("capture of an output: -> %s\n", named(answer));
+	answer = snd_pcm_capture_start(state, sizeof state, ring, sizeof ring, INPUT, 3, recording, sizeof recording, BUDGET, message, sizeof message);
+	want("capture", answer, SND_GOING);
+	want("turn", heard(recording, sizeof recording, "gate", 12), SND_GOING);
+	want("turn", heard(recording, sizeof recording, " t", 10), SND_GOING);
+	want("turn", heard(recording, sizeof recording, "wo", 10), SND_GOING);
+	recorded(recording, sizeof recording, heard(recording, sizeof recording, "", 0));
+	answer = snd_pcm_capture_start(state, sizeof state, ring, sizeof ring, INPUT, 3, recording, sizeof recording, BUDGET, message, sizeof message);
+	want("capture", answer, SND_GOING);
+	want("turn", heard(recording, sizeof recording, "door", 12), SND_GOING);
+	recorded(recording, sizeof recording, heard(recording, sizeof recording, "five", PERIOD + 9));
 }
 
 int main(void)
@@ -145,5 +189,6 @@ int main(void)
 	refused(0x8003);
 	refused(0);
 	printf("event: -> %s\n", named(snd_latest_notification(event, sizeof event, result, sizeof result)));
+	record();
 	return 0;
 }

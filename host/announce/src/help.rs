@@ -4,6 +4,7 @@ pub const HELP: &str = "\
 announce: speak announcements through the proved driver to the model device
 
 usage: announce [OPTIONS] [FILE]...
+       announce [OPTIONS] --record FILE --periods N
 
 FILE is a WAVE file (8, 16, 24 or 32 bits PCM), which says its own channels,
 format and rate, or has raw frames (signed 16 bits, little-endian); - is
@@ -38,6 +39,13 @@ other on one device that is set up once: a page for each, and a closing line.
                      console goes on and polls a made-up breaker meanwhile; the
                      last period is filled up with silence, and the budget is the
                      console's own
+  --record FILE      record from a made-up microphone, which hears the tone, in
+                     place of speaking: FILE has what was kept, as raw frames or,
+                     where its name ends in .wav, as a WAVE file of whole frames
+  --periods N        so many periods of it
+  --short-every K    of every K-th period it has half
+  --written-at N     of period N it says to have written another length:
+  --written BYTES    this one, with its status (7); 8 to the period and 8 are good
   --accepted FILE    write the bytes that the device had accepted when the
                      transfer answered: compare FILE with the frames
   --wav FILE         write the same as a WAVE file, in whole frames: play it
@@ -51,6 +59,6 @@ device counts N of --fail-at and --wrong-slot-at over all of them; --accepted,
 overwritten, and no two outputs are one file.
 
 Exit status, the worst of all FILEs: 0 the device accepted the whole
-announcement; 1 it did not, and the page says why; 2 nothing was spoken for
-bad options or files, or an output could not be written.
+announcement, or every period was recorded; 1 not, and the page says why; 2
+nothing was spoken for bad options or files, or an output could not be written.
 ";

@@ -198,6 +198,11 @@ fn fault(to: &mut Object, fault: &Fault) {
             to.number("period", period as u64);
             to.number("status", status.into());
         }
+        What::Written { period, written, .. } => {
+            to.text("kind", "written");
+            to.number("period", period as u64);
+            to.number("written", written.into());
+        }
     }
     to.text("text", &fault.what.to_string());
 }

@@ -11,10 +11,12 @@ mod going_on;
 mod help;
 mod json;
 mod log;
+mod microphone;
 mod options;
 mod overwrite;
 mod picture;
 mod progress;
+mod record;
 mod recording;
 mod report;
 mod sizes;
@@ -29,6 +31,7 @@ use options::{Asked, Options};
 use page::Built;
 use report::Report;
 use std::io::Write;
+use std::os::unix::ffi::OsStrExt;
 use std::path::Path;
 use std::process::ExitCode;
 use std::time::SystemTime;
@@ -59,6 +62,9 @@ fn run(options: &Options) -> Result<u8, String> {
     overwrite::refuse(options)?;
     let date = clock::utc(SystemTime::now());
     let built = Built::here(Some(&date));
+    if let Some(file) = &options.record {
+        return record(options, file, built);
+    }
     let recordings = recording::all(options)?;
     let told = speak::all(options, &recordings);
     let pairs = recordings.iter().zip(told);
@@ -73,6 +79,21 @@ fn run(options: &Options) -> Result<u8, String> {
     write_outputs(options, &reports, built, status)?;
     say(&pages(&reports, built))?;
     Ok(status)
+}
+
+/// Records, writes what was kept, and prints the page.
+fn record(options: &Options, file: &Path, built: Built) -> Result<u8, String> {
+    let recorded = record::all(options)?;
+    let kept = recorded.kept();
+    if file.as_os_str().as_bytes().ends_with(b".wav") {
+        write(file, &wave::file(options.form(), kept)?)?;
+    } else {
+        write(file, kept)?;
+    }
+    let name = recording::plain(&file.to_string_lossy());
+    let page = recorded.page(options, &name, built);
+    say(&page.to_string())?;
+    Ok(if page.given() { GIVEN } else { NOT_GIVEN })
 }
 
 fn write_outputs(options: &Options, reports: &[Report], built: Built, status: u8) -> Result<(), String> {

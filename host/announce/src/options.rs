@@ -13,7 +13,7 @@ use std::path::PathBuf;
 pub enum Asked {
     /// This text.
     Help(&'static str),
-    Run(Options),
+    Run(Box<Options>),
 }
 
 /// Calls that the device may be told to refuse, by the code of their request.
@@ -69,6 +69,15 @@ pub struct Options {
     pub guard: bool,
     /// The jack query is answered by its header alone.
     pub short_jacks: bool,
+    /// Where to write what a microphone hears, in place of speaking.
+    pub record: Option<PathBuf>,
+    /// How many periods of it.
+    pub periods: u64,
+    /// Every so many periods it has half of one.
+    pub short_every: Option<u64>,
+    /// The period of which it says that it wrote so many bytes.
+    pub written_at: Option<u64>,
+    pub written: u32,
     /// Periods do not wait, and breakers are polled meanwhile.
     pub go_on: bool,
     /// The version of VirtIO that the device follows, where it is named.
@@ -99,6 +108,11 @@ impl Options {
             strict: false,
             guard: false,
             short_jacks: false,
+            record: None,
+            periods: 0,
+            short_every: None,
+            written_at: None,
+            written: 7,
             go_on: false,
             virtio: None,
             controls: None,
@@ -131,6 +145,7 @@ impl Options {
             ("--wav", &self.wav),
             ("--log", &self.log),
             ("--picture", &self.picture),
+            ("--record", &self.record),
         ];
         all.into_iter()
             .filter_map(|(name, path)| path.as_ref().map(|path| (name, path)))
@@ -140,10 +155,13 @@ impl Options {
 /// Reads the words. What is wrong with them is said in a sentence.
 pub fn parse(words: &[OsString]) -> Result<Asked, String> {
     let mut options = Options::new();
-    let mut buffer = None;
+    let (mut buffer, mut named) = (None, Vec::new());
     let mut words = words.iter().map(OsString::as_os_str);
     while let Some(word) = words.next() {
         let (name, value) = parted(word);
+        if name.starts_with("--") {
+            named.push(name);
+        }
         match name {
             "--help" | "-h" if value.is_none() => return Ok(Asked::Help(HELP)),
             "--strict" if value.is_none() => options.strict = true,
@@ -166,6 +184,11 @@ pub fn parse(words: &[OsString]) -> Result<Asked, String> {
         }
     }
     options.buffer = sizes::buffer(buffer, options.period)?;
+    together(&options, &named)?;
+    if options.record.is_some() {
+        sizes::recording(&options)?;
+        return Ok(Asked::Run(Box::new(options)));
+    }
     if options.controls.is_some() && options.virtio != Some(Version::V13) {
         return Err("--controls needs --virtio 1.3: VirtIO 1.2 has no control elements".into());
     }
@@ -182,7 +205,57 @@ pub fn parse(words: &[OsString]) -> Result<Asked, String> {
         sizes::tone(&options)?;
         options.sources.push(Source::Tone);
     }
-    Ok(Asked::Run(options))
+    Ok(Asked::Run(Box::new(options)))
+}
+
+/// What a recording takes of the options for announcements, and what it has alone.
+const RECORDING: [&str; 13] = [
+    "--rate",
+    "--channels",
+    "--period",
+    "--buffer",
+    "--slow",
+    "--fail-at",
+    "--fail-call",
+    "--fail-status",
+    "--wrong-slot-at",
+    "--budget",
+    "--strict",
+    "--guard",
+    "--",
+];
+const RECORDING_ALONE: [&str; 5] = ["--record", "--periods", "--short-every", "--written-at", "--written"];
+
+/// Options that go together, and those that do not.
+fn together(options: &Options, named: &[&str]) -> Result<(), String> {
+    let has = |name: &str| named.contains(&name);
+    let Some(record) = &options.record else {
+        return match named.iter().find(|name| RECORDING_ALONE.contains(name)) {
+            Some(name) => Err(format!("{name} goes with --record: nothing is recorded without it")),
+            None => Ok(()),
+        };
+    };
+    let record = record.display();
+    if let Some(source) = options.sources.first() {
+        let source = source.shown();
+        return Err(format!("--record {record} speaks nothing: leave {source} out"));
+    }
+    let foreign = |name: &&&str| !RECORDING.contains(name) && !RECORDING_ALONE.contains(name);
+    if let Some(name) = named.iter().find(foreign) {
+        return Err(format!("{name} goes with announcements: leave it out with --record"));
+    }
+    if !has("--periods") {
+        return Err(format!(
+            "--record {record} needs --periods N: a recording has so many periods"
+        ));
+    }
+    if has("--written") && !has("--written-at") {
+        return Err("--written goes with --written-at N: it is the length of one period".into());
+    }
+    if options.fail_call == Some(REMAP) {
+        return Err("--fail-call remap goes with --short-jacks: without it no remap is asked for".into());
+    }
+    Ok(())
 }
 
 /// An option's name, and the value that stands behind its `=`. A word whose name cannot be read is no option.
@@ -216,6 +289,11 @@ fn take<'w>(
         "--budget" => options.budget = Some(number(name, value()?, 0, u64::MAX)?),
         "--virtio" => options.virtio = Some(version(value()?)?),
         "--controls" => options.controls = Some(number(name, value()?, 0, u32::MAX.into())? as u32),
+        "--record" => options.record = Some(output(name, value()?)?),
+        "--periods" => options.periods = number(name, value()?, 0, u64::MAX)?,
+        "--short-every" => options.short_every = Some(number(name, value()?, 1, u64::MAX)?),
+        "--written-at" => options.written_at = Some(number(name, value()?, 1, u64::MAX)?),
+        "--written" => options.written = number(name, value()?, 0, u32::MAX.into())? as u32,
         "--accepted" => options.accepted = Some(output(name, value()?)?),
         "--wav" => options.wav = Some(output(name, value()?)?),
         "--log" => options.log = Some(output(name, value()?)?),

@@ -294,7 +294,7 @@ impl<'p> Panel<'p> {
                 svg.line("wrong", (x, upper), (x, lower));
                 (x, upper)
             }
-            What::Status { period, .. } => {
+            What::Status { period, .. } | What::Written { period, .. } => {
                 let bar = period.saturating_sub(1) / self.time.per_bar;
                 (self.x(turn), upper + (bar as f64 + 0.5) * self.row())
             }
@@ -322,7 +322,7 @@ impl<'p> Panel<'p> {
 /// A cross for a failure; for a wrong slot a point that hangs down.
 fn sign(svg: &mut Svg, fault: &Fault, (x, y): (f64, f64)) {
     match fault.what {
-        What::Status { .. } => {
+        What::Status { .. } | What::Written { .. } => {
             svg.line("cross", (x - 5.0, y - 5.0), (x + 5.0, y + 5.0));
             svg.line("cross", (x - 5.0, y + 5.0), (x + 5.0, y - 5.0));
         }

@@ -48,6 +48,25 @@ pub fn places(period: u32) -> Result<(), String> {
     ))
 }
 
+/// Whether there can be a recording of so many periods, and a buffer for each slot.
+pub fn recording(options: &Options) -> Result<(), String> {
+    let (periods, period) = (options.periods, u64::from(options.period));
+    let bytes = periods.saturating_mul(period);
+    if periods > MOST_PERIODS as u64 || bytes > MOST_TONE {
+        return Err(format!(
+            "{periods} periods of {period} bytes are {bytes} bytes; at most {MOST_PERIODS} periods and {MOST_TONE} bytes are recorded"
+        ));
+    }
+    let buffers = snd::SLOTS as u64 * (period + snd::CAPTURE_STATUS as u64);
+    if buffers > MOST_TONE {
+        return Err(format!(
+            "{} buffers for periods of {period} bytes are {buffers} bytes; at most {MOST_TONE} are made",
+            snd::SLOTS
+        ));
+    }
+    Ok(())
+}
+
 /// Whether an account of so many periods can be kept.
 pub fn periods(name: &str, bytes: usize, period: u32) -> Result<(), String> {
     let periods = bytes.div_ceil(period as usize);

@@ -3,17 +3,23 @@ use crate::form::Form;
 
 /// Frames of signed 16 bits, the same in each channel.
 pub fn of(seconds: u32, form: Form) -> Vec<u8> {
-    let Form { channels, rate, .. } = form;
-    let mut frames = Vec::new();
-    for frame in 0..u64::from(seconds) * u64::from(rate.hz()) {
-        let time = frame as f64 / f64::from(rate.hz());
-        let note = if time.fract() < 0.5 { 880.0 } else { 660.0 };
-        let sample = (wave((time * note).fract()) * 8000.0) as i16;
-        for _ in 0..channels {
-            frames.extend(sample.to_le_bytes());
-        }
+    let frames = u64::from(seconds) * u64::from(form.rate.hz());
+    let mut bytes = Vec::new();
+    for frame in 0..frames {
+        extend(&mut bytes, frame, form);
     }
-    frames
+    bytes
+}
+
+/// One of these frames.
+pub fn extend(bytes: &mut Vec<u8>, frame: u64, form: Form) {
+    let Form { channels, rate, .. } = form;
+    let time = frame as f64 / f64::from(rate.hz());
+    let note = if time.fract() < 0.5 { 880.0 } else { 660.0 };
+    let sample = (wave((time * note).fract()) * 8000.0) as i16;
+    for _ in 0..channels {
+        bytes.extend(sample.to_le_bytes());
+    }
 }
 
 /// A sine over one turn of the phase, as Bhaskara drew it: by the four operations, whose results, and so the tone's sha256, are the same

@@ -86,6 +86,71 @@ fn bad_options() {
     complaint("--rate 47999", &format!("--rate takes one of {rates}, not '47999'"));
 }
 
+/// What goes with a recording, and what does not.
+#[test]
+fn recordings() {
+    let needs = "--record a needs --periods N: a recording has so many periods";
+    complaint("--record a", needs);
+    complaint("--record", "--record needs a value; see --help");
+    complaint(
+        "--record -",
+        "--record takes a file's name; standard output has the page",
+    );
+    for words in ["--periods 3", "--short-every 3", "--written-at 3", "--written 9"] {
+        let (name, _) = words.split_once(' ').unwrap();
+        let sentence = format!("{name} goes with --record: nothing is recorded without it");
+        complaint(words, &sentence);
+    }
+    complaint(
+        "--record a --periods 3 b.raw",
+        "--record a speaks nothing: leave b.raw out",
+    );
+    complaint("--record a --periods 3 -- -", "--record a speaks nothing: leave - out");
+    for words in [
+        "--seconds 3",
+        "--go-on",
+        "--short-jacks",
+        "--virtio 1.3",
+        "--controls 2",
+        "--accepted b",
+        "--wav=b",
+        "--log b",
+        "--picture b",
+    ] {
+        let name = words.split([' ', '=']).next().unwrap();
+        let sentence = format!("{name} goes with announcements: leave it out with --record");
+        complaint(&format!("--record a --periods 3 {words}"), &sentence);
+    }
+    complaint(
+        "--record a --periods 3 --written 9",
+        "--written goes with --written-at N: it is the length of one period",
+    );
+    complaint(
+        "--record a --periods 3 --fail-call remap",
+        "--fail-call remap goes with --short-jacks: without it no remap is asked for",
+    );
+    complaint(
+        "--record a --periods 3 --written-at 1 --written 4294967296",
+        "--written takes a number from 0 to 4294967295, not '4294967296'",
+    );
+    complaint(
+        "--record a --periods 1000001 --period 4",
+        "1000001 periods of 4 bytes are 4000004 bytes; at most 1000000 periods and 1073741824 bytes are recorded",
+    );
+    complaint(
+        "--record a --periods 262145",
+        "262145 periods of 4096 bytes are 1073745920 bytes; at most 1000000 periods and 1073741824 bytes are recorded",
+    );
+    complaint(
+        "--record a --periods 1 --period 33554432",
+        "32 buffers for periods of 33554432 bytes are 1073742080 bytes; at most 1073741824 are made",
+    );
+    complaint(
+        "--record no-such-folder/a --periods 1",
+        "cannot write no-such-folder/a: No such file or directory (os error 2)",
+    );
+}
+
 #[test]
 fn sizes_that_cannot_be() {
     complaint("--channels 0", "--channels takes a number from 1 to 255, not '0'");

@@ -288,6 +288,106 @@ fn going_on_with_several() {
     }
 }
 
+/// The bytes of the tone that the microphone hears, in as many seconds.
+fn tone(folder: &Folder, seconds: u32) -> Vec<u8> {
+    let output = folder.run(&format!("--seconds {seconds} --accepted tone.raw"));
+    assert_eq!(output.status.code(), Some(0));
+    folder.read("tone.raw")
+}
+
+/// The file has what was kept, and that is what the microphone heard: the tone from its beginning, without a gap, whatever was short or came to an end.
+#[test]
+fn recordings() {
+    let folder = Folder::new("recordings");
+    let tone = tone(&folder, 1);
+    for (name, words, status, kept) in [
+        ("record", "", 0, 10 * 4096),
+        ("record-short", "--short-every 3 --slow 3", 0, 7 * 4096 + 3 * 2048),
+        ("record-empty-period", "--written-at 4 --written 8", 0, 9 * 4096),
+        ("record-fail", "--fail-at 5", 1, 4 * 4096),
+        (
+            "record-fail-slow",
+            "--fail-at 5 --fail-status 0x8002 --slow 4 --strict --guard",
+            1,
+            4 * 4096,
+        ),
+        ("record-written", "--written-at 6", 1, 5 * 4096),
+        (
+            "record-written-much",
+            "--written-at 6 --written 4294967295 --slow 2 --short-every 2",
+            1,
+            3 * 4096 + 2 * 2048,
+        ),
+        ("record-wrong-slot", "--wrong-slot-at 4 --slow 2", 1, 3 * 4096),
+        ("record-budget", "--budget 9 --slow 4", 1, 2 * 4096),
+        ("record-budget-0", "--budget 0", 1, 0),
+        ("record-refuses", "--fail-call start --fail-status 0x8001", 1, 0),
+    ] {
+        let output = folder.run(&format!("--record yard.raw --periods 10 {words}"));
+        held(&output, name, status);
+        assert_eq!(folder.read("yard.raw"), tone[..kept], "{name}");
+    }
+    held(&folder.run("--record yard.raw --periods 0"), "record-nothing", 0);
+    assert_eq!(folder.read("yard.raw"), b"");
+}
+
+/// Each written length at an edge: those that are good have so many bytes, the others end the recording.
+#[test]
+fn written_lengths() {
+    let folder = Folder::new("written");
+    for (written, kept, number) in [
+        (0, 1000, 17),
+        (7, 1000, 17),
+        (8, 2000, 0),
+        (9, 2001, 0),
+        (1008, 3000, 0),
+        (1009, 1000, 17),
+        (u32::MAX, 1000, 17),
+    ] {
+        let words = format!("--record yard.raw --periods 3 --period 1000 --written-at 2 --written {written}");
+        let output = folder.run(&words);
+        let wanted = match number {
+            0 => "answer       0 Ok".to_string(),
+            _ => "answer       17 BadCapture, to capture".to_string(),
+        };
+        assert_eq!(
+            (answer(&output), folder.read("yard.raw").len()),
+            (wanted, kept),
+            "{written}"
+        );
+        assert_eq!(output.status.code(), Some(i32::from(number != 0)));
+    }
+}
+
+/// A name that ends in .wav is a file for any player, and for this program: what was recorded is spoken.
+#[test]
+fn a_recording_is_spoken() {
+    let folder = Folder::new("record-wav");
+    let words = "--record yard.wav --periods 7 --rate 16000 --channels 1 --period 640 --short-every 4";
+    held(&folder.run(words), "record-wav", 0);
+    let output = folder.run("--rate 16000 --channels 1 --seconds 1 --accepted tone.raw");
+    assert_eq!(output.status.code(), Some(0));
+    let kept = &folder.read("tone.raw")[..6 * 640 + 320];
+    assert_eq!(folder.read("yard.wav"), wave(1, Format::S16, Rate::Hz16000, kept));
+    let output = folder.run("yard.wav --accepted spoken.raw");
+    assert_eq!(
+        (output.status.code(), folder.read("spoken.raw")),
+        (Some(0), kept.to_vec())
+    );
+    // a frame that was cut is in the raw file, and in no WAVE file
+    let words = "--periods 3 --period 1001 --channels 1";
+    let page = masked(&folder.run(&format!("--record odd.raw {words}")));
+    let warning = "warning      a period of 1001 bytes cuts frames of 2 bytes in two; --period 1000 would not\n";
+    assert!(page.contains(warning), "{page}");
+    assert_eq!(folder.run(&format!("--record odd.wav {words}")).status.code(), Some(0));
+    let odd = folder.read("odd.raw");
+    assert_eq!(odd.len(), 3003);
+    assert_eq!(
+        folder.read("odd.wav"),
+        wave(1, Format::S16, Rate::Hz48000, &odd[..3002])
+    );
+}
+
 /// The customer's story: a jack query that returns its header alone, and an old jack in the page. Read whole, the old jack is used; in strict mode there
 /// is none.
 #[test]

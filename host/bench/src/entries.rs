@@ -1,7 +1,7 @@
 //! The port through its C entries, with stores and buffers that are used again, as a console keeps them.
-use crate::ways::{BUDGET, EVENT, FULL, PLACES_SIZE, Way, full_pages, page};
+use crate::ways::{BUDGET, EVENT, FULL, PLACES_SIZE, Way, captured, full_pages, page, streams};
 use snd::ffi::*;
-use snd::{MESSAGE_SIZE, PAGE_SIZE, PcmInfo, RESULT_SIZE, RING_SIZE, STATE_SIZE, STATUS_OK};
+use snd::{MESSAGE_SIZE, PAGE_SIZE, RESULT_SIZE, RING_SIZE, STATE_SIZE, STATUS_OK};
 use std::hint::black_box;
 
 const OK: u64 = 0;
@@ -17,6 +17,7 @@ pub struct Entries {
     ok: [u8; PAGE_SIZE],
     pages: [[u8; PAGE_SIZE]; 3],
     places: Vec<u8>,
+    recording: Vec<u8>,
 }
 
 impl Entries {
@@ -30,15 +31,16 @@ impl Entries {
             ok: page(&[]),
             pages: full_pages(),
             places: vec![0; PLACES_SIZE],
+            recording: vec![],
         };
-        assert_eq!(snd_new(&mut new.state, 0, 1, 0), OK);
+        assert_eq!(snd_new(&mut new.state, 0, 2, 0), OK);
         assert_eq!(snd_ring_new(&mut new.ring), OK);
         assert_eq!(
             snd_output_streams(&mut new.state, &new.ring, &mut new.message, &mut new.result),
             SEND + 16
         );
-        let one = page(&PcmInfo::output(1, 2).to_bytes());
-        for (answer, said) in [(&new.ok, SEND + 16), (&one, SEND + 16), (&new.ok, OK)] {
+        let two = page(&streams());
+        for (answer, said) in [(&new.ok, SEND + 16), (&two, SEND + 16), (&new.ok, OK)] {
             assert_eq!(
                 snd_feed(&mut new.state, answer, &mut new.message, &mut new.result),
                 said
@@ -62,22 +64,24 @@ impl Entries {
 
 impl Way for Entries {
     fn set_period(&mut self, period: u32) {
-        let (message, result) = (&mut self.message, &mut self.result);
-        let sent = snd_pcm_set_params(
-            &mut self.state,
-            &self.ring,
-            0,
-            period * 2,
-            period,
-            0,
-            2,
-            5,
-            7,
-            message,
-            result,
-        );
-        assert_eq!(sent, SEND + 24);
-        assert_eq!(snd_feed(&mut self.state, &self.ok, message, result), OK);
+        for stream in [0, 1] {
+            let (message, result) = (&mut self.message, &mut self.result);
+            let sent = snd_pcm_set_params(
+                &mut self.state,
+                &self.ring,
+                stream,
+                period * 2,
+                period,
+                0,
+                2,
+                5,
+                7,
+                message,
+                result,
+            );
+            assert_eq!(sent, SEND + 24);
+            assert_eq!(snd_feed(&mut self.state, &self.ok, message, result), OK);
+        }
     }
 
     fn control(&mut self) {
@@ -118,6 +122,38 @@ impl Way for Entries {
         self.start(frames);
         for turns in 1.. {
             let said = snd_turn(&mut self.ring, frames, 1, (turns - 1) as u32 % 32, STATUS_OK);
+            if said != GOING {
+                assert_eq!(said, OK);
+                return turns;
+            }
+        }
+        0
+    }
+
+    fn capture(&mut self, periods: usize, period: usize) -> u64 {
+        let bytes = captured(period);
+        self.recording.resize(periods * period, 0);
+        let started = snd_pcm_capture_start(
+            &mut self.state,
+            &mut self.ring,
+            1,
+            periods as u64,
+            &self.recording,
+            BUDGET,
+            &mut self.message,
+        );
+        assert_eq!(started, GOING);
+        for turns in 1.. {
+            assert_eq!(snd_capture_offered(&self.ring, &self.recording, &mut self.result), OK);
+            let (there, slot) = (self.told(0), self.told(8));
+            let said = snd_capture_turn(
+                &mut self.ring,
+                &mut self.recording,
+                there as u32,
+                slot as u32,
+                bytes.len() as u32,
+                black_box(&bytes),
+            );
             if said != GOING {
                 assert_eq!(said, OK);
                 return turns;

@@ -45,6 +45,9 @@ fn once(way: &str, work: &str, times: &str) {
     let mut way: Box<dyn Way> = match way {
         "entries" => Box::new(entries::Entries::new()),
         "snd" => Box::new(safe::Safe::new()),
+        "rust" if matches!(work, Work::Capture | Work::LongCapture) => {
+            complain("another work: the Rust has no captures")
+        }
         "rust" => rust_text::way().unwrap_or_else(|| complain("a way that is at hand; the Rust's own text is not")),
         _ => complain("WAY WORK TIMES"),
     };

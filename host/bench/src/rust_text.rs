@@ -126,6 +126,10 @@ impl Way for Text {
         self.announce(frames)
     }
 
+    fn capture(&mut self, _periods: usize, _period: usize) -> u64 {
+        unreachable!("the Rust has no captures")
+    }
+
     fn submit(&mut self, period: &[u8]) {
         let ok = self.ok.clone();
         let token = self.make(Call::PcmXferNb(0, period), ok.clone())[0] as u16;

@@ -1,8 +1,8 @@
 //! The port through the safe crate, as a Rust console writes it.
-use crate::ways::{BUDGET, EVENT, FULL, PLACES_SIZE, Way, full_pages, page};
+use crate::ways::{BUDGET, EVENT, FULL, PLACES_SIZE, Way, captured, full_pages, page, streams};
 use snd::{
-    Format, PAGE_SIZE, Page, Params, PcmInfo, Places, Rate, Reading, Refusal, Ring, STATUS_OK, Sound, Step, StreamList,
-    Submitted, Turn,
+    Captured, Capturing, Format, PAGE_SIZE, Page, Params, Places, Rate, Reading, Refusal, Ring, STATUS_OK, Sound, Step,
+    StreamList, Submitted, Turn,
 };
 use std::hint::black_box;
 
@@ -12,6 +12,7 @@ pub struct Safe {
     ok: Page,
     pages: [Page; 3],
     places: Places<Vec<u8>>,
+    recording: Vec<u8>,
 }
 
 fn of(bytes: [u8; PAGE_SIZE]) -> Page {
@@ -37,8 +38,8 @@ fn listed(sound: &mut Sound, ring: &Ring, answers: &[Page]) -> StreamList {
 
 impl Safe {
     pub fn new() -> Self {
-        let (mut sound, ring) = (Sound::new(0, 1, 0), Ring::new());
-        let answers = [page(&[]), page(&PcmInfo::output(1, 2).to_bytes()), page(&[])].map(of);
+        let (mut sound, ring) = (Sound::new(0, 2, 0), Ring::new());
+        let answers = [page(&[]), page(&streams()), page(&[])].map(of);
         assert_eq!(listed(&mut sound, &ring, &answers).ids(), [0]);
         Self {
             sound,
@@ -46,6 +47,7 @@ impl Safe {
             ok: of(page(&[])),
             pages: full_pages().map(of),
             places: Places::new(vec![0; PLACES_SIZE]),
+            recording: vec![],
         }
     }
 
@@ -74,8 +76,10 @@ impl Way for Safe {
             format,
             rate,
         };
-        let step = self.sound.pcm_set_params(&self.ring, 0, to);
-        self.answered(step);
+        for stream in [0, 1] {
+            let step = self.sound.pcm_set_params(&self.ring, stream, to);
+            self.answered(step);
+        }
     }
 
     fn control(&mut self) {
@@ -112,6 +116,29 @@ impl Way for Safe {
                 status: STATUS_OK,
             };
             if self.ring.turn(frames, reading).expect("the device is good") == Turn::Done {
+                return turns;
+            }
+        }
+        0
+    }
+
+    fn capture(&mut self, periods: usize, period: usize) -> u64 {
+        let bytes = captured(period);
+        let Self {
+            sound, ring, recording, ..
+        } = self;
+        recording.resize(periods * period, 0);
+        let Ok(Capturing::Runs(mut capture)) = sound.capture(ring, 1, periods as u64, recording, BUDGET) else {
+            unreachable!("set-up is done")
+        };
+        for turns in 1.. {
+            let room = capture.offered().expect("it runs");
+            let seen = room.map_or(Captured::Quiet, |room| Captured::Completed {
+                slot: room.slot,
+                written: bytes.len() as u32,
+                bytes: black_box(&bytes),
+            });
+            if capture.turn(seen).expect("the device is good") == Turn::Done {
                 return turns;
             }
         }

@@ -3,7 +3,7 @@ use snd::{ChannelMap, JackInfo, PAGE_SIZE, PcmInfo, STATUS_OK};
 
 /// A way to get the work done: each does the same, on the same inputs, with no device in between: the answers are prepared.
 pub trait Way {
-    /// Gives stream 0 this period.
+    /// Gives stream 0, and the input stream 1 where a way has captures, this period.
     fn set_period(&mut self, period: u32);
     /// Prepares stream 0: the call and its answer.
     fn control(&mut self);
@@ -13,6 +13,8 @@ pub trait Way {
     fn announce(&mut self, frames: &[u8]) -> u64;
     /// The same, with no look at what is offered.
     fn announce_blindly(&mut self, frames: &[u8]) -> u64;
+    /// A capture of so many periods of stream 1, each of which comes back whole in its own turn. Says how many turns it took.
+    fn capture(&mut self, periods: usize, period: usize) -> u64;
     /// A submission that does not wait, its completion and its finish.
     fn submit(&mut self, period: &[u8]);
     /// Reads an event.
@@ -25,6 +27,21 @@ pub const EVENT: [u8; 8] = [0x01, 0x11, 0, 0, 3, 0, 0, 0];
 pub const PLACES_SIZE: usize = snd::PLACES * (4000 + 4);
 /// More than every announcement here needs.
 pub const BUDGET: u64 = 1 << 40;
+
+/// What a microphone wrote of a period: the payload, and the status behind it.
+pub fn captured(period: usize) -> Vec<u8> {
+    let status = [STATUS_OK.to_le_bytes(), [0; 4]];
+    [&vec![0x55; period][..], status.as_flattened()].concat()
+}
+
+/// The records of an output and an input stream.
+pub fn streams() -> [u8; 64] {
+    let mut records = [0; 64];
+    let (output, input) = records.split_at_mut(32);
+    output.copy_from_slice(&PcmInfo::output(1, 2).to_bytes());
+    input.copy_from_slice(&PcmInfo::input(1, 2).to_bytes());
+    records
+}
 
 /// The configured counts of a device with full tables.
 pub const FULL: [u32; 3] = [170, 127, 170];

@@ -18,6 +18,8 @@ pub enum Work {
     LongAnnouncement,
     Submission,
     LongSubmission,
+    Capture,
+    LongCapture,
     Event,
 }
 
@@ -33,6 +35,8 @@ impl Work {
         Self::LongAnnouncement,
         Self::Submission,
         Self::LongSubmission,
+        Self::Capture,
+        Self::LongCapture,
         Self::Event,
     ];
 
@@ -48,6 +52,8 @@ impl Work {
             Self::LongAnnouncement => "long-announcement",
             Self::Submission => "submission",
             Self::LongSubmission => "long-submission",
+            Self::Capture => "capture",
+            Self::LongCapture => "long-capture",
             Self::Event => "event",
         }
     }
@@ -64,19 +70,28 @@ impl Work {
             Self::LongAnnouncement => "an announcement, frames 1,000 times longer",
             Self::Submission => "a submission, its mark and its finish",
             Self::LongSubmission => "the same, a period 1,000 times longer",
+            Self::Capture => "one turn of a capture, with what it offers",
+            Self::LongCapture => "the same, a period 1,000 times longer",
             Self::Event => "an event",
         }
     }
 
-    /// Whether the Rust has it too: its loop cannot be taken turn by turn, so its turn is a part of an announcement.
+    /// Whether the Rust has it too: its loop cannot be taken turn by turn, so its turn is a part of an announcement; and it has no captures.
     pub const fn both(self) -> bool {
-        !matches!(self, Self::TurnAlone | Self::LongTurnAlone)
+        !matches!(
+            self,
+            Self::TurnAlone | Self::LongTurnAlone | Self::Capture | Self::LongCapture
+        )
     }
 
     /// Bytes of a period.
     const fn period(self) -> u32 {
         match self {
-            Self::LongTurn | Self::LongTurnAlone | Self::LongAnnouncement | Self::LongSubmission => 4000,
+            Self::LongTurn
+            | Self::LongTurnAlone
+            | Self::LongAnnouncement
+            | Self::LongSubmission
+            | Self::LongCapture => 4000,
             _ => 4,
         }
     }
@@ -105,6 +120,7 @@ pub fn run(work: Work, way: &mut dyn Way, frames: &[u8], times: u64) -> u64 {
             Work::TurnAlone | Work::LongTurnAlone => return way.announce_blindly(frames),
             Work::Announcement | Work::LongAnnouncement => _ = way.announce(frames),
             Work::Submission | Work::LongSubmission => way.submit(frames),
+            Work::Capture | Work::LongCapture => return way.capture(PERIODS, work.period() as usize),
         }
         1
     };

@@ -9,6 +9,7 @@ pub mod files;
 pub mod memory;
 pub mod mmio;
 mod port;
+pub mod record;
 pub mod script;
 pub mod serial;
 pub mod speak;

@@ -29,6 +29,8 @@ extern "C" fn console_main() -> ! {
 struct Count {
     all: usize,
     given: usize,
+    /// How many recordings.
+    recordings: usize,
     /// Lines of the script that did not come out as expected.
     wrong: u32,
 }
@@ -49,6 +51,7 @@ fn run() -> Result<bool, &'static str> {
     let mut count = Count {
         all: 0,
         given: 0,
+        recordings: 0,
         wrong: 0,
     };
     for line in script::lines(text) {
@@ -88,8 +91,13 @@ fn begin(console: &Console) -> Result<(), &'static str> {
 /// What there is to tell of all of it.
 fn closing(console: &Console, count: &Count) {
     let seen = console.device().seen;
-    let Count { all, given, wrong } = *count;
-    if all != 1 {
+    let Count {
+        all,
+        given,
+        recordings,
+        wrong,
+    } = *count;
+    if all > 1 || all + recordings == 0 {
         show(Together { all, given });
     }
     say!(
@@ -125,6 +133,7 @@ fn step(
 ) -> Result<bool, &'static str> {
     match verb {
         Verb::Speak(name, asked) => return speak(console, files, name, asked, count),
+        Verb::Record(periods, asked) => return record(console, files, periods, &asked, count),
         Verb::Reset => {
             console.reset().map_err(stopped)?;
             say!("reset        the device; state and ring are new\n");
@@ -151,6 +160,29 @@ fn step(
         Verb::Wait(ticks) => timer.sleep(ticks),
     }
     Ok(true)
+}
+
+/// Records, prints the page, and holds the answer to what is expected.
+fn record(
+    console: &mut Console,
+    files: &mut Files,
+    periods: u64,
+    asked: &Asked,
+    count: &mut Count,
+) -> Result<bool, &'static str> {
+    count.recordings += 1;
+    let bytes = periods.saturating_mul(asked.params.period.into());
+    let room = usize::try_from(bytes).ok().and_then(|bytes| files.arena().bytes(bytes));
+    let room = room.ok_or_else(|| stopped(format_args!("there is no room for {bytes} bytes")))?;
+    let recorded = console.record(asked, periods, room);
+    let page = recorded.page(asked);
+    let number = page.refused.map_or(0, |(_call, refusal)| refusal.number());
+    let owed = asked.owed.is_none_or(|owed| owed == page.owed);
+    let right = number == asked.expect && owed && (number != 0 || page.given());
+    show(&page);
+    let how = if right { "as expected" } else { "NOT AS EXPECTED" };
+    say!("expected     {}: {how}\n", asked.expect);
+    Ok(right)
 }
 
 /// Speaks, prints the page, and holds the answer to what is expected.

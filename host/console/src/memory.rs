@@ -1,4 +1,5 @@
 //! The memory behind the program, given out once and never taken back: what a device was lent stays where it is.
+use core::mem::MaybeUninit;
 use core::sync::atomic::{AtomicBool, Ordering};
 
 unsafe extern "C" {
@@ -41,14 +42,16 @@ impl Arena {
         Some(unsafe { core::slice::from_raw_parts_mut(at as *mut u8, length) })
     }
 
+    /// A place for a value that is made there.
+    pub fn place<T>(&mut self) -> Option<&'static mut MaybeUninit<T>> {
+        const { assert!(align_of::<T>() <= ALIGNED) };
+        let place = self.room(size_of::<T>())? as *mut MaybeUninit<T>;
+        // SAFETY: as above, and aligned; nothing is said of what it holds.
+        Some(unsafe { &mut *place })
+    }
+
     /// A place for a value.
     pub fn put<T>(&mut self, value: T) -> Option<&'static mut T> {
-        const { assert!(align_of::<T>() <= ALIGNED) };
-        let place = self.room(size_of::<T>())? as *mut T;
-        // SAFETY: as above, and aligned; it is written before it is lent.
-        unsafe {
-            place.write(value);
-            Some(&mut *place)
-        }
+        self.place().map(|place| place.write(value))
     }
 }

@@ -2,10 +2,10 @@
 use core::fmt;
 use snd::{Format, Params, Rate};
 
-/// What an announcement is asked to be.
+/// What an announcement or a recording is asked to be.
 pub struct Asked {
     pub params: Params,
-    /// The first output stream where none is named.
+    /// The first output or input stream where none is named.
     pub stream: Option<u32>,
     /// Turns; n·g + 1 where none is given.
     pub budget: Option<u64>,
@@ -20,6 +20,8 @@ pub struct Asked {
 
 pub enum Verb<'s> {
     Speak(&'s str, Asked),
+    /// So many periods.
+    Record(u64, Asked),
     Reset,
     Release(u32),
     Unstick(u32),
@@ -48,6 +50,10 @@ pub fn verb(line: &str) -> Result<Verb<'_>, Unread<'_>> {
         Some("speak") => {
             let name = words.next().filter(|name| is_name(name)).ok_or(Unread(line))?;
             return Ok(Verb::Speak(name, asked(words)?));
+        }
+        Some("record") => {
+            let periods = number(words.next().ok_or(Unread(line))?)?;
+            return Ok(Verb::Record(periods, asked(words)?));
         }
         Some("reset") => Verb::Reset,
         Some("release") => Verb::Release(number(words.next().ok_or(Unread(line))?)?),

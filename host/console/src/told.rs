@@ -5,7 +5,7 @@ use page::{Built, Completed, Drain, Fault, Gap, Page, Part, Refused, Same, Strea
 use snd::{Offer, Reading, SLOTS, STATUS_OK};
 
 /// Faults that a page lists; more are counted.
-const LISTED: usize = 16;
+pub(crate) const LISTED: usize = 16;
 /// The periods behind those that were accepted are at most ten in flight and one that failed, each a gap of its own, and the rest, one gap more.
 const GAPS: usize = 12;
 
@@ -17,7 +17,7 @@ pub struct List<T, const N: usize> {
 }
 
 impl<T: Copy, const N: usize> List<T, N> {
-    const fn new(unused: T) -> Self {
+    pub(crate) const fn new(unused: T) -> Self {
         Self {
             things: [unused; N],
             count: 0,
@@ -25,7 +25,7 @@ impl<T: Copy, const N: usize> List<T, N> {
         }
     }
 
-    fn push(&mut self, thing: T) {
+    pub(crate) fn push(&mut self, thing: T) {
         match self.things.get_mut(self.count) {
             Some(place) => {
                 *place = thing;
@@ -81,7 +81,7 @@ impl Default for Told {
 }
 
 /// What stands in places of a list that are not in use.
-const FAULT: Fault = Fault {
+pub(crate) const FAULT: Fault = Fault {
     when: When::Transfer(0),
     what: What::Status { period: 0, status: 0 },
 };

@@ -2,9 +2,9 @@
 //! this only has to look whether that function is asked for.
 #![no_std]
 use snd::{
-    Config, F_CTLS, Features, Format, Formats, Model, Notification, Page, Params, Pending, Places, Rate, Rates, Reading,
-    Refusal, Ring, Sound, Started, Status, Step, StreamList, Submitted, Unfed, Value, Version, latest_notification,
-    latest_notification_in, wav,
+    Captured, Capturing, Config, F_CTLS, Features, Format, Formats, Model, Notification, Page, Params, Pending, Places,
+    Rate, Rates, Reading, Refusal, Ring, Sound, Started, Status, Step, StreamList, Submitted, Unfed, Value, Version,
+    latest_notification, latest_notification_in, wav,
 };
 
 unsafe extern "C" {
@@ -33,7 +33,7 @@ pub struct Console {
 #[unsafe(no_mangle)]
 pub extern "C" fn guest_main(console: &mut Console) -> u64 {
     [
-        calls, supported, feeds, lists, turns, transfer, pending, reads, device, versions, waves, values,
+        calls, supported, feeds, lists, turns, transfer, capture, pending, reads, device, versions, waves, values,
     ]
     .iter()
     .fold(0, |sum, part| part(console).wrapping_add(sum))
@@ -186,6 +186,38 @@ fn transfer(console: &mut Console) -> u64 {
     let kept = sum(transfer.frames()) ^ transfer.ring().turns_run().unwrap_or(0);
     let ended = transfer.end().map_or(0, |frames| sum(frames));
     offered ^ u64::from(turned) ^ u64::from(drained) ^ kept ^ ended
+}
+
+fn capture(console: &mut Console) -> u64 {
+    let Console {
+        sound,
+        ring,
+        number,
+        bytes,
+        length: end,
+        ..
+    } = console;
+    let (mut recording, heard) = ([7; 64], bytes.get(..*end).unwrap_or_default());
+    let seen = Captured::Completed {
+        slot: *number,
+        written: *number,
+        bytes: heard,
+    };
+    let by_hand = ring.capture_turn(&mut recording, seen).is_ok();
+    let mut capture = match sound.capture(ring, *number, u64::from(*number), &mut recording, u64::MAX) {
+        Ok(Capturing::Runs(capture)) => capture,
+        Ok(Capturing::SetUp(exchange)) => return length(sound.feed_failure(exchange)),
+        Err(refusal) => return refused(refusal),
+    };
+    let offered = match capture.offered() {
+        Ok(Some(room)) => u64::from(room.slot) ^ room.length as u64,
+        Ok(None) => 0,
+        Err(refusal) => refused(refusal),
+    };
+    let turned = capture.turn(seen).is_ok();
+    let drained = capture.drain_turn(seen).is_ok();
+    let kept = capture.recorded().map_or_else(refused, sum) ^ capture.ring().turns_run().unwrap_or(0);
+    offered ^ u64::from(by_hand) ^ u64::from(turned) ^ u64::from(drained) ^ kept
 }
 
 fn pending(console: &mut Console) -> u64 {

@@ -55,6 +55,15 @@ pub enum What {
         /// Its status.
         status: u32,
     },
+    /// A captured period that came back with a length that cannot be.
+    Written {
+        /// Which period, counted from 1.
+        period: usize,
+        /// The length that the queue reported.
+        written: u32,
+        /// Bytes of a period and its status.
+        most: u64,
+    },
 }
 
 impl fmt::Display for What {
@@ -72,6 +81,12 @@ impl fmt::Display for What {
                 write!(f, "completion {completion} named slot {named}; slot {due} was due")
             }
             Self::Status { period, status } => write!(f, "period {period} {}", CameBack(*status)),
+            Self::Written { period, written, most } => {
+                write!(
+                    f,
+                    "period {period} came back with {written} bytes written; 8 to {most} are good"
+                )
+            }
         }
     }
 }

@@ -178,7 +178,7 @@ impl fmt::Display for Page<'_> {
         let mut lines = Lines(f);
         before(&mut lines, self)?;
         device(&mut lines, self)?;
-        after(&mut lines, self)?;
+        after(&mut lines, "transfer", self.refused, &self.turns, &self.times)?;
         built(&mut lines, &self.built)
     }
 }
@@ -203,10 +203,10 @@ impl fmt::Display for Together {
     }
 }
 
-struct Lines<'l, 'f>(&'l mut fmt::Formatter<'f>);
+pub(crate) struct Lines<'l, 'f>(pub &'l mut fmt::Formatter<'f>);
 
 impl Lines<'_, '_> {
-    fn line(&mut self, name: &str, fact: impl fmt::Display) -> fmt::Result {
+    pub(crate) fn line(&mut self, name: &str, fact: impl fmt::Display) -> fmt::Result {
         writeln!(self.0, "{name:<13}{fact}")
     }
 }
@@ -219,24 +219,30 @@ fn before(lines: &mut Lines, page: &Page) -> fmt::Result {
     for warning in warnings(&page.params, page.bytes) {
         lines.line("warning", warning)?;
     }
-    if page.strict {
-        lines.line("mode", "strict: of each answer only what the device wrote was read")?;
-    }
-    if page.guard {
-        lines.line(
-            "guard",
-            "on: nothing was sent that the stream's lifecycle does not permit",
-        )?;
-    }
+    modes(lines, page.strict, page.guard)?;
     if let Some(told) = &page.virtio {
         virtio(lines, told)?;
     }
     if let Some(told) = &page.jacks {
         jacks(lines, told)?;
     }
-    stream(lines, page)?;
+    stream(lines, page.stream)?;
     parameters(lines, &page.params)?;
     periods(lines, page.bytes, page.params.period as usize)
+}
+
+/// How the driver was used.
+pub(crate) fn modes(lines: &mut Lines, strict: bool, guard: bool) -> fmt::Result {
+    if strict {
+        lines.line("mode", "strict: of each answer only what the device wrote was read")?;
+    }
+    if guard {
+        lines.line(
+            "guard",
+            "on: nothing was sent that the stream's lifecycle does not permit",
+        )?;
+    }
+    Ok(())
 }
 
 /// The configuration, and a control event.
@@ -304,18 +310,21 @@ fn device(lines: &mut Lines, page: &Page) -> fmt::Result {
 }
 
 /// The answer, and how long it took.
-fn after(lines: &mut Lines, page: &Page) -> fmt::Result {
-    lines.line("answer", Answered(page.refused))?;
-    match at_most(page.turns.run, page.turns.allowed, page.times.longest) {
+pub(crate) fn after(
+    lines: &mut Lines,
+    what: &str,
+    refused: Option<Refused>,
+    turns: &Turns,
+    times: &Times,
+) -> fmt::Result {
+    lines.line("answer", Answered(refused))?;
+    match at_most(turns.run, turns.allowed, times.longest) {
         Some(seconds) => {
-            let turns = Count(page.turns.allowed, "turn");
-            lines.line(
-                "longest turn",
-                format_args!("{:.9} s", page.times.longest.as_secs_f64()),
-            )?;
+            let turns = Count(turns.allowed, "turn");
+            lines.line("longest turn", format_args!("{:.9} s", times.longest.as_secs_f64()))?;
             lines.line(
                 "at most",
-                format_args!("{seconds:.9} s in the transfer: {turns} allowed, each no longer than the longest"),
+                format_args!("{seconds:.9} s in the {what}: {turns} allowed, each no longer than the longest"),
             )?;
         }
         None => {
@@ -323,10 +332,10 @@ fn after(lines: &mut Lines, page: &Page) -> fmt::Result {
             lines.line("at most", "not known: no turn was measured")?;
         }
     }
-    lines.line("wall time", format_args!("{:.6} s", page.times.whole.as_secs_f64()))
+    lines.line("wall time", format_args!("{:.6} s", times.whole.as_secs_f64()))
 }
 
-fn built(lines: &mut Lines, built: &Built) -> fmt::Result {
+pub(crate) fn built(lines: &mut Lines, built: &Built) -> fmt::Result {
     if let Some(date) = built.date {
         lines.line("date", date)?;
     }
@@ -369,7 +378,7 @@ impl fmt::Display for Answered {
 }
 
 /// So many of a thing.
-struct Count<'t>(u64, &'t str);
+pub(crate) struct Count<'t>(pub u64, pub &'t str);
 
 impl fmt::Display for Count<'_> {
     fn fmt(&self, f: &mut fmt::Formatter<'_>) -> fmt::Result {
@@ -396,12 +405,12 @@ fn jacks(lines: &mut Lines, told: &Jacks) -> fmt::Result {
     )
 }
 
-fn stream(lines: &mut Lines, page: &Page) -> fmt::Result {
+pub(crate) fn stream(lines: &mut Lines, stream: Option<Stream>) -> fmt::Result {
     let Some(Stream {
         number,
         output,
         channels,
-    }) = page.stream
+    }) = stream
     else {
         return lines.line("stream", "none");
     };
@@ -410,7 +419,7 @@ fn stream(lines: &mut Lines, page: &Page) -> fmt::Result {
     lines.line("stream", format_args!("{number}, {kind}, {min} to {max} channels"))
 }
 
-fn parameters(lines: &mut Lines, to: &Params) -> fmt::Result {
+pub(crate) fn parameters(lines: &mut Lines, to: &Params) -> fmt::Result {
     let channels = Count(to.channels.into(), "channel");
     let (buffer, period, hz) = (to.buffer, to.period, to.rate.hz());
     let (format, _bytes) = sample(to.format);
@@ -436,7 +445,7 @@ fn periods(lines: &mut Lines, bytes: usize, period: usize) -> fmt::Result {
     }
 }
 
-fn turns(lines: &mut Lines, turns: &Turns) -> fmt::Result {
+pub(crate) fn turns(lines: &mut Lines, turns: &Turns) -> fmt::Result {
     let Turns {
         run,
         allowed,

@@ -7,6 +7,7 @@
     clippy::indexing_slicing,
     reason = "chains and sets are below their arrays' lengths, a place in a ring is taken modulo its length, a byte's place is that of the slice beside it"
 )]
+use core::mem::MaybeUninit;
 use core::ptr::{read_volatile, write_volatile};
 use core::sync::atomic::{Ordering, fence};
 
@@ -75,6 +76,15 @@ impl<const CHAINS: usize, const ANSWER: usize> Memory<CHAINS, ANSWER> {
             used: Used::EMPTY,
             request: [[[0; REQUEST]; CHAINS]; SETS],
             answer: [[[0; ANSWER]; CHAINS]; SETS],
+        }
+    }
+
+    /// The same in a place of its own, for memory that is too large for a stack. All are zeros; what the rings begin with is written by `Queue::empty`.
+    pub fn make(place: &mut MaybeUninit<Self>) -> &mut Self {
+        // SAFETY: all of it are whole numbers, for which zeros stand.
+        unsafe {
+            place.as_mut_ptr().write_bytes(0, 1);
+            place.assume_init_mut()
         }
     }
 }

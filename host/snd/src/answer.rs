@@ -128,6 +128,8 @@ table! {
     Full = 15,
     /// A submission that is to be finished, and whose completion was not seen yet ([`crate::Sound::pcm_xfer_ok`]).
     NotYet = 16,
+    /// A capture's completion whose written length is under 8, the bytes of a status, or above a period and 8 ([`crate::Capture`]).
+    BadCapture = 17,
 }
 
 impl Answer {
@@ -256,7 +258,7 @@ mod tests {
 
     #[test]
     fn a_number_outside_the_table_is_unknown() {
-        for number in [17, 255, 514, u64::MAX] {
+        for number in [18, 255, 514, u64::MAX] {
             assert_eq!(Said::of(number), Said::Refused(Refusal::Unknown));
         }
         assert_eq!(Said::done(512), Err(Refusal::Unknown));

@@ -114,6 +114,14 @@ entries! {
     /// One drain turn.
     fn snd_drain_turn(ring: &mut [u8], kind: u32, slot: u32, status: u32,);
 
+    /// The start of a capture.
+    fn snd_pcm_capture_start(state: &mut [u8], ring: &mut [u8], stream: u32, periods: u64, recording: &[u8], budget: u64,
+        message: &mut [u8],);
+    /// What its next turn submits.
+    fn snd_capture_offered(ring: &[u8], recording: &[u8], result: &mut [u8],);
+    /// One turn of it.
+    fn snd_capture_turn(ring: &mut [u8], recording: &mut [u8], kind: u32, slot: u32, written: u32, bytes: &[u8],);
+
     /// Whether a transfer runs.
     fn snd_ring_running(ring: &[u8], result: &mut [u8],);
     /// How many slots are in flight.
@@ -128,6 +136,8 @@ entries! {
     fn snd_ring_carried(ring: &[u8], slot: usize, result: &mut [u8],);
     /// The oldest slot in flight.
     fn snd_ring_oldest(ring: &[u8], result: &mut [u8],);
+    /// How many bytes of the recording a capture has kept.
+    fn snd_ring_kept(ring: &[u8], result: &mut [u8],);
 
     /// A submission that does not wait.
     fn snd_pcm_xfer_nb(state: &mut [u8], ring: &[u8], stream: u32, payload: &[u8], places: &mut [u8],

@@ -165,6 +165,7 @@ fn call_name(call: u8, part: u8) -> &'static str {
         (5, 1) => "formats",
         (5, 2) => "channel range",
         (5, _) => "features",
-        _ => "transfer",
+        (6, _) => "transfer",
+        _ => "capture",
     }
 }

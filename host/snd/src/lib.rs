@@ -39,6 +39,8 @@
 //!
 //! A transfer goes turn by turn, and keeps its frames until no device reads them: see [`Transfer`].
 //!
+//! A capture goes turn by turn as well, and joins what a microphone heard into a recording: see [`Capture`].
+//!
 //! A console that has other work meanwhile submits period by period and goes on: see [`Places`].
 //!
 //! With the feature `alloc` frames may be a `Vec<u8>` or a `Box<[u8]>`; else the crate needs no allocator.
@@ -61,6 +63,7 @@ compile_error!("snd is for targets of 64 bits: a length has 64 bits in the drive
 
 mod answer;
 mod bytes;
+mod capture;
 mod event;
 pub mod ffi;
 mod layout;
@@ -78,6 +81,7 @@ mod version;
 pub mod wav;
 
 pub use answer::{Answer, Refusal};
+pub use capture::{CAPTURE_STATUS, Capture, Captured, Capturing, Room};
 pub use event::{Event, EventKind, latest_notification};
 pub use model::{Model, TransferStatus};
 pub use params::{Format, Params, Rate};
@@ -94,7 +98,7 @@ pub use version::{Config, F_CTLS, Notification, Version, latest_notification_in}
 /// The size of a state's store.
 pub const STATE_SIZE: usize = 14_703;
 /// The size of a ring's store.
-pub const RING_SIZE: usize = 608;
+pub const RING_SIZE: usize = 628;
 /// The size of a message buffer.
 pub const MESSAGE_SIZE: usize = 24;
 /// The size of a result.

@@ -3,7 +3,7 @@ use crate::answer::Said;
 use crate::bytes::{Results, part_at, size_at, u64_at};
 use crate::layout::new_ring;
 use crate::step::{narrow, slot_if_there, told};
-use crate::{RING_SIZE, Refusal, ffi};
+use crate::{Captured, RING_SIZE, Refusal, Room, ffi};
 use core::borrow::{Borrow, BorrowMut};
 use core::fmt;
 
@@ -38,8 +38,21 @@ impl Reading {
 pub enum Turn {
     /// It runs: another turn.
     Going,
-    /// It is over, with Ok: the device has accepted every period. It may not have played them all yet: wait before a stop.
+    /// It is over, with Ok: the device has accepted every period, or of a capture completed every one well. What was to be played may not be
+    /// played yet: wait before a stop.
     Done,
+}
+
+impl Turn {
+    /// What the entry of a turn answers.
+    const fn of(answer: u64) -> Result<Self, Refusal> {
+        match Said::of(answer) {
+            Said::Going => Ok(Self::Going),
+            Said::Ok => Ok(Self::Done),
+            Said::Refused(refusal) => Err(refusal),
+            Said::Send(_) | Said::Nothing => Err(Refusal::Unknown),
+        }
+    }
 }
 
 /// The period that the next turn submits.
@@ -177,12 +190,27 @@ impl<R: BorrowMut<[u8; RING_SIZE]>> Ring<R> {
     /// what is then in flight is owed: see [`Ring::drain_turn`]. A reading that is refused with `WrongToken` frees nothing, and is to be kept for the drain.
     pub fn turn(&mut self, frames: &[u8], reading: Reading) -> Result<Turn, Refusal> {
         let (kind, slot, status) = reading.numbers();
-        match Said::of(ffi::snd_turn(self.store_mut(), frames, kind, slot, status)) {
-            Said::Going => Ok(Turn::Going),
-            Said::Ok => Ok(Turn::Done),
-            Said::Refused(refusal) => Err(refusal),
-            Said::Send(_) | Said::Nothing => Err(Refusal::Unknown),
-        }
+        Turn::of(ffi::snd_turn(self.store_mut(), frames, kind, slot, status))
+    }
+
+    /// One turn of a capture. `recording` is as long as at the start; an accepted payload is copied behind what was kept before, and no other
+    /// byte of it changes.
+    ///
+    /// Refused in this order: [`Refusal::BadLength`] for a recording of another length than at the start, and for fewer bytes than were
+    /// written, as far as a period and 8 go; [`Refusal::InvalidParam`] where no capture runs; neither counts as a turn. Then, and each ends the
+    /// capture, [`Refusal::WrongToken`], [`Refusal::BadCapture`] for a written length under 8 or above a period and 8,
+    /// [`Refusal::IoError`] with the status, and [`Refusal::OutOfTurns`]. What was accepted before stays, and what is then in flight is
+    /// owed: see [`Ring::drain_turn`].
+    pub fn capture_turn(&mut self, recording: &mut [u8], seen: Captured<'_>) -> Result<Turn, Refusal> {
+        let (kind, slot, written, bytes) = seen.parts();
+        Turn::of(ffi::snd_capture_turn(
+            self.store_mut(),
+            recording,
+            kind,
+            slot,
+            written,
+            bytes,
+        ))
     }
 
     /// After a transfer that failed: frees the oldest slot in flight, whatever its status, once the device has completed it. Another slot
@@ -236,7 +264,24 @@ impl<R: Borrow<[u8; RING_SIZE]>> Ring<R> {
         )?
     }
 
-    /// Whether a transfer runs.
+    /// The room for a period that the next turn of a capture submits, or `None` if it submits none. Refuses what the turn would refuse. Of the
+    /// recording only the length is looked at.
+    pub fn capture_offered(&self, recording: &[u8]) -> Result<Option<Room>, Refusal> {
+        told(
+            |result| ffi::snd_capture_offered(self.store(), recording, result),
+            Room::read,
+        )?
+    }
+
+    /// How many bytes a capture has accepted: the recording's first. Of a playback 0.
+    pub fn kept(&self) -> Result<usize, Refusal> {
+        told(
+            |result| ffi::snd_ring_kept(self.store(), result),
+            |result| size_at(result, 0),
+        )
+    }
+
+    /// Whether a transfer or a capture runs.
     pub fn running(&self) -> Result<bool, Refusal> {
         self.read(ffi::snd_ring_running).map(|runs| runs != 0)
     }

@@ -5,8 +5,8 @@ use crate::layout::{lives, new_state, open, set_up, tokens};
 use crate::pending::token;
 use crate::step::{Exchange, Page, Step, Unfed, Value, narrow, told};
 use crate::{
-    ChannelRange, Features, Formats, Frames, Params, Pending, PlaceStore, Places, Rates, Reading, Refusal, Ring,
-    Started, StreamList, Submitted, Transfer, ffi,
+    Capture, Capturing, ChannelRange, Features, Formats, Frames, Params, Pending, PlaceStore, Places, Rates, Reading,
+    Refusal, Ring, Started, StreamList, Submitted, Transfer, ffi,
 };
 use crate::{MESSAGE_SIZE, PAGE_SIZE, RESULT_SIZE, RING_SIZE, STATE_SIZE};
 use core::borrow::{Borrow, BorrowMut};
@@ -501,14 +501,59 @@ impl<S: BorrowMut<[u8; STATE_SIZE]>> Sound<S> {
         frames: &[u8],
         budget: u64,
     ) -> Result<Step<()>, Refusal> {
+        self.begun(|state, message| ffi::snd_pcm_xfer_start(state, ring.store_mut(), stream, frames, budget, message))
+    }
+
+    /// The start of a transfer or a capture by `entry`, with a message buffer for it to fill.
+    fn begun(&mut self, entry: impl FnOnce(&mut [u8], &mut [u8]) -> u64) -> Result<Step<()>, Refusal> {
         let mut message = [0; MESSAGE_SIZE];
-        let answer = ffi::snd_pcm_xfer_start(self.state(), ring.store_mut(), stream, frames, budget, &mut message);
+        let answer = entry(self.state(), &mut message);
         match Said::of(answer) {
             Said::Going => Ok(Step::Done(())),
-            // a transfer that started never answers Ok at once
+            // what started never answers Ok at once
             Said::Ok => Err(Refusal::Unknown),
             _ => Step::of(answer, message, self.store(), &[0; RESULT_SIZE]),
         }
+    }
+}
+
+/// The start of a capture.
+impl<S: BorrowMut<[u8; STATE_SIZE]>> Sound<S> {
+    /// Starts a capture of so many whole periods of an input stream, which has the recording until it is dropped: see [`Capture`].
+    ///
+    /// Refused, after what a transfer is refused for, in this order: 1 for a stream too high, 12 under the guard, 1 for a stream that is no
+    /// input, 2 where it has no parameters, 9 for a budget of 0, and 10 for a recording that is shorter than the periods.
+    ///
+    /// n periods need no more than n·g + 1 turns from a device that completes one within any g turns, each with a good length. Start the
+    /// stream first.
+    pub fn capture<'r, R: BorrowMut<[u8; RING_SIZE]>>(
+        &mut self,
+        ring: &'r mut Ring<R>,
+        stream: u32,
+        periods: u64,
+        recording: &'r mut [u8],
+        budget: u64,
+    ) -> Result<Capturing<'r, R>, Refusal> {
+        match self.pcm_capture_start(ring, stream, periods, recording, budget)? {
+            Step::Done(()) => Ok(Capturing::Runs(Capture::new(ring, recording))),
+            Step::Send(exchange) => Ok(Capturing::SetUp(exchange)),
+        }
+    }
+
+    /// Starts a capture into a recording that you keep yourself: `Done` says that it runs, and [`Ring::capture_turn`] is next. `Send` says that
+    /// set-up had to begin; the call then ends with a refusal at a feed. Of the recording only the length is looked at, and every turn is to
+    /// be lent one of the same length.
+    pub fn pcm_capture_start(
+        &mut self,
+        ring: &mut Ring<impl BorrowMut<[u8; RING_SIZE]>>,
+        stream: u32,
+        periods: u64,
+        recording: &[u8],
+        budget: u64,
+    ) -> Result<Step<()>, Refusal> {
+        self.begun(|state, message| {
+            ffi::snd_pcm_capture_start(state, ring.store_mut(), stream, periods, recording, budget, message)
+        })
     }
 }
 

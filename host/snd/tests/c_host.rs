@@ -16,6 +16,10 @@ stop: -> 2, the device said 0x8002
 stop: -> 2, the device said 0x8003
 stop: -> 2, the device said 0x0000
 event: -> 2, by no status
+set parameters: 0101/24 -> 0
+capture of an output: -> 1
+recorded: gate two----, kept 8 -> 0
+recorded: door two----, kept 4 -> 17
 ";
 
 #[test]

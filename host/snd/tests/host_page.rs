@@ -1,8 +1,10 @@
-//! The audio loop, the strict feed, the refusal told, the announcement from a file, the loop that does not wait and the device of VirtIO 1.3 of docs/HOST.md run, and the page shows the texts that ran.
+//! The audio loop, the strict feed, the refusal told, the announcement from a file, the loop that does not wait, the recording and the device of VirtIO 1.3 of docs/HOST.md run, and the page shows the texts that ran.
 #[path = "../examples/audio_loop.rs"]
 mod audio_loop;
 #[path = "../examples/go_on.rs"]
 mod go_on;
+#[path = "../examples/record.rs"]
+mod record;
 #[path = "../examples/refused.rs"]
 mod refused;
 #[path = "../examples/strict_mode.rs"]
@@ -38,6 +40,11 @@ fn the_loop_that_does_not_wait_goes_on() {
 }
 
 #[test]
+fn a_console_records() {
+    assert_eq!(record::main(), Ok(()));
+}
+
+#[test]
 fn a_device_is_read_by_its_version() {
     assert_eq!(versions::main(), Ok(()));
 }
@@ -51,6 +58,7 @@ fn the_page_shows_the_texts_that_ran() {
         include_str!("../examples/refused.rs"),
         include_str!("../examples/wave_file.rs"),
         include_str!("../examples/go_on.rs"),
+        include_str!("../examples/record.rs"),
         include_str!("../examples/versions.rs"),
     ];
     let blocks: Vec<_> = page.split("```").skip(1).step_by(2).collect();

@@ -1,7 +1,7 @@
 //! Sizes, and answer 10: which lengths every entry tests, and that it then leaves every byte as it was.
 mod common;
 use common::entries::{ENTRIES, entry};
-use common::lent::Lent;
+use common::lent::{Lent, Part};
 use snd::ffi;
 
 #[test]
@@ -23,13 +23,27 @@ fn a_short_slice_is_10_and_leaves_every_byte() {
                 let length = lent.part(part).len();
                 lent.part(part).truncate(length.saturating_sub(cut));
                 // no table at all is a table of no records
-                if cut == usize::MAX && entry.name == "snd_model_new" && part != common::lent::Part::Model {
+                if cut == usize::MAX && entry.name == "snd_model_new" && part != Part::Model {
                     continue;
                 }
                 let before = lent.clone();
                 assert_eq!((entry.call)(&mut lent), 10, "{} with a short {part:?}", entry.name);
                 assert!(lent == before, "{} with a short {part:?} changed a byte", entry.name);
             }
+        }
+    }
+}
+
+/// Each way to it of a capture's turn: tests/capture.rs.
+#[test]
+fn a_recording_of_another_length_than_at_the_start_is_10() {
+    for name in ["snd_capture_offered", "snd_capture_turn"] {
+        for length in [0, 28, 30] {
+            let mut lent = Lent::capturing();
+            lent.recording.resize(length, 0);
+            let before = lent.clone();
+            assert_eq!((entry(name).call)(&mut lent), 10, "{name}");
+            assert!(lent == before, "{name} changed a byte");
         }
     }
 }
@@ -83,7 +97,7 @@ fn a_bad_length_shows_before_an_inconsistent_store() {
         lent.ring.fill(0xff);
         lent.model.fill(0xff);
         let part = entry.tested[entry.tested.len() - 1];
-        if part == common::lent::Part::Frames {
+        if [Part::Frames, Part::Recording].contains(&part) {
             // a ring that runs nothing has no start to compare lengths with
             continue;
         }

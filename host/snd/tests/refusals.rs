@@ -1,9 +1,9 @@
 //! Every refusal but 10, each way to it.
 mod common;
-use common::{Desk, PARAMS, sent};
+use common::{Desk, PARAMS, captured, sent};
 use snd::{
-    Cause, Model, PLACES, Page, Params, PcmInfo, Places, Reading, Refusal, Ring, STATUS_OK, Sound, Status, Step,
-    Submitted, Unfed, Value,
+    Captured, Cause, Model, PLACES, Page, Params, PcmInfo, Places, Reading, Refusal, Ring, STATUS_OK, Sound, Status,
+    Step, Submitted, Unfed, Value,
 };
 
 const OK: Reading = Reading::Completed {
@@ -390,6 +390,21 @@ fn full_15_and_not_yet_16() {
     assert_eq!(desk.sound.pcm_xfer_ok(&mut places, 0), Err(Refusal::NotYet));
 }
 
+/// Each way to it, and to 1, 2, 6, 8, 9, 10 and 12 of a capture: tests/capture.rs.
+#[test]
+fn bad_capture_17() {
+    let mut recording = [0; 4];
+    let mut desk = Desk::with_capture(1, &recording, 9);
+    let bytes = captured(b"", STATUS_OK);
+    let seen = Captured::Completed {
+        slot: 0,
+        written: 7,
+        bytes: &bytes,
+    };
+    assert_eq!(desk.ring.capture_turn(&mut recording, seen), Err(Refusal::BadCapture));
+    assert_eq!((desk.ring.running(), desk.ring.in_flight()), (Ok(false), Ok(0)));
+}
+
 /// Each way to them: tests/wav.rs.
 #[test]
 fn not_wave_13_and_bad_sound_14() {
@@ -453,6 +468,7 @@ fn answers_have_the_documents_numbers() {
         (14, "BadSound"),
         (15, "Full"),
         (16, "NotYet"),
+        (17, "BadCapture"),
     ];
     for (number, name) in names {
         let refusal = Refusal::of(u64::from(number) | 0x8002 << 32);
@@ -472,7 +488,7 @@ fn answers_have_the_documents_numbers() {
         );
     }
     assert_eq!((snd::Answer::Ok.number(), snd::Answer::Ok.name()), (0, "Ok"));
-    assert_eq!(Refusal::of(17), Refusal::Unknown);
+    assert_eq!(Refusal::of(18), Refusal::Unknown);
     assert_eq!(
         Refusal::of(0x8000_0000_0003).to_string(),
         "3 Unsupported: no status caused it"

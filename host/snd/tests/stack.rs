@@ -79,6 +79,7 @@ fn cases() -> Vec<Lent> {
         Lent::idle(),
         Lent::asking(),
         Lent::pending(),
+        Lent::capturing(),
         full,
         completed,
         refused,

@@ -71,7 +71,7 @@ fn a_state_shows_which_call_waits() {
     let open = |what: &str| format!("Sound {{ jacks: 2, streams: 1, chmaps: 3, set_up: false, open: {what} }}");
     assert_eq!(shown(|_, _| Ok(())), open("nothing"));
     let waiting = |call: &str| open(&format!("query of jacks, for {call}"));
-    let calls: [(Lost, &str); 13] = [
+    let calls: [(Lost, &str); 14] = [
         (|s, r| s.jack_remap(r, 0, 0, 0).map(drop), "remap"),
         (|s, r| s.pcm_set_params(r, 0, PARAMS).map(drop), "set parameters"),
         (|s, r| s.pcm_prepare(r, 0).map(drop), "prepare"),
@@ -87,6 +87,10 @@ fn a_state_shows_which_call_waits() {
         (
             |s, _| s.pcm_xfer_start(&mut Ring::new(), 0, b"", 1).map(drop),
             "transfer",
+        ),
+        (
+            |s, _| s.pcm_capture_start(&mut Ring::new(), 0, 0, b"", 1).map(drop),
+            "capture",
         ),
     ];
     for (call, name) in calls {

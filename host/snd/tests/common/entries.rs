@@ -16,7 +16,7 @@ macro_rules! entries {
     };
 }
 
-/// The 54 entries, in the header's order.
+/// The 58 entries, in the header's order.
 pub const ENTRIES: &[Entry] = entries! {
     snd_state_size [] |_l| ();
     snd_ring_size [] |_l| ();
@@ -54,6 +54,11 @@ pub const ENTRIES: &[Entry] = entries! {
     snd_offered [Ring Frames Result] |l| (&l.ring, &l.frames, &mut l.result);
     snd_turn [Ring Frames] |l| (&mut l.ring, &l.frames, l.numbers[3], l.numbers[0], l.numbers[1]);
     snd_drain_turn [Ring] |l| (&mut l.ring, l.numbers[3], l.numbers[0], l.numbers[1]);
+    snd_pcm_capture_start [State Ring Message]
+        |l| (&mut l.state, &mut l.ring, l.numbers[0], l.periods, &l.recording, l.budget, &mut l.message);
+    snd_capture_offered [Ring Recording Result] |l| (&l.ring, &l.recording, &mut l.result);
+    snd_capture_turn [Ring Recording]
+        |l| (&mut l.ring, &mut l.recording, l.numbers[3], l.numbers[0], l.numbers[1], &l.bytes);
     snd_ring_running [Ring Result] |l| (&l.ring, &mut l.result);
     snd_ring_in_flight [Ring Result] |l| (&l.ring, &mut l.result);
     snd_ring_free_descriptors [Ring Result] |l| (&l.ring, &mut l.result);
@@ -61,6 +66,7 @@ pub const ENTRIES: &[Entry] = entries! {
     snd_ring_stream [Ring Result] |l| (&l.ring, &mut l.result);
     snd_ring_carried [Ring Result] |l| (&l.ring, l.numbers[0] as usize, &mut l.result);
     snd_ring_oldest [Ring Result] |l| (&l.ring, &mut l.result);
+    snd_ring_kept [Ring Result] |l| (&l.ring, &mut l.result);
     snd_pcm_xfer_nb [State Ring Message Result]
         |l| (&mut l.state, &l.ring, l.numbers[0], &l.payload, &mut l.places, &mut l.message, &mut l.result);
     snd_pcm_xfer_mark [State] |l| (&mut l.state, l.numbers[3], l.numbers[0], l.numbers[1]);

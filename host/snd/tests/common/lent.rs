@@ -15,6 +15,11 @@ pub struct Lent {
     pub page: Vec<u8>,
     pub model: Vec<u8>,
     pub frames: Vec<u8>,
+    /// As long as the frames, so that a turn of either kind finds the length of its start; room for seven periods and a byte.
+    pub recording: Vec<u8>,
+    pub periods: u64,
+    /// A captured period, whole, with its status.
+    pub bytes: Vec<u8>,
     /// One period, and places that have room for it and a byte more; the last bytes belong to none.
     pub payload: Vec<u8>,
     pub places: Vec<u8>,
@@ -46,6 +51,7 @@ pub enum Part {
     Page,
     Model,
     Frames,
+    Recording,
     Answer,
     File,
     Config,
@@ -103,6 +109,16 @@ impl Lent {
         lent
     }
 
+    /// Set up, with a capture of seven periods that runs, and a period whole to hand to its next turn.
+    pub fn capturing() -> Self {
+        let mut lent = Self::good();
+        let desk = Desk::with_capture(lent.periods, &lent.recording, 1000);
+        lent.state = desk.sound.store().to_vec();
+        lent.ring = desk.ring.store().to_vec();
+        lent.numbers = [0, 12, 0, 1];
+        lent
+    }
+
     /// The first request of set-up is out.
     pub fn asking() -> Self {
         let mut lent = Self::idle();
@@ -121,6 +137,9 @@ impl Lent {
             result: vec![0xa2; RESULT_SIZE],
             page: vec![0; PAGE_SIZE],
             frames: FRAMES.to_vec(),
+            recording: vec![0xa5; FRAMES.len()],
+            periods: 7,
+            bytes: super::captured(b"mike", 0x8000),
             payload: b"four".to_vec(),
             places: vec![0xa4; snd::PLACES * (4 + 4 + 1) + 7],
             request: vec![2, 1, 0, 0, 0, 0, 0, 0],
@@ -150,6 +169,7 @@ impl Lent {
             Part::Page => &mut self.page,
             Part::Model => &mut self.model,
             Part::Frames => &mut self.frames,
+            Part::Recording => &mut self.recording,
             Part::Answer => &mut self.answer,
             Part::File => &mut self.file,
             Part::Config => &mut self.config,

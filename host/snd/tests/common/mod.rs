@@ -55,6 +55,24 @@ impl Desk {
         desk
     }
 
+    /// A desk whose stream 1, an input, has parameters.
+    pub fn with_input() -> Self {
+        let mut desk = Self::new();
+        let step = desk.sound.pcm_set_params(&desk.ring, 1, PARAMS);
+        desk.finish(step).unwrap();
+        desk
+    }
+
+    /// A desk that runs a capture.
+    pub fn with_capture(periods: u64, recording: &[u8], budget: u64) -> Self {
+        let mut desk = Self::with_input();
+        let step = desk
+            .sound
+            .pcm_capture_start(&mut desk.ring, 1, periods, recording, budget);
+        assert_eq!(step, Ok(Step::Done(())));
+        desk
+    }
+
     /// Sends what is to be sent and feeds the answers, until the call's result.
     pub fn finish<T: Value>(&mut self, first: Result<Step<T>, Refusal>) -> Result<T, Refusal> {
         let mut step = first?;
@@ -80,6 +98,11 @@ impl Desk {
             }
         }
     }
+}
+
+/// What a device writes of a period: the payload, then the status and a latency.
+pub fn captured(payload: &[u8], status: u32) -> Vec<u8> {
+    [payload, &status.to_le_bytes(), &[0xee; 4]].concat()
 }
 
 /// The exchange of a call that has a request to send.
