@@ -57,6 +57,19 @@ module _ {A : Type 0} where
   cut-none (suc f) p [] h = refl
   cut-none (suc f) p (x ∷ xs) h = absurd (omega arith)
 
+  -- cutting does not depend on spare fuel
+  pub cut-same : (f g p : ℕ) (xs : List A) → 0 < p → length xs ≤ f → length xs ≤ g → cutBy f p xs ≡ cutBy g p xs
+  unfolding cutBy
+  cut-same zero zero p xs h a b = refl
+  cut-same zero (suc g) p [] h a b = refl
+  cut-same zero (suc g) p (x ∷ xs) h a b = absurd (omega arith)
+  cut-same (suc f) zero p [] h a b = refl
+  cut-same (suc f) zero p (x ∷ xs) h a b = absurd (omega arith)
+  cut-same (suc f) (suc g) p [] h a b = refl
+  cut-same (suc f) (suc g) p (x ∷ xs) h a b =
+      let less = length-drop p (x ∷ xs) in
+      ap (λ (l : List (List A)). take p (x ∷ xs) ∷ l) (cut-same f g p (drop p (x ∷ xs)) h (omega arith) (omega arith))
+
   shown-by : (frames : List A) (f p o s : ℕ) → ((o s : ℕ) → map (payload frames) (spans f p (length frames) o s) ≡ cutBy f p (drop o frames))
       → Dec (o < length frames) → map (payload frames) (spans (suc f) p (length frames) o s) ≡ cutBy (suc f) p (drop o frames)
   shown-by frames f p o s k (yes h) =

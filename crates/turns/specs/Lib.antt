@@ -16,6 +16,7 @@ pub mod Asked
 -- theorems
 pub mod Demand
 pub mod CaptureDemand
+pub mod Joining
 pub mod Drained
 pub mod AnyHost
 pub mod Worked
