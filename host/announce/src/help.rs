@@ -35,6 +35,9 @@ other on one device that is set up once: a page for each, and a closing line.
                      what its configuration has
   --controls N       it has N control elements, in 1.3, with their feature; it
                      tells of a change of one in each announcement
+  --join             the FILEs are the parts of one announcement, in order: each
+                     but the last is a whole number of periods, and all have
+                     frames of one form; the page names the seams
   --go-on            speak without waiting: each period is submitted, and the
                      console goes on and polls a made-up breaker meanwhile; the
                      last period is filled up with silence, and the budget is the

@@ -1,6 +1,7 @@
 //! The log: the facts of all pages, and every period, as one JSON object.
 use crate::account::{Gap, Part, Same};
 use crate::json::{self, Object};
+use crate::recording;
 use crate::report::Report;
 use crate::told::{Control, Fault, GoingOn, Jacks, Period, Virtio, What, When};
 use page::Built;
@@ -41,6 +42,9 @@ fn before(to: &mut Object, report: &Report) {
         None => to.null("wave"),
     }
     to.text("sha256", &recording.sha256.to_string());
+    to.list("parts", &recording.parts, |to, one| {
+        part_of(to, one, options.period as usize)
+    });
     to.seconds("seconds", Some(report.seconds()));
     to.texts("warnings", &recording.warnings(options));
     to.truth("strict", options.strict);
@@ -75,6 +79,14 @@ fn before(to: &mut Object, report: &Report) {
     });
     let periods = recording.frames.len().div_ceil(options.period as usize);
     to.number("period_count", periods as u64);
+}
+
+/// A part of what was joined, and the period in which it begins.
+fn part_of(to: &mut Object, part: &recording::Part, size: usize) {
+    to.text("part", &part.name);
+    to.number("offset", part.offset as u64);
+    to.number("bytes", part.bytes as u64);
+    to.number("period", (part.offset / size + 1) as u64);
 }
 
 fn control(to: &mut Object, control: &Control) {

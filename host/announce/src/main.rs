@@ -9,6 +9,7 @@ mod device;
 mod form;
 mod going_on;
 mod help;
+mod join;
 mod json;
 mod log;
 mod microphone;

@@ -78,6 +78,8 @@ pub struct Options {
     /// The period of which it says that it wrote so many bytes.
     pub written_at: Option<u64>,
     pub written: u32,
+    /// The sources are the parts of one announcement.
+    pub join: bool,
     /// Periods do not wait, and breakers are polled meanwhile.
     pub go_on: bool,
     /// The version of VirtIO that the device follows, where it is named.
@@ -113,6 +115,7 @@ impl Options {
             short_every: None,
             written_at: None,
             written: 7,
+            join: false,
             go_on: false,
             virtio: None,
             controls: None,
@@ -168,7 +171,8 @@ pub fn parse(words: &[OsString]) -> Result<Asked, String> {
             "--guard" if value.is_none() => options.guard = true,
             "--short-jacks" if value.is_none() => options.short_jacks = true,
             "--go-on" if value.is_none() => options.go_on = true,
-            "--help" | "-h" | "--strict" | "--guard" | "--short-jacks" | "--go-on" => {
+            "--join" if value.is_none() => options.join = true,
+            "--help" | "-h" | "--strict" | "--guard" | "--short-jacks" | "--go-on" | "--join" => {
                 return Err(format!("{name} takes no value"));
             }
             "--" if value.is_none() => words.by_ref().try_for_each(|word| take_file(&mut options, word))?,
@@ -200,6 +204,9 @@ pub fn parse(words: &[OsString]) -> Result<Asked, String> {
             return Err("--wrong-slot-at goes with a transfer: what does not wait may come back in any order".into());
         }
         sizes::places(options.period)?;
+    }
+    if options.join && options.sources.len() < 2 {
+        return Err("--join joins two FILEs or more".into());
     }
     if options.sources.is_empty() {
         sizes::tone(&options)?;

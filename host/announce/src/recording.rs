@@ -1,7 +1,7 @@
 //! What is to be spoken.
 use crate::form::Form;
 use crate::options::{Options, Source};
-use crate::{sizes, tone, wave};
+use crate::{join, sizes, tone, wave};
 use page::InFile;
 use sha256::Sum;
 use std::io::Read;
@@ -14,12 +14,26 @@ pub struct Recording {
     /// Where the frames stood, if a WAVE file was read.
     pub file: Option<InFile>,
     pub sha256: Sum,
+    /// Where it was joined, its parts in order.
+    pub parts: Vec<Part>,
+}
+
+/// A part of a recording that was joined.
+pub struct Part {
+    /// As the page names it.
+    pub name: String,
+    /// Where it begins in the frames.
+    pub offset: usize,
+    pub bytes: usize,
 }
 
 /// Reads all of them, or says what cannot be read.
 pub fn all(options: &Options) -> Result<Vec<Recording>, String> {
     let recordings: Result<Vec<_>, _> = options.sources.iter().map(|source| read(options, source)).collect();
     let recordings = recordings?;
+    if options.join {
+        return Ok(vec![join::of(options, recordings)?]);
+    }
     wave::one_form(options, &recordings)?;
     Ok(recordings)
 }
@@ -50,6 +64,7 @@ fn read(options: &Options, source: &Source) -> Result<Recording, String> {
         form,
         file,
         sha256,
+        parts: Vec::new(),
     })
 }
 

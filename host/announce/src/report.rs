@@ -3,11 +3,12 @@ use crate::account::{self, Account, Gap};
 use crate::options::Options;
 use crate::recording::Recording;
 use crate::told::Told;
-use page::{Built, Drain, Page, Stream, Times, Turns};
+use page::{Built, Drain, Joined, Page, Stream, Times, Turns};
 
 pub struct Report<'r> {
     pub options: &'r Options,
     pub recording: &'r Recording,
+    parts: Vec<Joined<'r>>,
     pub told: Told,
     pub account: Account,
 }
@@ -15,9 +16,15 @@ pub struct Report<'r> {
 impl<'r> Report<'r> {
     pub fn new(options: &'r Options, recording: &'r Recording, told: Told) -> Self {
         let account = Account::new(&recording.frames, options.period as usize, &told.periods);
+        let parts = recording.parts.iter().map(|part| Joined {
+            name: &part.name,
+            offset: part.offset,
+            bytes: part.bytes,
+        });
         Self {
             options,
             recording,
+            parts: parts.collect(),
             told,
             account,
         }
@@ -31,6 +38,7 @@ impl<'r> Report<'r> {
             bytes: recording.frames.len(),
             file: recording.file,
             sha256: recording.sha256,
+            parts: &self.parts,
             params: recording.form.params(options.buffer, options.period),
             strict: options.strict,
             guard: options.guard,

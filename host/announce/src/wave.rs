@@ -65,19 +65,25 @@ fn extensible(file: &[u8]) -> bool {
 
 /// A WAVE file has frames of one form: where one is to be written, all announcements must have it.
 pub fn one_form(options: &Options, recordings: &[Recording]) -> Result<(), String> {
-    let Some((first, rest)) = recordings.split_first().filter(|_| options.wav.is_some()) else {
-        return Ok(());
-    };
-    match rest.iter().find(|other| other.form != first.form) {
+    match two_forms(recordings).filter(|_| options.wav.is_some()) {
         None => Ok(()),
-        Some(other) => Err(format!(
-            "--wav writes one file, and the announcements have frames of two forms: {} has {}, and {} has {}",
-            first.name,
-            first.form.shown(),
-            other.name,
-            other.form.shown()
+        Some(both) => Err(format!(
+            "--wav writes one file, and the announcements have frames of two forms: {both}"
         )),
     }
+}
+
+/// What two of them have, where not all have frames of one form.
+pub fn two_forms(recordings: &[Recording]) -> Option<String> {
+    let (first, rest) = recordings.split_first()?;
+    let other = rest.iter().find(|other| other.form != first.form)?;
+    Some(format!(
+        "{} has {}, and {} has {}",
+        first.name,
+        first.form.shown(),
+        other.name,
+        other.form.shown()
+    ))
 }
 
 /// The file of these bytes. A frame that was accepted in part is left out.

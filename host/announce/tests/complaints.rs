@@ -86,6 +86,90 @@ fn bad_options() {
     complaint("--rate 47999", &format!("--rate takes one of {rates}, not '47999'"));
 }
 
+/// Which part does not fit, and what would make it fit.
+#[test]
+fn parts_that_cannot_be_joined() {
+    let folder = Folder::new("join");
+    for (name, bytes) in [("whole.raw", 8192), ("cut.raw", 10_000), ("short.raw", 1)] {
+        folder.write(name, &frames(bytes));
+    }
+    let whole = "each part but the last is a whole number of periods of 4096 bytes";
+    complains(
+        &folder.run("--join whole.raw cut.raw whole.raw --log log.json"),
+        &format!("{whole}: cut.raw has 10000 bytes of frames, and 2288 more would pad it"),
+    );
+    assert!(!folder.0.join("log.json").exists());
+    complains(
+        &folder.run("--join cut.raw whole.raw short.raw cut.raw"),
+        &format!(
+            "{whole}: cut.raw has 10000 bytes of frames, and 2288 more would pad it; \
+             short.raw has 1 bytes of frames, and 4095 more would pad it"
+        ),
+    );
+    // padded by as many it is joined, and so it is with a period that fits
+    let mut padded = frames(10_000);
+    padded.resize(10_000 + 2288, 0);
+    folder.write("padded.raw", &padded);
+    assert_eq!(folder.run("--join padded.raw cut.raw").status.code(), Some(0));
+    assert_eq!(
+        folder.run("--join cut.raw whole.raw --period 1000").status.code(),
+        Some(0)
+    );
+    for words in ["--join", "--join whole.raw", "--join -- whole.raw"] {
+        complains(&folder.run(words), "--join joins two FILEs or more");
+    }
+    complains(&folder.run("--join=a whole.raw"), "--join takes no value");
+    complains(
+        &folder.run("--join whole.raw --record a --periods 3"),
+        "--record a speaks nothing: leave whole.raw out",
+    );
+    complains(
+        &folder.run("--join --record a --periods 3"),
+        "--join goes with announcements: leave it out with --record",
+    );
+    complains(
+        &folder.run("--join whole.raw no-such-file.raw"),
+        "cannot read no-such-file.raw: No such file or directory (os error 2)",
+    );
+    complains(
+        &folder.run("--join whole.raw whole.raw --period 1 --accepted whole.raw"),
+        "--accepted whole.raw would overwrite the input whole.raw",
+    );
+}
+
+/// Parts of two forms make no announcement, whatever their lengths.
+#[test]
+fn parts_of_two_forms() {
+    let folder = Folder::new("join-forms");
+    folder.write("a.raw", &frames(8192));
+    folder.write("a.wav", &wave(2, Format::S16, Rate::Hz48000, &frames(8192)));
+    folder.write("mono.wav", &wave(1, Format::S16, Rate::Hz48000, &frames(100)));
+    folder.write("slow.wav", &wave(2, Format::S16, Rate::Hz8000, &frames(8192)));
+    folder.write("wide.wav", &wave(2, Format::S32, Rate::Hz48000, &frames(8192)));
+    let two = "--join makes one announcement, and its parts have frames of two forms";
+    let plain = "2 channels, S16, 48000 Hz";
+    for (words, first, other) in [
+        ("a.raw mono.wav", "a.raw", "mono.wav has 1 channel, S16, 48000 Hz"),
+        ("a.wav slow.wav", "a.wav", "slow.wav has 2 channels, S16, 8000 Hz"),
+        (
+            "a.wav a.raw wide.wav",
+            "a.wav",
+            "wide.wav has 2 channels, S32, 48000 Hz",
+        ),
+    ] {
+        complains(
+            &folder.run(&format!("--join {words}")),
+            &format!("{two}: {first} has {plain}, and {other}"),
+        );
+    }
+    // raw frames and a file of the same form are of one
+    assert_eq!(folder.run("--join a.raw a.wav").status.code(), Some(0));
+    complains(
+        &folder.run("--join a.raw a.wav --rate 8000"),
+        "a.wav says its own rate, channels and format: leave --rate out",
+    );
+}
+
 /// What goes with a recording, and what does not.
 #[test]
 fn recordings() {

@@ -214,6 +214,37 @@ fn lengths_and_jacks() {
     assert_eq!(controls(announcement), [&queries(4)[..], &own].concat());
 }
 
+/// The periods of what was joined are those of the first, then those of the second; the numbers of both add up.
+#[test]
+fn joined() {
+    let folder = Folder::new("log-join");
+    for (name, bytes) in [("a.raw", 8192), ("b.raw", 10_000)] {
+        folder.write(name, &frames(bytes));
+    }
+    let of = |words: &str| {
+        let log = log(&folder, words);
+        let one = &log.at("announcements").list()[0];
+        let periods = one.at("periods").list().iter();
+        let places: Vec<_> = periods
+            .map(|p| (p.at("offset").number(), p.at("length").number()))
+            .collect();
+        assert_eq!(one.at("period_count").number(), places.len() as u64);
+        let parts = one.at("parts").list().iter();
+        let parts = parts.map(|part| {
+            let numbers = ["offset", "bytes", "period"].map(|name| part.at(name).number());
+            (part.at("part").text().to_string(), numbers)
+        });
+        (places, parts.collect::<Vec<_>>())
+    };
+    let ((a, none), (b, _)) = (of("a.raw"), of("b.raw"));
+    assert_eq!(none, []);
+    let (joined, parts) = of("--join a.raw b.raw");
+    let after: Vec<_> = b.iter().map(|(offset, length)| (offset + 8192, *length)).collect();
+    assert_eq!(joined, [a, after].concat());
+    let named = |name: &str, numbers| (name.to_string(), numbers);
+    assert_eq!(parts, [named("a.raw", [0, 8192, 1]), named("b.raw", [8192, 10_000, 3])]);
+}
+
 #[test]
 fn going_on() {
     let folder = Folder::new("log-go-on");

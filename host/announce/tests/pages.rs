@@ -288,6 +288,86 @@ fn going_on_with_several() {
     }
 }
 
+/// A folder with words of one, of two and of no periods, and one that is cut.
+fn words(name: &str) -> Folder {
+    let folder = Folder::new(name);
+    for (name, bytes) in [
+        ("feeder.raw", 8192),
+        ("one.raw", 4096),
+        ("pause.raw", 0),
+        ("open.raw", 10_000),
+    ] {
+        folder.write(name, &frames(bytes));
+    }
+    folder
+}
+
+/// Words are joined to a sentence: the device accepts the frames of the first, then those of the second, and the page names the seams.
+#[test]
+fn joining() {
+    let folder = words("join");
+    let output = folder.run("--join feeder.raw one.raw open.raw --accepted accepted.raw");
+    held(&output, "join", 0);
+    let all = [frames(8192), frames(4096), frames(10_000)].concat();
+    assert_eq!(folder.read("accepted.raw"), all);
+    // none is a whole number of periods too, at the front, between two and at the end
+    let output =
+        folder.run("--join pause.raw one.raw pause.raw pause.raw feeder.raw pause.raw --accepted accepted.raw");
+    held(&output, "join-none", 0);
+    assert_eq!(folder.read("accepted.raw"), [frames(4096), frames(8192)].concat());
+    held(&folder.run("--join pause.raw pause.raw"), "join-nothing", 0);
+    // a device that fails in the second part, one that is slow, and one that is not waited for
+    let output = folder.run("--join feeder.raw one.raw open.raw --fail-at 3 --slow 2");
+    held(&output, "join-fail", 1);
+    let output = folder.run("--join feeder.raw one.raw open.raw --go-on --strict --guard");
+    held(&output, "join-go-on", 0);
+    // standard input is a part like others
+    let output = folder.run_with("--join one.raw - one.raw --accepted accepted.raw", &frames(8192));
+    held(&output, "join-input", 0);
+    assert_eq!(
+        folder.read("accepted.raw"),
+        [frames(4096), frames(8192), frames(4096)].concat()
+    );
+}
+
+/// Joining does not depend on grouping: the two first joined before, or the two last, or all at once give the device the same.
+#[test]
+fn joining_in_groups() {
+    let folder = words("join-groups");
+    let joined = |words: &str, to: &str| {
+        let output = folder.run(&format!("--join {words} --accepted {to}"));
+        assert_eq!(output.status.code(), Some(0), "{words}");
+        let page = masked(&output);
+        let lines = page.lines().skip_while(|line| !line.starts_with("stream"));
+        lines.map(|line| format!("{line}\n")).collect::<String>()
+    };
+    let all = joined("feeder.raw one.raw open.raw", "all.raw");
+    joined("feeder.raw one.raw", "first.raw");
+    joined("one.raw open.raw", "last.raw");
+    assert_eq!(joined("first.raw open.raw", "all-2.raw"), all);
+    assert_eq!(joined("feeder.raw last.raw", "all-3.raw"), all);
+    for other in ["all-2.raw", "all-3.raw"] {
+        assert_eq!(folder.read(other), folder.read("all.raw"));
+    }
+}
+
+/// Files of a desk computer, which have one form; only their frames are joined, and what was accepted is one such file.
+#[test]
+fn joining_wave_files() {
+    let folder = Folder::new("join-wav");
+    for (name, bytes) in [("gate.wav", 3200), ("two.wav", 1600), ("shut.wav", 1001 * 2)] {
+        folder.write(name, &wave(1, Format::S16, Rate::Hz16000, &frames(bytes)));
+    }
+    folder.write("raw", &frames(3200));
+    let output = folder.run("--join gate.wav two.wav shut.wav --period 640 --wav accepted.wav");
+    // 1600 bytes are two periods and a half
+    assert_eq!(output.status.code(), Some(2));
+    let output = folder.run("--join gate.wav two.wav shut.wav --period 800 --wav accepted.wav");
+    held(&output, "join-wav", 0);
+    let all = [frames(3200), frames(1600), frames(2002)].concat();
+    assert_eq!(folder.read("accepted.wav"), wave(1, Format::S16, Rate::Hz16000, &all));
+}
+
 /// The bytes of the tone that the microphone hears, in as many seconds.
 fn tone(folder: &Folder, seconds: u32) -> Vec<u8> {
     let output = folder.run(&format!("--seconds {seconds} --accepted tone.raw"));

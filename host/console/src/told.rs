@@ -206,6 +206,7 @@ impl Told {
             bytes: recording.frames.len(),
             file: recording.wave.and_then(Result::ok).map(|wave| wave.file),
             sha256: recording.sha256,
+            parts: &[],
             params: asked.params,
             strict: true,
             guard: false,

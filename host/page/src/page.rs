@@ -17,6 +17,8 @@ pub struct Page<'p> {
     pub file: Option<InFile>,
     /// Of the frames.
     pub sha256: Sum,
+    /// The parts of which they were joined, in order; none where they were not.
+    pub parts: &'p [Joined<'p>],
     /// What the stream is set to.
     pub params: Params,
     /// Whether feeds carry the length that the device wrote.
@@ -60,6 +62,17 @@ pub struct InFile {
     pub bytes: usize,
     /// Where in it the frames begin.
     pub offset: usize,
+}
+
+/// A part of an announcement that was joined of several.
+#[derive(Clone, Copy, PartialEq, Eq, Debug)]
+pub struct Joined<'p> {
+    /// A name that fits on a line.
+    pub name: &'p str,
+    /// Where it begins in the frames.
+    pub offset: usize,
+    /// How many bytes it has.
+    pub bytes: usize,
 }
 
 /// The stream that speaks.
@@ -216,6 +229,7 @@ fn before(lines: &mut Lines, page: &Page) -> fmt::Result {
     announcement(lines, page)?;
     lines.line("frames", format_args!("sha256 {}", page.sha256))?;
     lines.line("recording", format_args!("{:.6} s", second(&page.params, page.bytes)))?;
+    parts(lines, page)?;
     for warning in warnings(&page.params, page.bytes) {
         lines.line("warning", warning)?;
     }
@@ -273,6 +287,28 @@ fn virtio(lines: &mut Lines, told: &Virtio) -> fmt::Result {
         Some((id, mask)) => lines.line("event", format_args!("control element {id} changed, mask {mask:#06x}")),
         None => Ok(()),
     }
+}
+
+/// The seams: where each part begins, and in which period.
+fn parts(lines: &mut Lines, page: &Page) -> fmt::Result {
+    if !page.parts.is_empty() {
+        let count = page.parts.len();
+        lines.line("joined", format_args!("of {count} parts; no seam cuts a period"))?;
+    }
+    let mut line = "part";
+    for &Joined { name, offset, bytes } in page.parts {
+        let period = offset.checked_div(page.params.period as usize).unwrap_or(0) + 1;
+        if offset < page.bytes {
+            lines.line(
+                line,
+                format_args!("byte {offset}, period {period}: {name}, {bytes} bytes"),
+            )?;
+        } else {
+            lines.line(line, format_args!("byte {offset}, the end: {name}, {bytes} bytes"))?;
+        }
+        line = "seam";
+    }
+    Ok(())
 }
 
 fn announcement(lines: &mut Lines, page: &Page) -> fmt::Result {
