@@ -39,6 +39,7 @@ use Rattle.console.proofs.calls.snd_feed.Reads as feed
 use Rattle.console.proofs.calls.snd_feed_written.Reads as feed-written
 use Rattle.console.proofs.calls.snd_feed_failure.Reads as feed-failure
 use Rattle.console.proofs.transfer.snd_pcm_xfer_start.Reads as pcm-xfer-start
+use Rattle.console.proofs.transfer.snd_pcm_xfer_start_traced.Reads as pcm-xfer-start-traced
 use Rattle.console.proofs.capture.snd_pcm_capture_start.Reads as pcm-capture-start
 use Rattle.console.proofs.nonblocking.snd_pcm_xfer_nb.Reads as pcm-xfer-nb
 use Rattle.console.proofs.nonblocking.snd_pcm_xfer_mark.Reads as pcm-xfer-mark
@@ -48,6 +49,7 @@ use Rattle.console.proofs.nonblocking.snd_pending_token.Reads as pendin
 use Rattle.console.proofs.ring.snd_ring_new.Reads as ring-new
 use Rattle.console.proofs.ring.snd_offered.Reads as offered
 use Rattle.console.proofs.ring.snd_turn.Reads as turn
+use Rattle.console.proofs.ring.snd_turn_traced.Reads as turn-traced
 use Rattle.console.proofs.ring.snd_capture_offered.Reads as capture-offered
 use Rattle.console.proofs.ring.snd_capture_turn.Reads as capture-turn
 use Rattle.console.proofs.ring.snd_drain_turn.Reads as drain-turn
@@ -57,6 +59,7 @@ use Rattle.console.proofs.ring.snd_ring_free_descriptors.Reads as ring-
 use Rattle.console.proofs.ring.snd_ring_turns_run.Reads as ring-turns-run
 use Rattle.console.proofs.ring.snd_ring_stream.Reads as ring-stream
 use Rattle.console.proofs.ring.snd_ring_kept.Reads as ring-kept
+use Rattle.console.proofs.ring.snd_trace_length.Reads as trace-length
 use Rattle.console.proofs.ring.snd_ring_carried.Reads as ring-carried
 use Rattle.console.proofs.ring.snd_ring_oldest.Reads as ring-oldest
 use Rattle.console.proofs.event.snd_latest_notification.Reads as latest-notification
@@ -70,6 +73,10 @@ use Rattle.console.proofs.device.snd_model_params.Reads as model-params
 use Rattle.console.proofs.device.snd_model_played.Reads as model-played
 use Rattle.console.proofs.wave.snd_wav_read.Reads as wav-read
 use Rattle.console.proofs.wave.snd_wav_write.Reads as wav-write
+use Rattle.console.proofs.traces.snd_trace_scan.Reads as trace-scan
+use Rattle.console.proofs.traces.snd_trace_scan_at.Reads as trace-scan-at
+use Rattle.console.proofs.traces.snd_judge.Reads as judge
+use Rattle.console.proofs.traces.snd_judge_at.Reads as judge-at
 
 left-one : {x : Told} {a b : ℕ} {s t m n r u : List ℕ} → left a s m r ≡ x → left b t n u ≡ x → (a ≡ b) × (s ≡ t) × (m ≡ n) × (r ≡ u)
 left-one p q = let e = same p q in (ap (λ (y : Told). y .answer) e, ap (λ (y : Told). y .state) e, ap (λ (y : Told). y .message) e, ap (λ (y : Told). y .result) e)
@@ -89,7 +96,7 @@ shown-one : {x : Shown} {a b : ℕ} {r u : List ℕ} → shown a r ≡ x → sho
 shown-one p q = let e = same p q in (ap (λ (y : Shown). y .answer) e, ap (λ (y : Shown). y .result) e)
 
 caught-one : {x : Caught} {a b : ℕ} {s t k l : List ℕ} → caught a s k ≡ x → caught b t l ≡ x → (a ≡ b) × (s ≡ t) × (k ≡ l)
-caught-one p q = let e = same p q in (ap (λ (y : Caught). y .answer) e, ap (λ (y : Caught). y .ring) e, ap (λ (y : Caught). y .recording) e)
+caught-one p q = let e = same p q in (ap (λ (y : Caught). y .answer) e, ap (λ (y : Caught). y .ring) e, ap (λ (y : Caught). y .lent) e)
 
 pub state-size-one : (κs : _) (a : _) (r₁ r₂ : _) (e₁ e₂ : _) → state-size.Post κs a r₁ e₁ → state-size.Post κs a r₂ e₂ → r₁ ≡ r₂
 state-size-one κs a r₁ r₂ e₁ e₂ p q = same p q
@@ -192,6 +199,10 @@ pub pcm-xfer-start-one : (κs : _) (a : _) (r₁ r₂ : _) (e₁ e₂ : _) → p
     → (r₁ ≡ r₂) × (now (e₁ .0) ≡ now (e₂ .0)) × (now (e₁ .1 .0) ≡ now (e₂ .1 .0)) × (now (e₁ .1 .1 .1 .1 .1 .0) ≡ now (e₂ .1 .1 .1 .1 .1 .0))
 pcm-xfer-start-one κs a r₁ r₂ e₁ e₂ p q = began-one p q
 
+pub pcm-xfer-start-traced-one : (κs : _) (a : _) (r₁ r₂ : _) (e₁ e₂ : _) → pcm-xfer-start-traced.Post κs a r₁ e₁ → pcm-xfer-start-traced.Post κs a r₂ e₂
+    → (r₁ ≡ r₂) × (now (e₁ .0) ≡ now (e₂ .0)) × (now (e₁ .1 .0) ≡ now (e₂ .1 .0)) × (now (e₁ .1 .1 .1 .1 .1 .1 .0) ≡ now (e₂ .1 .1 .1 .1 .1 .1 .0))
+pcm-xfer-start-traced-one κs a r₁ r₂ e₁ e₂ p q = began-one p q
+
 pub pcm-capture-start-one : (κs : _) (a : _) (r₁ r₂ : _) (e₁ e₂ : _) → pcm-capture-start.Post κs a r₁ e₁ → pcm-capture-start.Post κs a r₂ e₂
     → (r₁ ≡ r₂) × (now (e₁ .0) ≡ now (e₂ .0)) × (now (e₁ .1 .0) ≡ now (e₂ .1 .0)) × (now (e₁ .1 .1 .1 .1 .1 .1 .0) ≡ now (e₂ .1 .1 .1 .1 .1 .1 .0))
 pcm-capture-start-one κs a r₁ r₂ e₁ e₂ p q = began-one p q
@@ -227,6 +238,10 @@ offered-one κs a r₁ r₂ e₁ e₂ p q = shown-one p q
 pub turn-one : (κs : _) (a : _) (r₁ r₂ : _) (e₁ e₂ : _) → turn.Post κs a r₁ e₁ → turn.Post κs a r₂ e₂ → (r₁ ≡ r₂) × (now (e₁ .0) ≡ now (e₂ .0))
 turn-one κs a r₁ r₂ e₁ e₂ p q = made-one p q
 
+-- lent: ring, room
+pub turn-traced-one : (κs : _) (a : _) (r₁ r₂ : _) (e₁ e₂ : _) → turn-traced.Post κs a r₁ e₁ → turn-traced.Post κs a r₂ e₂ → (r₁ ≡ r₂) × (now (e₁ .0) ≡ now (e₂ .0)) × (now (e₁ .1 .1 .0) ≡ now (e₂ .1 .1 .0))
+turn-traced-one κs a r₁ r₂ e₁ e₂ p q = caught-one p q
+
 -- lent: ring, recording
 pub capture-turn-one : (κs : _) (a : _) (r₁ r₂ : _) (e₁ e₂ : _) → capture-turn.Post κs a r₁ e₁ → capture-turn.Post κs a r₂ e₂ → (r₁ ≡ r₂) × (now (e₁ .0) ≡ now (e₂ .0)) × (now (e₁ .1 .0) ≡ now (e₂ .1 .0))
 capture-turn-one κs a r₁ r₂ e₁ e₂ p q = caught-one p q
@@ -250,6 +265,9 @@ ring-turns-run-one κs a r₁ r₂ e₁ e₂ p q = shown-one p q
 
 pub ring-stream-one : (κs : _) (a : _) (r₁ r₂ : _) (e₁ e₂ : _) → ring-stream.Post κs a r₁ e₁ → ring-stream.Post κs a r₂ e₂ → (r₁ ≡ r₂) × (now (e₁ .1 .0) ≡ now (e₂ .1 .0))
 ring-stream-one κs a r₁ r₂ e₁ e₂ p q = shown-one p q
+
+pub trace-length-one : (κs : _) (a : _) (r₁ r₂ : _) (e₁ e₂ : _) → trace-length.Post κs a r₁ e₁ → trace-length.Post κs a r₂ e₂ → (r₁ ≡ r₂) × (now (e₁ .1 .0) ≡ now (e₂ .1 .0))
+trace-length-one κs a r₁ r₂ e₁ e₂ p q = shown-one p q
 
 pub ring-kept-one : (κs : _) (a : _) (r₁ r₂ : _) (e₁ e₂ : _) → ring-kept.Post κs a r₁ e₁ → ring-kept.Post κs a r₂ e₂ → (r₁ ≡ r₂) × (now (e₁ .1 .0) ≡ now (e₂ .1 .0))
 ring-kept-one κs a r₁ r₂ e₁ e₂ p q = shown-one p q
@@ -303,3 +321,15 @@ config-one κs a r₁ r₂ e₁ e₂ p q = shown-one p q
 
 pub latest-notification-in-one : (κs : _) (a : _) (r₁ r₂ : _) (e₁ e₂ : _) → latest-notification-in.Post κs a r₁ e₁ → latest-notification-in.Post κs a r₂ e₂ → (r₁ ≡ r₂) × (now (e₁ .1 .1 .1 .0) ≡ now (e₂ .1 .1 .1 .0))
 latest-notification-in-one κs a r₁ r₂ e₁ e₂ p q = shown-one p q
+
+pub trace-scan-one : (κs : _) (a : _) (r₁ r₂ : _) (e₁ e₂ : _) → trace-scan.Post κs a r₁ e₁ → trace-scan.Post κs a r₂ e₂ → r₁ ≡ r₂
+trace-scan-one κs a r₁ r₂ e₁ e₂ p q = same p q
+
+pub trace-scan-at-one : (κs : _) (a : _) (r₁ r₂ : _) (e₁ e₂ : _) → trace-scan-at.Post κs a r₁ e₁ → trace-scan-at.Post κs a r₂ e₂ → r₁ ≡ r₂
+trace-scan-at-one κs a r₁ r₂ e₁ e₂ p q = same p q
+
+pub judge-one : (κs : _) (a : _) (r₁ r₂ : _) (e₁ e₂ : _) → judge.Post κs a r₁ e₁ → judge.Post κs a r₂ e₂ → r₁ ≡ r₂
+judge-one κs a r₁ r₂ e₁ e₂ p q = same p q
+
+pub judge-at-one : (κs : _) (a : _) (r₁ r₂ : _) (e₁ e₂ : _) → judge-at.Post κs a r₁ e₁ → judge-at.Post κs a r₂ e₂ → r₁ ≡ r₂
+judge-at-one κs a r₁ r₂ e₁ e₂ p q = same p q

@@ -20,7 +20,7 @@ use Rattle.codes.specs.declared.answers.Refusal.the-variants.{IoError}
 use Rattle.turns.specs.Ring.{isRefused}
 use Rattle.records.specs.Config.{configRow, fits}
 use Rattle.records.specs.Notice.{eventRow}
-use Rattle.exchange.specs.Xfer.{startOf, captureOf, xferMessage, xferWord}
+use Rattle.exchange.specs.Xfer.{startOf, startTracedOf, captureOf, xferMessage, xferWord}
 use Rattle.core.specs.declared.state.Call.{Call}
 use Rattle.exchange.specs.declared.xfer.XferReply.{XferReply}
 use Rattle.exchange.specs.declared.xfer.XferReply.the-variants.{Send, Says}
@@ -51,7 +51,7 @@ nbEntry s ring stream payload places m r =
     guard (leb ringSize (length ring)) (submitted 10 s places m r)
     (nbIn s (trackAt ring) stream payload places m r)
 
--- ---- the start of a transfer: `startOf` or, of a capture (2026-09), `captureOf` on the state and the ring that the stores hold
+-- ---- the start of a transfer: `startOf` or, of one that writes a trace (2026-11), `startTracedOf`, or, of a capture (2026-09), `captureOf` on the state and the ring that the stores hold
 
 pub record Begun : Type 0 where
   pub answer : ℕ
@@ -84,6 +84,9 @@ entryOf s ring stream m x =
 
 unfoldable pub startEntry : List ℕ → List ℕ → ℕ → ℕ → ℕ → List ℕ → Begun
 startEntry s ring stream len budget m = entryOf s ring stream m (startOf (soundOf s) (ringOf ring) stream len budget (length m))
+
+unfoldable pub startTracedEntry : List ℕ → List ℕ → ℕ → ℕ → ℕ → ℕ → List ℕ → Begun
+startTracedEntry s ring stream len budget room m = entryOf s ring stream m (startTracedOf (soundOf s) (ringOf ring) stream len budget room (length m))
 
 unfoldable pub captureEntry : List ℕ → List ℕ → ℕ → ℕ → ℕ → ℕ → List ℕ → Begun
 captureEntry s ring stream periods len budget m = entryOf s ring stream m (captureOf (soundOf s) (ringOf ring) stream periods len budget (length m))

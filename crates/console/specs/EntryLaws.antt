@@ -11,12 +11,12 @@ use Rattle.codes.specs.Says.{guard}
 use Rattle.codes.specs.SaysLaws.{passes, stops}
 use Rattle.codes.specs.Answers.{refusalWord}
 use Rattle.codes.specs.declared.answers.Refusal.{Refusal}
-use Rattle.turns.specs.Calls.{startCall, startedOf}
+use Rattle.turns.specs.Calls.{startCall, startTraced, startedOf}
 use Rattle.turns.specs.Capture.{captureStart}
 use Rattle.turns.specs.declared.ring.Step.{Step}
 use Rattle.turns.specs.declared.ring.Track.{Track}
 use Rattle.pending.specs.Table.{noneIn}
-use Rattle.exchange.specs.Xfer.{xferAs, waitingAs, refusedStep, setUpStepWith, startStep, startAs, startOf, captureOf}
+use Rattle.exchange.specs.Xfer.{xferAs, waitingAs, refusedStep, setUpStepWith, startStep, startAs, startOf, startTracedOf, captureOf}
 use Rattle.exchange.specs.StepLaws.{xfer-as-ap}
 use Rattle.ring_store.specs.Store.{ringSize}
 use Rattle.state_store.specs.Places.{stateSize}
@@ -29,7 +29,7 @@ use Rattle.state_store.specs.Calls.{Opened, opened, shut, settingUpWith, openAs
 use Rattle.state_store.specs.declared.calls.Opening.{Opening}
 use Rattle.state_store.specs.declared.calls.Opening.the-variants as opening
 use Rattle.exchange.specs.declared.xfer.XferStep.{XferStep}
-use Rattle.console.specs.Entries.{Begun, began, begun, entryOf, startEntry, captureEntry}
+use Rattle.console.specs.Entries.{Begun, began, begun, entryOf, startEntry, startTracedEntry, captureEntry}
 
 -- ---- the start of a transfer
 
@@ -90,7 +90,7 @@ module _ (capture : Bool) (begin : ℕ → Step) (s ring : List ℕ) (stream : �
     started o q st after t d e p =
         ap (λ (x : Opening). startOpening x st after) (sym d) ∙ ap startBy (p ∙ ap (λ (x : Track). openAs capture (waitingAs capture stream) s x stream m) e) ∙ start-is
 
--- ---- a playback, and a capture
+-- ---- a playback, one that writes a trace, and a capture
 
 module _ (s ring : List ℕ) (stream len budget : ℕ) (m : List ℕ) where
   abbrev pub plays : ℕ → Step
@@ -104,6 +104,19 @@ module _ (s ring : List ℕ) (stream len budget : ℕ) (m : List ℕ) where
       → startOpening false plays s ring stream o st after ≡ startEntry s ring stream len budget m
   unfolding openIn startEntry startOf ringOf
   playback-started bytes room o q st after t d e p = started false plays s ring stream m bytes room o q st after t d e p
+
+  module _ (lent : ℕ) where
+    abbrev pub writes : ℕ → Step
+    writes period = startTraced (trackAt ring) stream len period budget lent
+
+    pub traced-short : leb ringSize (length ring) ≡ false → began 10 s ring m ≡ startTracedEntry s ring stream len budget lent m
+    unfolding startTracedEntry
+    traced-short e = short-ring s ring stream m (startTracedOf (soundOf s) (ringOf ring) stream len budget lent (length m)) e
+
+    pub traced-started : Bytes s → leb ringSize (length ring) ≡ true → (o q : Opening) (st after : List ℕ) (t : Track) → q ≡ o → t ≡ trackAt ring → opened q st after ≡ openIn s t stream m
+        → startOpening false writes s ring stream o st after ≡ startTracedEntry s ring stream len budget lent m
+    unfolding openIn startTracedEntry startTracedOf ringOf
+    traced-started bytes room o q st after t d e p = started false writes s ring stream m bytes room o q st after t d e p
 
   module _ (periods : ℕ) where
     abbrev pub records : ℕ → Step

@@ -12,28 +12,28 @@ use Rattle.layout.specs.Bytes.{Bytes}
 use Rattle.layout.specs.Lent.{Made}
 use Rattle.layout.specs.BytesLaws.{numAt-below}
 use Rattle.codes.specs.SaysLaws.{passes}
-use Rattle.turns.specs.Calls.{startCall, startedOf}
+use Rattle.turns.specs.Calls.{startCall, startTraced, startedOf}
 use Rattle.turns.specs.Capture.{captureStart}
 use Rattle.turns.specs.declared.ring.Step.{Step}
 use Rattle.exchange.specs.State.{paramsOf}
 use Rattle.exchange.specs.ConsistentLaws.{both-of}
-use Rattle.exchange.specs.Xfer.{waitingAs, startStep, startOf, captureOf}
-use Rattle.exchange.specs.XferLaws.{start-by, capture-by}
+use Rattle.exchange.specs.Xfer.{waitingAs, startStep, startOf, startTracedOf, captureOf}
+use Rattle.exchange.specs.XferLaws.{start-by, traced-by, capture-by}
 use Rattle.core.specs.declared.state.Params.{Params}
 use Rattle.exchange.specs.declared.xfer.XferStep.{XferStep}
 use Rattle.ring_store.specs.Store.{ringSize}
 use Rattle.state_store.specs.Places.{stateSize, paramsPlace}
 use Rattle.ring_store.specs.Store.{trackAt, ringOf}
-use Rattle.ring_store.specs.Calls.{leftBy, startIn, captureStartIn}
-use Rattle.ring_store.specs.Holds.{start-holds, capture-start-holds}
+use Rattle.ring_store.specs.Calls.{leftBy, startIn, startTracedIn, captureStartIn}
+use Rattle.ring_store.specs.Holds.{start-holds, traced-start-holds, capture-start-holds}
 use Rattle.state_store.specs.Store.{paramsAt, soundOf}
 use Rattle.state_store.specs.Calls.{openAs, openIn, openCaptureIn}
 use Rattle.state_store.specs.PlaceLaws.{params-in, params-out}
-use Rattle.state_store.specs.Holds.{open-holds, open-capture-holds}
+use Rattle.state_store.specs.Holds.{open-holds, open-traced-holds, open-capture-holds}
 use Rattle.state_store.specs.declared.calls.Opening.{Opening}
 use Rattle.state_store.specs.declared.calls.Opening.the-variants as opening
-use Rattle.console.specs.Entries.{Begun, begun, entryOf, startEntry, captureEntry}
-use Rattle.console.specs.EntryLaws.{startOpening, startBy, start-is, plays, records}
+use Rattle.console.specs.Entries.{Begun, begun, entryOf, startEntry, startTracedEntry, captureEntry}
+use Rattle.console.specs.EntryLaws.{startOpening, startBy, start-is, plays, writes, records}
 
 -- a period that a store holds fits 4 bytes
 period-below : (s : List ℕ) (i : ℕ) → Bytes s → paramsOf (soundOf s) i .period < 256 ^ 4
@@ -90,6 +90,29 @@ module _ (s ring m : List ℕ) (b : Bytes s) (c : Bytes ring) (h : stateSize ≤
     start-entry-state-holds p =
         state-of false (plays s ring stream len budget m) (startEntry s ring stream len budget m) (start-is false (plays s ring stream len budget m) s ring stream m b (le-leb ringSize (length ring) k))
         ∙ open-holds s m b h (ringOf ring) stream p len budget
+
+    -- the same of one that writes a trace
+    module _ (lent : ℕ) where
+      pub traced-entry-is : startTracedEntry s ring stream len budget lent m ≡ begun s ring stream m (startTracedOf (soundOf s) (ringOf ring) stream len budget lent (length m))
+      unfolding startTracedEntry
+      traced-entry-is = entry-of (startTracedOf (soundOf s) (ringOf ring) stream len budget lent (length m))
+
+      module _ (p : stream < 256 ^ 4) (q : len < 256 ^ 8) (r : budget < 256 ^ 8) (w : lent < 256 ^ 8) where
+        traced-goes : Holds (startStep (soundOf s) (ringOf ring) (startedOf (ringOf ring) (startTraced (ringOf ring .track) stream len (paramsOf (soundOf s) stream .period) budget lent)))
+        unfolding ringOf startTracedIn
+        traced-goes =
+            let period = paramsOf (soundOf s) stream .period in
+            let own : leftBy ring (startedOf (ringOf ring) (startTraced (trackAt ring) stream len period budget lent)) ≡ startTracedIn ring stream len period budget lent = passes _ _ _ (le-leb ringSize (length ring) k) refl in
+            ap (λ (l : Made). ringOf (l .store)) own ∙ traced-start-holds ring stream len period budget lent c k p q period-fits r w
+
+        pub traced-entry-holds : ringOf (startTracedEntry s ring stream len budget lent m .ring) ≡ startTracedOf (soundOf s) (ringOf ring) stream len budget lent (length m) .ring
+        traced-entry-holds = ap (λ (x : Begun). ringOf (x .ring)) traced-entry-is ∙ traced-by Holds (soundOf s) (ringOf ring) stream len budget lent (length m) (λ _. refl) (λ _ _ _. refl) (λ _. traced-goes)
+
+      pub traced-entry-state-holds : stream < 256 ^ 4 → soundOf (startTracedEntry s ring stream len budget lent m .state) ≡ startTracedOf (soundOf s) (ringOf ring) stream len budget lent (length m) .sound
+      unfolding ringOf openIn startTracedEntry startTracedOf
+      traced-entry-state-holds p =
+          state-of false (writes s ring stream len budget m lent) (startTracedEntry s ring stream len budget lent m) (start-is false (writes s ring stream len budget m lent) s ring stream m b (le-leb ringSize (length ring) k))
+          ∙ open-traced-holds s m b h (ringOf ring) stream p len budget lent
 
     -- the same of a capture
     module _ (periods : ℕ) where

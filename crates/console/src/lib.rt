@@ -7,6 +7,7 @@ mod nonblocking;
 mod ring;
 mod sizes;
 mod stores;
+mod traces;
 mod transfer;
 mod versions;
 mod wave;

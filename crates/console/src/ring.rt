@@ -1,10 +1,10 @@
-// The ring: a new one, what the next turn submits, a turn, of either direction, a drain turn, and its
-// reads.
+// The ring: a new one, what the next turn submits, a turn, of either direction or with a trace, a drain
+// turn, and its reads.
 ghost use mathlib.Core.Path.{_≡_};
 ghost use lib.ListN.{length};
-ghost use Rattle.turns.specs.Reads.{runningOf, inFlightOf, freeOf, turnsOf, streamOf, keptRead, carriedOf};
+ghost use Rattle.turns.specs.Reads.{runningOf, inFlightOf, freeOf, turnsOf, streamOf, keptRead, writtenRead, carriedOf};
 ghost use Rattle.ring_store.specs.Store.{trackAt, ringOf};
-ghost use Rattle.ring_store.specs.Calls.{newIn, turnIn, drainIn, caught, captureIn, offerIn, captureOfferIn, toldIn, oldestSays};
+ghost use Rattle.ring_store.specs.Calls.{newIn, turnIn, drainIn, caught, captureIn, turnTracedIn, offerIn, captureOfferIn, toldIn, oldestSays};
 ghost use Rattle.layout.specs.Lent.{made, shown};
 
 #[no_mangle]
@@ -27,6 +27,21 @@ pub extern "C" fn snd_turn(ring: &mut [u8], frames: &[u8], kind: u32, slot: u32,
     ensures { λ r. ⌜ made r (now (ring .exit)) ≡ turnIn (now (ring .entry)) (length (now (frames .entry))) kind slot status ⌝ }
 {
     ring_store::turn(ring, frames.len(), kind, slot, status)
+}
+
+// What it writes of the trace stands at the front of the room: `snd_trace_length` tells how long it is.
+#[no_mangle]
+pub extern "C" fn snd_turn_traced(
+    ring: &mut [u8],
+    frames: &[u8],
+    room: &mut [u8],
+    kind: u32,
+    slot: u32,
+    status: u32,
+) -> u64
+    ensures { λ r. ⌜ caught r (now (ring .exit)) (now (room .exit)) ≡ turnTracedIn (now (ring .entry)) (length (now (frames .entry))) (now (room .entry)) kind slot status ⌝ }
+{
+    ring_store::turn_traced(ring, frames.len(), room, kind, slot, status)
 }
 
 // What the next turn of a capture submits: lend the device a period to write, with its status, poll,
@@ -101,6 +116,14 @@ pub extern "C" fn snd_ring_kept(ring: &[u8], result: &mut [u8]) -> u64
     ensures { λ r. ⌜ shown r (now (result .exit)) ≡ toldIn (now (ring .entry)) (now (result .entry)) (keptRead (trackAt (now (ring .entry)))) ⌝ }
 {
     ring_store::kept(ring, result)
+}
+
+// The bytes of its room that hold the trace, of the transfer that runs or ran last.
+#[no_mangle]
+pub extern "C" fn snd_trace_length(ring: &[u8], result: &mut [u8]) -> u64
+    ensures { λ r. ⌜ shown r (now (result .exit)) ≡ toldIn (now (ring .entry)) (now (result .entry)) (writtenRead (trackAt (now (ring .entry)))) ⌝ }
+{
+    ring_store::trace_length(ring, result)
 }
 
 #[no_mangle]

@@ -36,6 +36,7 @@ use Rattle.exchange.proofs.calls.feed_written.Reads as feed-written
 use Rattle.exchange.proofs.calls.feed_failure.Reads as feed-failure
 use Rattle.exchange.proofs.xfer.pcm_xfer_start.Reads as pcm-xfer-start
 use Rattle.exchange.proofs.xfer.pcm_xfer.Reads as pcm-xfer
+use Rattle.exchange.proofs.xfer.pcm_xfer_start_traced.Reads as pcm-xfer-start-traced
 use Rattle.exchange.proofs.xfer.pcm_capture_start.Reads as pcm-capture-start
 use Rattle.exchange.proofs.nonblocking.pcm_xfer_nb.Reads as pcm-xfer-nb
 use Rattle.exchange.proofs.nonblocking.pcm_xfer_mark.Reads as pcm-xfer-mark
@@ -113,6 +114,9 @@ feed-failure-one κs a r₁ r₂ e₁ e₂ p q = (same (p .step) (q .step), same
 
 pub pcm-xfer-start-one : (κs : _) (a : _) (r₁ r₂ : _) (e₁ e₂ : _) → pcm-xfer-start.Post κs a r₁ e₁ → pcm-xfer-start.Post κs a r₂ e₂ → (r₁ ≡ r₂) × (now (e₁ .1 .1 .1 .1 .1 .0) ≡ now (e₂ .1 .1 .1 .1 .1 .0))
 pcm-xfer-start-one κs a r₁ r₂ e₁ e₂ p q = (same (p .step) (q .step), same (p .message) (q .message))
+
+pub pcm-xfer-start-traced-one : (κs : _) (a : _) (r₁ r₂ : _) (e₁ e₂ : _) → pcm-xfer-start-traced.Post κs a r₁ e₁ → pcm-xfer-start-traced.Post κs a r₂ e₂ → (r₁ ≡ r₂) × (now (e₁ .1 .1 .1 .1 .1 .1 .0) ≡ now (e₂ .1 .1 .1 .1 .1 .1 .0))
+pcm-xfer-start-traced-one κs a r₁ r₂ e₁ e₂ p q = (same (p .step) (q .step), same (p .message) (q .message))
 
 pub pcm-capture-start-one : (κs : _) (a : _) (r₁ r₂ : _) (e₁ e₂ : _) → pcm-capture-start.Post κs a r₁ e₁ → pcm-capture-start.Post κs a r₂ e₂ → (r₁ ≡ r₂) × (now (e₁ .1 .1 .1 .1 .1 .1 .0) ≡ now (e₂ .1 .1 .1 .1 .1 .1 .0))
 pcm-capture-start-one κs a r₁ r₂ e₁ e₂ p q = (same (p .step) (q .step), same (p .message) (q .message))

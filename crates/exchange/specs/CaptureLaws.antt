@@ -26,7 +26,7 @@ capture-start-keeps t stream periods period lent budget c =
     (λ _. guarded-by Leaves _ _ _
     (λ _. guarded-by Leaves _ _ _
     (λ p. guarded-by Leaves _ _ _
-    (λ b. guarded-by Leaves _ _ _ (λ _. begun-keeps true lent t stream _ period budget (c .placed .mode) (ltb-true _ _ p) (ltb-true _ _ b)) (λ _. c))
+    (λ b. guarded-by Leaves _ _ _ (λ _. begun-keeps 0 true lent t stream _ period budget (c .placed .mode) (ltb-true _ _ p) (ltb-true _ _ b)) (λ _. c))
     (λ _. c))
     (λ _. c))
     (λ _. c))
@@ -41,6 +41,7 @@ caught-keeps t c k on =
       placed = record { mode = p .mode; head-in = p .head-in; tail-in = p .tail-in; room = p .room; line = p .line };
       paced = record { within = q .within; some = q .some; left = q .left };
       kept = keeps-room (t .descriptors) t c (caughtOf t c) (c .reading) (k .kept);
+      good = s .good;
     }
 
 pub capture-keeps : (t : Track) (len : ℕ) (c : Catch) → Consistent t → Consistent (captureCall t len c .track)

@@ -18,7 +18,7 @@ use Rattle.turns.specs.Rules.{chooseOf, comesTo, playedOf, isOldest, judgeOf, s
 use Rattle.turns.specs.RuleLaws.{Judged, judged as judged-slot, played-fails}
 use Rattle.turns.specs.CaseLaws.{lastOf}
 use Rattle.turns.specs.Consistent as ring
-use Rattle.turns.specs.Calls.{turnCall, drained, drainCall, startCall, startedOf}
+use Rattle.turns.specs.Calls.{tracedCall, turnCall, drained, drainCall, startCall, startTraced, startedOf}
 use Rattle.turns.specs.Capture.{captureStart}
 use Rattle.turns.specs.declared.ring.Step as step
 use Rattle.turns.specs.declared.ring.Sent as sends
@@ -38,7 +38,7 @@ use Rattle.core.specs.declared.reply.Reply.the-variants as reply
 use Rattle.exchange.specs.Tables.{lookOf, pendingLook}
 use Rattle.exchange.specs.Exchange.{stepOf, callOf, feedOf, failOf}
 use Rattle.exchange.specs.Feed.{Feed, paged, failed, planOf, fedOf, verdictOf}
-use Rattle.exchange.specs.Xfer.{refusedStep, startStep, startAs, startOf, captureOf}
+use Rattle.exchange.specs.Xfer.{refusedStep, startStep, startAs, startOf, startTracedOf, captureOf}
 use Rattle.exchange.specs.OwnLaws.{picked-by}
 use Rattle.exchange.specs.declared.xfer.XferReply.the-variants as xfer
 use Rattle.exchange.specs.Types.{Written, Cause, NoStatus, Status, Refusal, InvalidParam, IoError, Unsupported, Verdict, Counts, Track, Ring, Said, Reading, Kind, Call, SetParams, Command, Remap, Streams, Supported, Xfer, Capture, Stage, Idle, JacksAsked, StreamsAsked, MapsAsked, Sent, Core, Sound, Look, Nothing, Refused, Plan, Reply, XferReply, XferStep}
@@ -117,12 +117,14 @@ act-tells Finish t reading = tt
 act-tells Wait t reading = hear-tells sent.Nothing t reading
 
 turn-tells : (t : Track) (len : ℕ) (reading : Reading) → Turns (t .tail) reading (turnCall t len reading)
-unfolding turnCall countedOf turnOf
+unfolding tracedCall countedOf turnOf
 turn-tells t len reading =
     let P : step.Step → Type 0 = Turns (t .tail) reading in
     let x = act (chooseOf (t .descriptors) t) t (comesTo playedOf reading) reading in
     guarded-by P _ _ _
+    (λ _. guarded-by P _ _ _
     (λ _. guarded-by P _ _ _ (λ _. guarded-by P _ _ _ (λ _. counted-tells (t .tail) reading (x .said) (lastOf x) x (act-tells (chooseOf (t .descriptors) t) t reading)) (λ _. tt)) (λ _. tt))
+    (λ _. tt))
     (λ _. tt)
 
 pub carries-turn : (t : Track) (len : ℕ) (reading : Reading) (c : Cause) → turnCall t len reading .said ≡ said.Ended (IoError c) → Explained (t .tail) reading c
@@ -212,6 +214,15 @@ capture-starts t stream periods period lent budget =
     (λ _. guarded-by Starts _ _ _ (λ _. guarded-by Starts _ _ _ (λ _. guarded-by Starts _ _ _ (λ _. guarded-by Starts _ _ _ (λ _. tt) (λ _. tt)) (λ _. tt)) (λ _. tt)) (λ _. tt))
     (λ _. tt)
 
+traced-starts : (t : Track) (stream total period budget room : ℕ) → Starts (startTraced t stream total period budget room)
+unfolding startTraced
+traced-starts t stream total period budget room =
+    guarded-by Starts _ _ _
+    (λ _. guarded-by Starts _ _ _
+    (λ _. guarded-by Starts _ _ _ (λ _. guarded-by Starts _ _ _ (λ _. guarded-by Starts _ _ _ (λ _. guarded-by Starts _ _ _ (λ _. tt) (λ _. tt)) (λ _. tt)) (λ _. tt)) (λ _. tt))
+    (λ _. tt))
+    (λ _. tt)
+
 -- the start of either direction
 begins-as : (capture : Bool) (begin : ℕ → step.Step) (s : Sound) (r : Ring) (stream n : ℕ) → ((period : ℕ) → Starts (begin period)) → Begins (startAs capture begin s r stream n .reply)
 begins-as capture begin s r stream n h =
@@ -241,8 +252,16 @@ unfolding captureOf
 capture-begins s r stream periods lent budget n =
     begins-as true (λ period. captureStart (r .track) stream periods period lent budget) s r stream n (λ period. capture-starts (r .track) stream periods period lent budget)
 
+traced-begins : (s : Sound) (r : Ring) (stream len budget room n : ℕ) → Begins (startTracedOf s r stream len budget room n .reply)
+unfolding startTracedOf
+traced-begins s r stream len budget room n =
+    begins-as false (λ period. startTraced (r .track) stream len period budget room) s r stream n (λ period. traced-starts (r .track) stream len period budget room)
+
 pub carries-start : (s : Sound) (r : Ring) (stream len budget n : ℕ) (x : Refusal) → startOf s r stream len budget n .reply ≡ xfer.Says (said.Refused x) → Bare x
 carries-start s r stream len budget n x e = subst Begins e (start-begins s r stream len budget n)
+
+pub carries-traced : (s : Sound) (r : Ring) (stream len budget room n : ℕ) (x : Refusal) → startTracedOf s r stream len budget room n .reply ≡ xfer.Says (said.Refused x) → Bare x
+carries-traced s r stream len budget room n x e = subst Begins e (traced-begins s r stream len budget room n)
 
 pub carries-capture : (s : Sound) (r : Ring) (stream periods lent budget n : ℕ) (x : Refusal) → captureOf s r stream periods lent budget n .reply ≡ xfer.Says (said.Refused x) → Bare x
 carries-capture s r stream periods lent budget n x e = subst Begins e (capture-begins s r stream periods lent budget n)
@@ -401,6 +420,9 @@ caused-call s t call n r e = caused Without Without without-not-ok without-not-o
 pub caused-start : (s : Sound) (r : Ring) (stream len budget n : ℕ) (x : Refusal) → startOf s r stream len budget n .reply ≡ xfer.Says (said.Refused x) → Caused x
 caused-start s r stream len budget n x e = caused Without Without without-not-ok without-not-ok x (carries-start s r stream len budget n x e)
 
+pub caused-traced : (s : Sound) (r : Ring) (stream len budget room n : ℕ) (x : Refusal) → startTracedOf s r stream len budget room n .reply ≡ xfer.Says (said.Refused x) → Caused x
+caused-traced s r stream len budget room n x e = caused Without Without without-not-ok without-not-ok x (carries-traced s r stream len budget room n x e)
+
 pub caused-capture : (s : Sound) (r : Ring) (stream periods lent budget n : ℕ) (x : Refusal) → captureOf s r stream periods lent budget n .reply ≡ xfer.Says (said.Refused x) → Caused x
 caused-capture s r stream periods lent budget n x e = caused Without Without without-not-ok without-not-ok x (carries-capture s r stream periods lent budget n x e)
 
@@ -426,8 +448,8 @@ remap-not-supported c jack a q = refl
 
 -- one period of 4 bytes is in flight, in slot 0
 abbrev pub played : Track
-played = record { descriptors = 3; head = 1; tail = 0; inflight = 1; stream = 0; total = 4; period = 4; next = 4; budget = 9; turns = 1; running = true; capture = false; lent = 4; kept = 0 }
+played = record { descriptors = 3; head = 1; tail = 0; inflight = 1; stream = 0; total = 4; period = 4; next = 4; budget = 9; turns = 1; running = true; capture = false; lent = 4; kept = 0; room = 0; written = 0; good = 0 }
 
 pub turn-failed : turnCall played 4 (Completed 0 0x8003) .said ≡ said.Ended (IoError (Status 0x8003))
-unfolding turnCall guard countedOf turnOf chooseOf judgeOf isOldest playedOf ring.placedOf ring.pacedOf
+unfolding tracedCall guard countedOf turnOf chooseOf judgeOf isOldest playedOf ring.placedOf ring.pacedOf
 turn-failed = refl

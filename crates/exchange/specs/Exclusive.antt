@@ -17,7 +17,7 @@ use Rattle.pending.specs.TableLaws.{waits-pending}
 use Rattle.pending.specs.CallLaws.{mark-by, finish-by}
 use Rattle.pending.specs.Count.{none-then, AboveFree, other, completes-above, finishes-above, few-pending}
 use Rattle.turns.specs.Calls as calls
-use Rattle.turns.specs.Calls.{idleOf, turnCall, drainCall, startCall, startedOf}
+use Rattle.turns.specs.Calls.{idleOf, tracedCall, drainCall, startCall}
 use Rattle.turns.specs.Capture.{captureCall}
 use Rattle.turns.specs.declared.capture.Catch.{Catch}
 use Rattle.turns.specs.Script.{transferOf}
@@ -28,11 +28,11 @@ use Rattle.turns.specs.declared.reading.Reading.the-variants.{Quiet, Completed}
 use Rattle.exchange.specs.Tables.{soundAfter}
 use Rattle.exchange.specs.Exchange.{callOf}
 use Rattle.exchange.specs.Feed.{planOf, pageOf}
-use Rattle.exchange.specs.Xfer.{refusedStep, setUpStep, startStep, doneStep, startOf, xferOf, captureOf}
-use Rattle.exchange.specs.XferLaws.{xfer-by, start-by, script-by, capture-by}
+use Rattle.exchange.specs.Xfer.{refusedStep, setUpStep, doneStep, startOf, startTracedOf, xferOf, captureOf}
+use Rattle.exchange.specs.XferLaws.{xfer-by, start-as-by, start-by, script-by, traced-by, capture-by}
 use Rattle.exchange.specs.Submit.{nbOf, markStep, markBy, finishStep}
 use Rattle.exchange.specs.Submitted.{nb-ends, effect-pending}
-use Rattle.exchange.specs.Reached.{Reached, fresh, called, fed, started, scripted, turned, captured, received, drained, submitted, marked, finished, begun, listened, ran, renewed, reached-kept}
+use Rattle.exchange.specs.Reached.{Reached, fresh, called, fed, started, scripted, turned, traced, penned, captured, received, drained, submitted, marked, finished, begun, listened, logged, ran, renewed, reached-kept}
 use Rattle.exchange.specs.Types.{Track, Ring, Reading, Pending, Judged, Core, Effect, Sound, XferStep, NbStep, NbEnd}
 
 -- nothing is pending, or no transfer runs and no slot is in flight
@@ -46,7 +46,9 @@ ByCalls (called call n h) = ByCalls h
 ByCalls (fed f h) = ByCalls h
 ByCalls (started stream len budget n h) = ByCalls h
 ByCalls (scripted stream frames budget script n h) = ByCalls h
-ByCalls (turned len reading h) = ByCalls h
+ByCalls (turned len room reading h) = ByCalls h
+ByCalls (traced stream len budget room n h) = ByCalls h
+ByCalls (penned written h) = ByCalls h
 ByCalls (captured stream periods lent budget n h) = ByCalls h
 ByCalls (received len c h) = ByCalls h
 ByCalls (drained reading h) = ByCalls h
@@ -55,6 +57,7 @@ ByCalls (marked reading h) = ByCalls h
 ByCalls (finished token h) = ByCalls h
 ByCalls (begun stream len period budget h) = ⊥
 ByCalls (listened stream periods period lent budget h) = ⊥
+ByCalls (logged stream len period budget room h) = ⊥
 ByCalls (ran stream period budget frames script h) = ⊥
 ByCalls (renewed h) = ByCalls h
 
@@ -70,11 +73,13 @@ module _ (t : Track) (idle : idleOf t ≡ true) where
   none-held : t .inflight ≡ 0
   none-held = eqb-true (t .inflight) 0 (both (not (t .running)) (eqb (t .inflight) 0) idle .1)
 
-  turn-idle : (len : ℕ) (reading : Reading) → turnCall t len reading .track ≡ t
-  unfolding turnCall
-  turn-idle len reading =
+  turn-idle : (len room : ℕ) (reading : Reading) → tracedCall t len room reading .track ≡ t
+  unfolding tracedCall
+  turn-idle len room reading =
       let P : ring.Step → Type 0 = λ x. x .track ≡ t in
-      guarded-by P _ _ _ (λ _. guarded-by P _ _ _ (λ _. guarded-by P _ _ _ (λ e. absurd (running-not (both (t .running) (not (t .capture)) e .0))) (λ _. refl)) (λ _. refl)) (λ _. refl)
+      guarded-by P _ _ _
+      (λ _. guarded-by P _ _ _ (λ _. guarded-by P _ _ _ (λ _. guarded-by P _ _ _ (λ e. absurd (running-not (both (t .running) (not (t .capture)) e .0))) (λ _. refl)) (λ _. refl)) (λ _. refl))
+      (λ _. refl)
 
   capture-idle : (len : ℕ) (c : Catch) → captureCall t len c .track ≡ t
   unfolding captureCall
@@ -119,14 +124,17 @@ module _ (s : Sound) (r : Ring) (h : Exclusive (s .pending) (r .track)) where
   start-exclusive : (stream len budget n : ℕ) → Exclusive (startOf s r stream len budget n .sound .pending) (startOf s r stream len budget n .ring .track)
   unfolding startOf
   start-exclusive stream len budget n =
-      xfer-by (λ (x : XferStep). Exclusive (x .sound .pending) (x .ring .track)) (leb messageSize n) (noneIn (s .pending)) s t stream (refusedStep s r) (setUpStep s r stream)
-      (λ period. startStep s r (startedOf r (startCall t stream len period budget))) (λ _. h) (λ _ _ _. h) (λ c _. inl c)
+      start-as-by (λ (x : XferStep). Exclusive (x .sound .pending) (x .ring .track)) false (λ period. startCall t stream len period budget) s r stream n (λ _. h) (λ _ _ _. h) (λ none. inl none)
 
   script-exclusive : (stream len budget : ℕ) (script : List ℕ) (n : ℕ) → Exclusive (xferOf s r stream len budget script n .sound .pending) (xferOf s r stream len budget script n .ring .track)
   unfolding xferOf
   script-exclusive stream len budget script n =
       xfer-by (λ (x : XferStep). Exclusive (x .sound .pending) (x .ring .track)) (leb messageSize n && eqb (length script % 12) 0) (noneIn (s .pending)) s t stream (refusedStep s r) (setUpStep s r stream)
       (λ period. doneStep s (transferOf r stream len period budget script)) (λ _. h) (λ _ _ _. h) (λ c _. inl c)
+
+  traced-exclusive : (stream len budget room n : ℕ) → Exclusive (startTracedOf s r stream len budget room n .sound .pending) (startTracedOf s r stream len budget room n .ring .track)
+  traced-exclusive stream len budget room n =
+      traced-by (λ (x : XferStep). Exclusive (x .sound .pending) (x .ring .track)) s r stream len budget room n (λ _. h) (λ _ _ _. h) (λ none. inl none)
 
   capture-exclusive : (stream periods lent budget n : ℕ) → Exclusive (captureOf s r stream periods lent budget n .sound .pending) (captureOf s r stream periods lent budget n .ring .track)
   capture-exclusive stream periods lent budget n =
@@ -157,7 +165,9 @@ exclusive (called {s} {r} call n h) b = effect-exclusive s r (exclusive h b) (ca
 exclusive (fed {s} {r} f h) b = effect-exclusive s r (exclusive h b) (planOf s f .effect) (planOf s f .core) (pageOf f)
 exclusive (started {s} {r} stream len budget n h) b = start-exclusive s r (exclusive h b) stream len budget n
 exclusive (scripted {s} {r} stream frames budget script n h) b = script-exclusive s r (exclusive h b) stream (length frames) budget script n
-exclusive (turned {s} {r} len reading h) b = turned-by s r (exclusive h b) (turnCall (r .track) len reading) (λ i. turn-idle (r .track) i len reading)
+exclusive (turned {s} {r} len room reading h) b = turned-by s r (exclusive h b) (tracedCall (r .track) len room reading) (λ i. turn-idle (r .track) i len room reading)
+exclusive (traced {s} {r} stream len budget room n h) b = traced-exclusive s r (exclusive h b) stream len budget room n
+exclusive (penned written h) b = exclusive h b
 exclusive (captured {s} {r} stream periods lent budget n h) b = capture-exclusive s r (exclusive h b) stream periods lent budget n
 exclusive (received {s} {r} len c h) b = turned-by s r (exclusive h b) (captureCall (r .track) len c) (λ i. capture-idle (r .track) i len c)
 exclusive (drained {s} {r} reading h) b = turned-by s r (exclusive h b) (drainCall (r .track) reading) (λ i. drain-idle (r .track) i reading)
@@ -166,6 +176,7 @@ exclusive (marked {s} {r} reading h) b = mark-exclusive s r (exclusive h b) read
 exclusive (finished {s} {r} token h) b = finish-exclusive s r (exclusive h b) token
 exclusive (begun stream len period budget h) b = absurd b
 exclusive (listened stream periods period lent budget h) b = absurd b
+exclusive (logged stream len period budget room h) b = absurd b
 exclusive (ran stream period budget frames script h) b = absurd b
 exclusive (renewed h) b = inr refl
 
@@ -185,7 +196,9 @@ above (called {s} {r} call n h) = subst (AboveFree 16) (sym (effect-pending (cal
 above (fed {s} f h) = subst (AboveFree 16) (sym (effect-pending (planOf s f .effect) (planOf s f .core) s (pageOf f))) (above h)
 above (started {s} {r} stream len budget n h) = start-by (λ (x : XferStep). Above (x .sound)) s r stream len budget n (λ _. above h) (λ _ _ _. above h) (above h)
 above (scripted {s} {r} stream frames budget script n h) = script-by (λ (x : XferStep). Above (x .sound)) s r stream (length frames) budget n (λ _. above h) (λ _ _ _. above h) script (above h)
-above (turned len reading h) = above h
+above (turned len room reading h) = above h
+above (traced {s} {r} stream len budget room n h) = traced-by (λ (x : XferStep). Above (x .sound)) s r stream len budget room n (λ _. above h) (λ _ _ _. above h) (λ _. above h)
+above (penned written h) = above h
 above (captured {s} {r} stream periods lent budget n h) = capture-by (λ (x : XferStep). Above (x .sound)) s r stream periods lent budget n (λ _. above h) (λ _ _ _. above h) (λ _. above h)
 above (received len c h) = above h
 above (drained reading h) = above h
@@ -195,6 +208,7 @@ above (marked {s} reading h) = guarded-by (λ (u : NbEnd). Above (u .sound)) _ _
 above (finished {s} token h) = guarded-by (λ (u : NbEnd). Above (u .sound)) _ _ _ (λ _. finishes-above 16 (s .pending) (above h) token) (λ _. above h)
 above (begun stream len period budget h) = above h
 above (listened stream periods period lent budget h) = above h
+above (logged stream len period budget room h) = above h
 above (ran stream period budget frames script h) = above h
 above (renewed h) = above h
 

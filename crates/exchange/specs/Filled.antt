@@ -23,8 +23,8 @@ use Rattle.exchange.specs.Ends.{asked, waits}
 use Rattle.exchange.specs.ResultLaws.{wrong}
 use Rattle.exchange.specs.Feed.{Feed, paged, failed, pageOf, planOf, fedOf, verdictOf, writtenOf}
 use Rattle.exchange.specs.StayLaws.{called-stays, called-quiet, fed-stays}
-use Rattle.exchange.specs.Xfer.{startOf, xferOf, captureOf}
-use Rattle.exchange.specs.XferLaws.{start-by, script-by, capture-by}
+use Rattle.exchange.specs.Xfer.{startOf, startTracedOf, xferOf, captureOf}
+use Rattle.exchange.specs.XferLaws.{start-by, script-by, traced-by, capture-by}
 use Rattle.exchange.specs.Types.{PcmInfo, Written, Verdict, Track, Ring, Counts, Call, SetParams, Command, Remap, Streams, Supported, Xfer, Capture, Stage, StreamsAsked, Core, Sound, Effect, Nothing, FillJacks, FillStreams, FillMaps, Store, Move, Look, Plan}
 
 -- the stream table is that of a page
@@ -133,6 +133,9 @@ module _ (s : Sound) (r : Ring) (stream len budget n : ℕ) (old : List ℕ) (f 
 
   pub filled-capture : (periods : ℕ) → Filled (captureOf s r stream periods len budget n .sound) old
   filled-capture periods = capture-by (λ x. Filled (x .sound) old) s r stream periods len budget n (λ _. f) (λ _ _ _. f) (λ _. f)
+
+  pub filled-traced : (room : ℕ) → Filled (startTracedOf s r stream len budget room n .sound) old
+  filled-traced room = traced-by (λ x. Filled (x .sound) old) s r stream len budget room n (λ _. f) (λ _ _ _. f) (λ _. f)
 
   pub filled-script : (script : List ℕ) → Filled (xferOf s r stream len budget script n .sound) old
   filled-script script = script-by (λ x. Filled (x .sound) old) s r stream len budget n (λ _. f) (λ _ _ _. f) script f

@@ -29,6 +29,7 @@ pub mod Demand
 pub mod CaptureDemand
 pub mod Lifecycle
 pub mod Carries
+pub mod TracedStart
 -- laws
 pub mod ConsistentLaws
 pub mod OwnLaws

@@ -30,9 +30,9 @@ use Rattle.exchange.specs.ConsistentLaws.{facts-at, full, ready-tables}
 use Rattle.exchange.specs.OwnLaws.{Own, sets, commands, remaps, lists, tells, refuses}
 use Rattle.exchange.specs.PlanLaws.{Begun, bars, asks, goes as begins, begun, Answered, short, idle, asks-streams, asks-maps, cuts, finishes, ends, fails, fed as answers}
 use Rattle.exchange.specs.StayLaws.{called-stays, called-quiet, fed-stays, after-core}
-use Rattle.exchange.specs.XferLaws.{start-by, script-by, capture-by}
+use Rattle.exchange.specs.XferLaws.{start-by, script-by, traced-by, capture-by}
 use Rattle.exchange.specs.Submitted.{nb-sound, mark-sound, finish-sound}
-use Rattle.exchange.specs.Reached.{Reached, fresh, called, fed, started, scripted, turned, captured, received, drained, submitted, marked, finished, begun as restarted, listened, ran, renewed, reached-kept, reached-playable}
+use Rattle.exchange.specs.Reached.{Reached, fresh, called, fed, started, scripted, turned, traced, penned, captured, received, drained, submitted, marked, finished, begun as restarted, listened, logged, ran, renewed, reached-kept, reached-playable}
 use Rattle.exchange.specs.Ends.{after}
 use Rattle.turns.specs.Consistent.{placedOf, pacedOf}
 use Rattle.turns.specs.Ring.{direct, newTrack, newRing}
@@ -91,7 +91,9 @@ oksOf (called call n h) i = oksOf h i
 oksOf (fed {s} f h) i = oksOf h i ++ okOf s f i
 oksOf (started stream len budget n h) i = oksOf h i
 oksOf (scripted stream frames budget script n h) i = oksOf h i
-oksOf (turned len reading h) i = oksOf h i
+oksOf (turned len room reading h) i = oksOf h i
+oksOf (traced stream len budget room n h) i = oksOf h i
+oksOf (penned written h) i = oksOf h i
 oksOf (captured stream periods lent budget n h) i = oksOf h i
 oksOf (received len c h) i = oksOf h i
 oksOf (drained reading h) i = oksOf h i
@@ -100,6 +102,7 @@ oksOf (marked reading h) i = oksOf h i
 oksOf (finished token h) i = oksOf h i
 oksOf (restarted stream len period budget h) i = oksOf h i
 oksOf (listened stream periods period lent budget h) i = oksOf h i
+oksOf (logged stream len period budget room h) i = oksOf h i
 oksOf (ran stream period budget frames script h) i = oksOf h i
 oksOf (renewed h) i = oksOf h i
 
@@ -281,7 +284,9 @@ guardOf (called call n h) = guardOf h
 guardOf (fed f h) = guardOf h
 guardOf (started stream len budget n h) = guardOf h
 guardOf (scripted stream frames budget script n h) = guardOf h
-guardOf (turned len reading h) = guardOf h
+guardOf (turned len room reading h) = guardOf h
+guardOf (traced stream len budget room n h) = guardOf h
+guardOf (penned written h) = guardOf h
 guardOf (captured stream periods lent budget n h) = guardOf h
 guardOf (received len c h) = guardOf h
 guardOf (drained reading h) = guardOf h
@@ -290,6 +295,7 @@ guardOf (marked reading h) = guardOf h
 guardOf (finished token h) = guardOf h
 guardOf (restarted stream len period budget h) = guardOf h
 guardOf (listened stream periods period lent budget h) = guardOf h
+guardOf (logged stream len period budget room h) = guardOf h
 guardOf (ran stream period budget frames script h) = guardOf h
 guardOf (renewed h) = guardOf h
 
@@ -308,7 +314,10 @@ guard-stays (started {s} {r} stream len budget n h) =
     start-by (λ (x : XferStep). x .sound .core .guard ≡ guardOf h) s r stream len budget n (λ _. guard-stays h) (λ _ _ _. guard-stays h) (guard-stays h)
 guard-stays (scripted {s} {r} stream frames budget script n h) =
     script-by (λ (x : XferStep). x .sound .core .guard ≡ guardOf h) s r stream (length frames) budget n (λ _. guard-stays h) (λ _ _ _. guard-stays h) script (guard-stays h)
-guard-stays (turned len reading h) = guard-stays h
+guard-stays (turned len room reading h) = guard-stays h
+guard-stays (traced {s} {r} stream len budget room n h) =
+    traced-by (λ (x : XferStep). x .sound .core .guard ≡ guardOf h) s r stream len budget room n (λ _. guard-stays h) (λ _ _ _. guard-stays h) (λ _. guard-stays h)
+guard-stays (penned written h) = guard-stays h
 guard-stays (captured {s} {r} stream periods lent budget n h) =
     capture-by (λ (x : XferStep). x .sound .core .guard ≡ guardOf h) s r stream periods lent budget n (λ _. guard-stays h) (λ _ _ _. guard-stays h) (λ _. guard-stays h)
 guard-stays (received len c h) = guard-stays h
@@ -318,6 +327,7 @@ guard-stays (marked {s} reading h) = mark-sound (λ (x : Sound). x .core .guard 
 guard-stays (finished {s} token h) = finish-sound (λ (x : Sound). x .core .guard ≡ guardOf h) s (guard-stays h) (λ _. guard-stays h) token
 guard-stays (restarted stream len period budget h) = guard-stays h
 guard-stays (listened stream periods period lent budget h) = guard-stays h
+guard-stays (logged stream len period budget room h) = guard-stays h
 guard-stays (ran stream period budget frames script h) = guard-stays h
 guard-stays (renewed h) = guard-stays h
 
@@ -352,7 +362,10 @@ reached-waits (started {s} {r} stream len budget n h) on =
     start-by (λ (x : XferStep). Waiting (x .sound)) s r stream len budget n (λ _ o. reached-waits h o) (λ _ _ _ _ i k e. empty e) (λ o. reached-waits h o) on
 reached-waits (scripted {s} {r} stream frames budget script n h) on =
     script-by (λ (x : XferStep). Waiting (x .sound)) s r stream (length frames) budget n (λ _ o. reached-waits h o) (λ _ _ _ _ i k e. empty e) script (λ o. reached-waits h o) on
-reached-waits (turned len reading h) on = reached-waits h on
+reached-waits (turned len room reading h) on = reached-waits h on
+reached-waits (traced {s} {r} stream len budget room n h) on =
+    traced-by (λ (x : XferStep). Waiting (x .sound)) s r stream len budget room n (λ _ o. reached-waits h o) (λ _ _ _ _ i k e. empty e) (λ _ o. reached-waits h o) on
+reached-waits (penned written h) on = reached-waits h on
 reached-waits (captured {s} {r} stream periods lent budget n h) on =
     capture-by (λ (x : XferStep). Waiting (x .sound)) s r stream periods lent budget n (λ _ o. reached-waits h o) (λ _ _ _ _ i k e. empty e) (λ _ o. reached-waits h o) on
 reached-waits (received len c h) on = reached-waits h on
@@ -362,6 +375,7 @@ reached-waits (marked {s} reading h) on = mark-sound Waiting s (λ o. reached-wa
 reached-waits (finished {s} token h) on = finish-sound Waiting s (λ o. reached-waits h o) (λ _ o. reached-waits h o) token on
 reached-waits (restarted stream len period budget h) on = reached-waits h on
 reached-waits (listened stream periods period lent budget h) on = reached-waits h on
+reached-waits (logged stream len period budget room h) on = reached-waits h on
 reached-waits (ran stream period budget frames script h) on = reached-waits h on
 reached-waits (renewed h) on = reached-waits h on
 
@@ -378,7 +392,10 @@ lifecycle (started {s} {r} stream len budget n h) i on =
     start-by (λ (x : XferStep). x .sound .core .guard ≡ true → Walk 0 (oksOf h i) (lifeOf (x .sound) i)) s r stream len budget n (λ _ o. lifecycle h i o) (λ _ _ _ o. lifecycle h i o) (λ o. lifecycle h i o) on
 lifecycle (scripted {s} {r} stream frames budget script n h) i on =
     script-by (λ (x : XferStep). x .sound .core .guard ≡ true → Walk 0 (oksOf h i) (lifeOf (x .sound) i)) s r stream (length frames) budget n (λ _ o. lifecycle h i o) (λ _ _ _ o. lifecycle h i o) script (λ o. lifecycle h i o) on
-lifecycle (turned len reading h) i on = lifecycle h i on
+lifecycle (turned len room reading h) i on = lifecycle h i on
+lifecycle (traced {s} {r} stream len budget room n h) i on =
+    traced-by (λ (x : XferStep). x .sound .core .guard ≡ true → Walk 0 (oksOf h i) (lifeOf (x .sound) i)) s r stream len budget room n (λ _ o. lifecycle h i o) (λ _ _ _ o. lifecycle h i o) (λ _ o. lifecycle h i o) on
+lifecycle (penned written h) i on = lifecycle h i on
 lifecycle (captured {s} {r} stream periods lent budget n h) i on =
     capture-by (λ (x : XferStep). x .sound .core .guard ≡ true → Walk 0 (oksOf h i) (lifeOf (x .sound) i)) s r stream periods lent budget n (λ _ o. lifecycle h i o) (λ _ _ _ o. lifecycle h i o) (λ _ o. lifecycle h i o) on
 lifecycle (received len c h) i on = lifecycle h i on
@@ -389,6 +406,7 @@ lifecycle (marked {s} reading h) i on = mark-sound (λ (x : Sound). x .core .gua
 lifecycle (finished {s} token h) i on = finish-sound (λ (x : Sound). x .core .guard ≡ true → Walk 0 (oksOf h i) (lifeOf x i)) s (λ o. lifecycle h i o) (λ _ o. lifecycle h i o) token on
 lifecycle (restarted stream len period budget h) i on = lifecycle h i on
 lifecycle (listened stream periods period lent budget h) i on = lifecycle h i on
+lifecycle (logged stream len period budget room h) i on = lifecycle h i on
 lifecycle (ran stream period budget frames script h) i on = lifecycle h i on
 lifecycle (renewed h) i on = lifecycle h i on
 

@@ -4,19 +4,19 @@ use mathlib.Core.Path.{_≡_, refl, sym, ap, _∙_, subst}
 use mathlib.Core.List.{List}
 use Prim.Native.Nat.{ℕ, zero, suc}
 use Rattle.codes.specs.SaysLaws.{guarded-by}
-use Rattle.turns.specs.Calls.{startCall, startedOf}
+use Rattle.turns.specs.Calls.{startCall, startTraced, startedOf}
 use Rattle.turns.specs.Rules.{comesTo, playedOf}
 use Rattle.turns.specs.Log.{Ran, loopOf, firstOf, restOf, played, ruled, run}
 use Rattle.turns.specs.Script.{scriptOf, transferBy, transferOf}
 use Rattle.turns.specs.CaseLaws.{Plain, plain, onward-cases}
-use Rattle.turns.specs.RefusalLaws.{turn-answers}
+use Rattle.turns.specs.RefusalLaws.{turn-answers, traced-start-refused, ring-untouched}
 use Rattle.turns.specs.HostLaws.{begins, Runs, link}
 use Rattle.turns.specs.Demand as turns
 use Rattle.exchange.specs.CaptureLaws.{capture-start-refusal}
 use Rattle.turns.specs.declared.ring.Said.the-variants.{Done, Refused}
 use Rattle.exchange.specs.State.{paramsOf}
-use Rattle.exchange.specs.Xfer.{startOf, xferOf, captureOf}
-use Rattle.exchange.specs.XferLaws.{start-by, script-by, capture-by}
+use Rattle.exchange.specs.Xfer.{startOf, startTracedOf, xferOf, captureOf}
+use Rattle.exchange.specs.XferLaws.{start-by, script-by, traced-by, capture-by}
 use Rattle.exchange.specs.ResultLaws.{wrong, says-said}
 use Rattle.exchange.specs.Types.{Refusal, Track, Ring, Said, Going, Ended, Reading, Transferred, Sound, Says, XferStep}
 
@@ -69,6 +69,11 @@ module _ (s : Sound) (r : Ring) (stream len budget n : ℕ) (x : Refusal) where
   refused-capture periods =
       capture-by Unchanged s r stream periods len budget n (λ _ _. (refl, refl, refl)) (λ _ _ _ e. absurd (wrong (cc)))
       (λ _ e. (refl, capture-start-refusal r x stream periods (paramsOf s stream .period) len budget (says-said e), refl))
+
+  pub refused-traced : (room : ℕ) → Unchanged (startTracedOf s r stream len budget room n)
+  refused-traced room =
+      traced-by Unchanged s r stream len budget room n (λ _ _. (refl, refl, refl)) (λ _ _ _ e. absurd (wrong (cc)))
+      (λ _ e. (refl, ring-untouched r _ (traced-start-refused (r .track) stream len (paramsOf s stream .period) budget room) x (says-said e), refl))
 
   pub refused-script : (bytes : List ℕ) → Unchanged (xferOf s r stream len budget bytes n)
   refused-script bytes =

@@ -27,11 +27,11 @@ use Rattle.core.specs.Consistent.{consistentOf, streamOk}
 use Rattle.core.specs.Plan.{ownSet, beginOf, afterJacks, afterStreams, afterMaps, afterSent, answerOf}
 use Rattle.exchange.specs.Exchange.{callOf, feedOf, failOf}
 use Rattle.exchange.specs.Feed.{planOf, pageOf}
-use Rattle.exchange.specs.XferLaws.{start-by, script-by, capture-by}
+use Rattle.exchange.specs.XferLaws.{start-by, script-by, traced-by, capture-by}
 use Rattle.exchange.specs.Submit.{nbOf, nbStore, markBy, markStep, finishStep}
 use Rattle.exchange.specs.Submitted.{Given, nb-ends, effect-pending}
 use Rattle.exchange.specs.Ends.{after}
-use Rattle.exchange.specs.Reached.{Reached, fresh, called, fed, started, scripted, turned, captured, received, drained, submitted, marked, finished, begun, listened, ran, renewed, reached-kept, parametersSet, reached-set}
+use Rattle.exchange.specs.Reached.{Reached, fresh, called, fed, started, scripted, turned, traced, penned, captured, received, drained, submitted, marked, finished, begun, listened, logged, ran, renewed, reached-kept, parametersSet, reached-set}
 use Rattle.exchange.specs.declared.nonblocking.NbReply.the-variants.{Send, Token, Refused}
 use Rattle.exchange.specs.Types.{Ring, Reading, Pending, Judged, Sound, XferStep, NbReply, NbStep, NbEnd}
 
@@ -48,7 +48,9 @@ heldBy (called call n h) k = heldBy h k
 heldBy (fed f h) k = heldBy h k
 heldBy (started stream len budget n h) k = heldBy h k
 heldBy (scripted stream frames budget script n h) k = heldBy h k
-heldBy (turned len reading h) k = heldBy h k
+heldBy (turned len room reading h) k = heldBy h k
+heldBy (traced stream len budget room n h) k = heldBy h k
+heldBy (penned written h) k = heldBy h k
 heldBy (captured stream periods lent budget n h) k = heldBy h k
 heldBy (received len c h) k = heldBy h k
 heldBy (drained reading h) k = heldBy h k
@@ -57,6 +59,7 @@ heldBy (marked reading h) k = heldBy h k
 heldBy (finished {s} token h) k = noted (endsEntry (finishStep s token .said) token) k (heldBy h k)
 heldBy (begun stream len period budget h) k = heldBy h k
 heldBy (listened stream periods period lent budget h) k = heldBy h k
+heldBy (logged stream len period budget room h) k = heldBy h k
 heldBy (ran stream period budget frames script h) k = heldBy h k
 heldBy (renewed h) k = heldBy h k
 
@@ -93,7 +96,10 @@ pending-exactly (started {s} {r} stream len budget n h) k =
     start-by (λ (x : XferStep). pendingAt (x .sound .pending) k ≡ heldBy h k) s r stream len budget n (λ _. pending-exactly h k) (λ _ _ _. pending-exactly h k) (pending-exactly h k)
 pending-exactly (scripted {s} {r} stream frames budget script n h) k =
     script-by (λ (x : XferStep). pendingAt (x .sound .pending) k ≡ heldBy h k) s r stream (length frames) budget n (λ _. pending-exactly h k) (λ _ _ _. pending-exactly h k) script (pending-exactly h k)
-pending-exactly (turned len reading h) k = pending-exactly h k
+pending-exactly (turned len room reading h) k = pending-exactly h k
+pending-exactly (traced {s} {r} stream len budget room n h) k =
+    traced-by (λ (x : XferStep). pendingAt (x .sound .pending) k ≡ heldBy h k) s r stream len budget room n (λ _. pending-exactly h k) (λ _ _ _. pending-exactly h k) (λ _. pending-exactly h k)
+pending-exactly (penned written h) k = pending-exactly h k
 pending-exactly (captured {s} {r} stream periods lent budget n h) k =
     capture-by (λ (x : XferStep). pendingAt (x .sound .pending) k ≡ heldBy h k) s r stream periods lent budget n (λ _. pending-exactly h k) (λ _ _ _. pending-exactly h k) (λ _. pending-exactly h k)
 pending-exactly (received len c h) k = pending-exactly h k
@@ -103,6 +109,7 @@ pending-exactly (marked {s} reading h) k = mark-held s k (heldBy h k) (reached-k
 pending-exactly (finished {s} token h) k = finish-held s k (heldBy h k) (reached-kept h .0 .pending) (pending-exactly h k) token
 pending-exactly (begun stream len period budget h) k = pending-exactly h k
 pending-exactly (listened stream periods period lent budget h) k = pending-exactly h k
+pending-exactly (logged stream len period budget room h) k = pending-exactly h k
 pending-exactly (ran stream period budget frames script h) k = pending-exactly h k
 pending-exactly (renewed h) k = pending-exactly h k
 

@@ -12,7 +12,7 @@ use Rattle.layout.specs.Lent.{messageSize}
 use Rattle.codes.specs.Says as answers
 use Rattle.codes.specs.Says.{says, guard}
 use Rattle.codes.specs.SaysLaws.{guard-ap}
-use Rattle.turns.specs.Calls.{startCall, startedOf}
+use Rattle.turns.specs.Calls.{startCall, startTraced, startedOf}
 use Rattle.turns.specs.Capture.{captureStart}
 use Rattle.turns.specs.Script.{transferOf}
 use Rattle.turns.specs.declared.ring.Step as ring
@@ -20,7 +20,7 @@ use Rattle.pending.specs.Table.{noneIn}
 use Rattle.core.specs.Reply.{messageAfter, replyOf}
 use Rattle.exchange.specs.State.{pcmsOf}
 use Rattle.exchange.specs.Exchange.{idsBy, listOf, stepOf, listValues, saysBeside, saysStep, saysSay, Stepped}
-use Rattle.exchange.specs.Xfer.{xferAs, xferBy, waitingAs, refusedStep, setUpStepWith, setUpStep, startStep, doneStep, startAs, startOf, xferOf, captureOf, xferMessage, saysXfer, startSaysAs, startSays, xferSays, captureSays, Transfers}
+use Rattle.exchange.specs.Xfer.{xferAs, xferBy, waitingAs, refusedStep, setUpStepWith, setUpStep, startStep, doneStep, startAs, startOf, startTracedOf, xferOf, captureOf, xferMessage, saysXfer, startSaysAs, startSays, startTracedSays, xferSays, captureSays, Transfers}
 use Rattle.exchange.specs.Types.{Refusal, Track, Ring, PcmInfo, Say, Send, Done, Refused, Sound, Plan, Step, Gate, Shut, SetUp, Open, XferStep}
 
 -- a list of ids is told as it is
@@ -96,6 +96,20 @@ module _ (s : Sound) (r : Ring) (stream len budget : ℕ) where
 pub start-says : (s : Sound) (r : Ring) (stream len budget n : ℕ) → saysXfer (startOf s r stream len budget n .reply) ≡ startSays s r stream len budget n
 unfolding startOf
 start-says s r stream len budget n = start-as-says false (λ period. startCall (r .track) stream len period budget) s r stream n
+
+-- of one that writes a trace
+module _ (s : Sound) (r : Ring) (stream len budget room : ℕ) where
+  abbrev pub tracing : ℕ → ring.Step
+  tracing period = startTraced (r .track) stream len period budget room
+
+  pub traced-by : (n : ℕ) (clear : Bool) (g : Gate) → clear ≡ noneIn (s .pending) → g ≡ xferBy (leb messageSize n) clear s (r .track) stream Shut SetUp Open
+      → startBy false tracing s r stream g ≡ startTracedOf s r stream len budget room n
+  unfolding startTracedOf
+  traced-by n clear g z e = started-as false tracing s r stream n clear g z e
+
+  pub traced-says : (n : ℕ) → saysXfer (startTracedOf s r stream len budget room n .reply) ≡ startTracedSays s r stream len budget room n
+  unfolding startTracedOf
+  traced-says n = start-as-says false tracing s r stream n
 
 -- of a capture
 module _ (s : Sound) (r : Ring) (stream periods lent budget : ℕ) where

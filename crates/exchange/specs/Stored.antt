@@ -16,8 +16,8 @@ use Rattle.core.specs.Plan.{storedOf, effectOf, verdictBy}
 use Rattle.exchange.specs.Tables.{soundAfter}
 use Rattle.exchange.specs.PlanLaws.{Answered, short, idle, asks-streams, asks-maps, cuts, finishes, ends, fails, fed}
 use Rattle.exchange.specs.Exchange.{stepOf, callOf}
-use Rattle.exchange.specs.Xfer.{startOf, xferOf, captureOf}
-use Rattle.exchange.specs.XferLaws.{start-by, script-by, capture-by}
+use Rattle.exchange.specs.Xfer.{startOf, startTracedOf, xferOf, captureOf}
+use Rattle.exchange.specs.XferLaws.{start-by, script-by, traced-by, capture-by}
 use Rattle.exchange.specs.Feed.{Feed, paged, failed, pageOf, planOf, fedOf, verdictOf}
 use Rattle.exchange.specs.StayLaws.{Stays, called-stays, called-quiet, fed-stays, after-core}
 use Rattle.exchange.specs.Types.{Verdict, Track, Ring, Params, Call, SetParams, Command, Remap, Streams, Supported, Xfer, Capture, Stage, Sent, Core, Sound, Effect, Nothing, FillJacks, FillMaps, Look, Plan}
@@ -39,6 +39,9 @@ module _ (s : Sound) (r : Ring) (stream len budget n : ℕ) (done : s .core .rea
 
   pub setup-stays-done-capture : (periods : ℕ) → captureOf s r stream periods len budget n .sound .core .ready ≡ true
   setup-stays-done-capture periods = capture-by (λ x. x .sound .core .ready ≡ true) s r stream periods len budget n (λ _. done) (λ _ _ _. done) (λ _. done)
+
+  pub setup-stays-done-traced : (room : ℕ) → startTracedOf s r stream len budget room n .sound .core .ready ≡ true
+  setup-stays-done-traced room = traced-by (λ x. x .sound .core .ready ≡ true) s r stream len budget room n (λ _. done) (λ _ _ _. done) (λ _. done)
 
   pub setup-stays-done-script : (script : List ℕ) → xferOf s r stream len budget script n .sound .core .ready ≡ true
   setup-stays-done-script script = script-by (λ x. x .sound .core .ready ≡ true) s r stream len budget n (λ _. done) (λ _ _ _. done) script done
@@ -105,6 +108,9 @@ module _ (s : Sound) (r : Ring) (stream len budget n i : ℕ) where
 
   pub params-by-capture : (periods : ℕ) → paramsOf (captureOf s r stream periods len budget n .sound) i ≡ paramsOf s i
   params-by-capture periods = capture-by (λ x. paramsOf (x .sound) i ≡ paramsOf s i) s r stream periods len budget n (λ _. refl) (λ _ _ _. refl) (λ _. refl)
+
+  pub params-by-traced : (room : ℕ) → paramsOf (startTracedOf s r stream len budget room n .sound) i ≡ paramsOf s i
+  params-by-traced room = traced-by (λ x. paramsOf (x .sound) i ≡ paramsOf s i) s r stream len budget room n (λ _. refl) (λ _ _ _. refl) (λ _. refl)
 
   pub params-by-script : (script : List ℕ) → paramsOf (xferOf s r stream len budget script n .sound) i ≡ paramsOf s i
   params-by-script script = script-by (λ x. paramsOf (x .sound) i ≡ paramsOf s i) s r stream len budget n (λ _. refl) (λ _ _ _. refl) script refl

@@ -18,7 +18,8 @@ use Rattle.pending.specs.Places.{sizeOf, startOf as placeOf, messageOf, placedI
 use Rattle.pending.specs.Full.{lowest-below, full-if}
 use Rattle.pending.specs.Count.{none-then}
 use Rattle.pending.specs.Ledger.{mark-sized, finish-sized, put-sized}
-use Rattle.turns.specs.Calls.{idleOf, startCall, startedOf}
+use Rattle.turns.specs.Calls.{idleOf, startCall, startTraced, startedOf}
+use Rattle.turns.specs.declared.ring.Step as step
 use Rattle.turns.specs.Capture.{captureStart}
 use Rattle.turns.specs.Script.{transferOf}
 use Rattle.turns.specs.Consistent as ring
@@ -28,7 +29,7 @@ use Rattle.core.specs.Plan.{isIdle}
 use Rattle.core.specs.State.{withStage}
 use Rattle.exchange.specs.State.{paramsOf, lifeOf, withCore}
 use Rattle.exchange.specs.Tables.{soundAfter}
-use Rattle.exchange.specs.Xfer.{xferAs, refusedStep, setUpStepWith, setUpStep, startStep, doneStep, startOf, xferOf, captureOf, setUpPlan}
+use Rattle.exchange.specs.Xfer.{xferAs, waitingAs, refusedStep, setUpStepWith, setUpStep, startStep, doneStep, startAs, startOf, startTracedOf, xferOf, captureOf, setUpPlan}
 use Rattle.exchange.specs.XferLaws.{xfer-by, set-up-kept}
 use Rattle.exchange.specs.Kept.{Kept}
 use Rattle.exchange.specs.Unrun as unrun
@@ -173,11 +174,18 @@ module _ (s : Sound) (r : Ring) (stream len budget n : ℕ) (sound : (consistent
   full : (isIdle (s .core .stage) && (idleOf (r .track) && noneIn (s .pending))) ≡ false
   full = third (isIdle (s .core .stage)) (idleOf (r .track)) (noneIn (s .pending)) (some-pending (s .pending) k taken)
 
+  start-as-busy : (capture : Bool) (begin : ℕ → step.Step) → refusedStep s r Busy ≡ startAs capture begin s r stream n
+  start-as-busy capture begin =
+      busy-by s (r .track) stream sound capture (leb messageSize n) (noneIn (s .pending)) (refusedStep s r) (setUpStepWith s r (waitingAs capture stream)) (λ period. startStep s r (startedOf r (begin period)))
+      (le-leb messageSize n long) full
+
   pub start-busy-pending : refusedStep s r Busy ≡ startOf s r stream len budget n
   unfolding startOf
-  start-busy-pending =
-      busy-by s (r .track) stream sound false (leb messageSize n) (noneIn (s .pending)) (refusedStep s r) (setUpStep s r stream)
-      (λ period. startStep s r (startedOf r (startCall (r .track) stream len period budget))) (le-leb messageSize n long) full
+  start-busy-pending = start-as-busy false (λ period. startCall (r .track) stream len period budget)
+
+  pub traced-busy-pending : (room : ℕ) → refusedStep s r Busy ≡ startTracedOf s r stream len budget room n
+  unfolding startTracedOf
+  traced-busy-pending room = start-as-busy false (λ period. startTraced (r .track) stream len period budget room)
 
   pub script-busy-pending : (script : List ℕ) → eqb (length script % 12) 0 ≡ true → refusedStep s r Busy ≡ xferOf s r stream len budget script n
   unfolding xferOf
@@ -187,9 +195,7 @@ module _ (s : Sound) (r : Ring) (stream len budget n : ℕ) (sound : (consistent
 
   pub capture-busy-pending : (periods : ℕ) → refusedStep s r Busy ≡ captureOf s r stream periods len budget n
   unfolding captureOf
-  capture-busy-pending periods =
-      busy-by s (r .track) stream sound true (leb messageSize n) (noneIn (s .pending)) (refusedStep s r) (setUpStepWith s r (Capture stream))
-      (λ period. startStep s r (startedOf r (captureStart (r .track) stream periods period len budget))) (le-leb messageSize n long) full
+  capture-busy-pending periods = start-as-busy true (λ period. captureStart (r .track) stream periods period len budget)
 
 -- "as is a submission while a transfer's slots are owed"
 pub nb-busy-owed : (s : Sound) (r : Ring) (stream n len m : ℕ) → (consistentOf (s .core) && (ring.consistentOf (r .track) && streamOk (s .core) (paramsOf s stream) stream)) ≡ true → messageSize ≤ m

@@ -14,9 +14,9 @@ use Rattle.exchange.specs.OwnLaws.{Own, refuses}
 use Rattle.exchange.specs.PlanLaws.{Failing, long-verdict, long-of, Answered, short, idle, asks-streams, asks-maps, cuts, finishes, ends, fails, fed}
 use Rattle.core.specs.Reply.{replyOf}
 use Rattle.exchange.specs.Exchange.{stepOf}
-use Rattle.exchange.specs.Xfer.{waitingAs, startOf, xferOf, captureOf}
+use Rattle.exchange.specs.Xfer.{waitingAs, startOf, startTracedOf, xferOf, captureOf}
 use Rattle.exchange.specs.Kept.{Kept}
-use Rattle.exchange.specs.XferLaws.{start-by, script-by, capture-by}
+use Rattle.exchange.specs.XferLaws.{start-by, script-by, traced-by, capture-by}
 use Rattle.exchange.specs.StayLaws.{after-core}
 use Rattle.exchange.specs.ResultLaws.{wrong, recall}
 use Rattle.exchange.specs.Feed.{Feed, pageOf, planOf, fedOf, verdictOf, longOf, Long, One, asking, callAt}
@@ -85,6 +85,9 @@ module _ (s : Sound) (r : Ring) (stream len budget n m : ℕ) where
 
   pub script-asks : (script : List ℕ) → Asks (xferOf s r stream len budget script n)
   script-asks script = script-by Asks s r stream len budget n (λ _ e. absurd (wrong (cc))) (λ _ _ _ _. record { asks = refl; call = refl }) script (λ e. absurd (wrong (cc)))
+
+  pub traced-asks : (room : ℕ) → Asks (startTracedOf s r stream len budget room n)
+  traced-asks room = traced-by Asks s r stream len budget room n (λ _ e. absurd (wrong (cc))) (λ _ _ _ _. record { asks = refl; call = refl }) (λ _ e. absurd (wrong (cc)))
 
   -- and so does a start of a capture
   pub capture-asks : (periods : ℕ) → AsksAs true (captureOf s r stream periods len budget n)

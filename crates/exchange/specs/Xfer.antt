@@ -9,7 +9,7 @@ use lib.ListN.{length}
 use Rattle.layout.specs.Lent.{messageSize}
 use Rattle.codes.specs.Says as answers
 use Rattle.codes.specs.Answers.{saysRefusal}
-use Rattle.turns.specs.Calls.{startCall, startedOf}
+use Rattle.turns.specs.Calls.{startCall, startTraced, startedOf}
 use Rattle.turns.specs.Capture.{captureStart}
 use Rattle.turns.specs.Script.{transferOf}
 use Rattle.turns.specs.declared.ring.Step as ring
@@ -69,6 +69,10 @@ startAs capture begin s r stream n =
 unfoldable pub startOf : Sound → Ring → ℕ → ℕ → ℕ → ℕ → XferStep
 startOf s r stream len budget n = startAs false (λ period. startCall (r .track) stream len period budget) s r stream n
 
+-- 2026-11, THE START OF ONE THAT WRITES A TRACE, lent room of some length: the same checks, "the writer gives 10, last before the first turn"
+unfoldable pub startTracedOf : Sound → Ring → ℕ → ℕ → ℕ → ℕ → ℕ → XferStep
+startTracedOf s r stream len budget room n = startAs false (λ period. startTraced (r .track) stream len period budget room) s r stream n
+
 -- THE START OF A CAPTURE of so many periods into a recording of some length: the same checks, "stream direction not 1 gives 1, after the range check"
 unfoldable pub captureOf : Sound → Ring → ℕ → ℕ → ℕ → ℕ → ℕ → XferStep
 captureOf s r stream periods lent budget n = startAs true (λ period. captureStart (r .track) stream periods period lent budget) s r stream n
@@ -101,6 +105,9 @@ startSaysAs capture begin s r stream n =
 
 abbrev pub startSays : Sound → Ring → ℕ → ℕ → ℕ → ℕ → answers.Says
 startSays s r stream len budget n = startSaysAs false (λ period. startCall (r .track) stream len period budget) s r stream n
+
+abbrev pub startTracedSays : Sound → Ring → ℕ → ℕ → ℕ → ℕ → ℕ → answers.Says
+startTracedSays s r stream len budget room n = startSaysAs false (λ period. startTraced (r .track) stream len period budget room) s r stream n
 
 abbrev pub captureSays : Sound → Ring → ℕ → ℕ → ℕ → ℕ → ℕ → answers.Says
 captureSays s r stream periods lent budget n = startSaysAs true (λ period. captureStart (r .track) stream periods period lent budget) s r stream n

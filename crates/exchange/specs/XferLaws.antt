@@ -11,11 +11,12 @@ use Rattle.layout.specs.Lent.{messageSize}
 use Rattle.codes.specs.Says.{guard}
 use Rattle.codes.specs.SaysLaws.{guarded-by, passes}
 use Rattle.codes.specs.Life.{takesOf}
-use Rattle.turns.specs.Calls.{idleOf, startCall, startedOf}
+use Rattle.turns.specs.Calls.{idleOf, startCall, startTraced, startedOf}
 use Rattle.turns.specs.Capture.{captureStart}
 use Rattle.turns.specs.Script.{transferOf}
 use Rattle.core.specs.GateLaws.{faces, faced-by}
 use Rattle.turns.specs.Consistent as ring
+use Rattle.turns.specs.declared.ring.Step as step
 use Rattle.turns.specs.ConsistentLaws.{both}
 use Rattle.pending.specs.Table.{noneIn}
 use Rattle.exchange.specs.State.{paramsOf, lifeOf, pcmOf, withCore}
@@ -23,7 +24,7 @@ use Rattle.core.specs.Consistent.{callOk, numbersOk, periodOk, paramsOk, consis
 use Rattle.exchange.specs.ConsistentLaws.{both-of, either-of, Paced, period-facts}
 use Rattle.core.specs.Plan.{isIdle}
 use Rattle.exchange.specs.PlanLaws.{idle-is}
-use Rattle.exchange.specs.Xfer.{xferAs, xferBy, setUpWith, setUpPlan, refusedStep, setUpStepWith, setUpStep, startStep, doneStep, startOf, xferOf, captureOf}
+use Rattle.exchange.specs.Xfer.{xferAs, xferBy, waitingAs, setUpWith, setUpPlan, refusedStep, setUpStepWith, setUpStep, startStep, doneStep, startAs, startOf, startTracedOf, xferOf, captureOf}
 use Rattle.exchange.specs.Kept.{Kept, Playable}
 use Rattle.exchange.specs.FineLaws.{ask-fine}
 use Rattle.exchange.specs.KeptLaws.{step-kept}
@@ -56,21 +57,33 @@ pub xfer-by : {A : Type 0} (P : A → Type 0) (lengths clear : Bool) (s : Sound)
     → (clear ≡ true → idleOf t ≡ true → P (go (paramsOf s stream .period))) → P (xferBy lengths clear s t stream refuse setUp go)
 xfer-by P lengths clear s t stream refuse setUp go a b g = xfer-as-by P false lengths clear s t stream refuse setUp go a b g
 
--- the same of the start of a capture
+-- the same of the start of any transfer
+pub start-as-by : (P : XferStep → Type 0) (capture : Bool) (begin : ℕ → step.Step) (s : Sound) (r : Ring) (stream n : ℕ) → ((x : Refusal) → P (refusedStep s r x))
+    → (consistentOf (s .core) ≡ true → s .core .stage ≡ Idle → s .core .ready ≡ false → P (setUpStepWith s r (waitingAs capture stream)))
+    → (noneIn (s .pending) ≡ true → P (startStep s r (startedOf r (begin (paramsOf s stream .period))))) → P (startAs capture begin s r stream n)
+start-as-by P capture begin s r stream n a b g =
+    xfer-as-by P capture (leb messageSize n) (noneIn (s .pending)) s (r .track) stream (refusedStep s r) (setUpStepWith s r (waitingAs capture stream)) (λ period. startStep s r (startedOf r (begin period))) a b
+    (λ none _. g none)
+
+-- of a capture, and of a playback that writes a trace
 pub capture-by : (P : XferStep → Type 0) (s : Sound) (r : Ring) (stream periods lent budget n : ℕ) → ((x : Refusal) → P (refusedStep s r x))
     → (consistentOf (s .core) ≡ true → s .core .stage ≡ Idle → s .core .ready ≡ false → P (setUpStepWith s r (Capture stream)))
     → (noneIn (s .pending) ≡ true → P (startStep s r (startedOf r (captureStart (r .track) stream periods (paramsOf s stream .period) lent budget)))) → P (captureOf s r stream periods lent budget n)
 unfolding captureOf
-capture-by P s r stream periods lent budget n a b g =
-    xfer-as-by P true (leb messageSize n) (noneIn (s .pending)) s (r .track) stream (refusedStep s r) (setUpStepWith s r (Capture stream))
-    (λ period. startStep s r (startedOf r (captureStart (r .track) stream periods period lent budget))) a b (λ none _. g none)
+capture-by P s r stream periods lent budget n a b g = start-as-by P true (λ period. captureStart (r .track) stream periods period lent budget) s r stream n a b g
+
+pub traced-by : (P : XferStep → Type 0) (s : Sound) (r : Ring) (stream len budget room n : ℕ) → ((x : Refusal) → P (refusedStep s r x))
+    → (consistentOf (s .core) ≡ true → s .core .stage ≡ Idle → s .core .ready ≡ false → P (setUpStep s r stream))
+    → (noneIn (s .pending) ≡ true → P (startStep s r (startedOf r (startTraced (r .track) stream len (paramsOf s stream .period) budget room)))) → P (startTracedOf s r stream len budget room n)
+unfolding startTracedOf
+traced-by P s r stream len budget room n a b g = start-as-by P false (λ period. startTraced (r .track) stream len period budget room) s r stream n a b g
 
 -- of the start of a playback, and of one over a script
 module _ (P : XferStep → Type 0) (s : Sound) (r : Ring) (stream len budget n : ℕ) (a : (x : Refusal) → P (refusedStep s r x))
     (b : consistentOf (s .core) ≡ true → s .core .stage ≡ Idle → s .core .ready ≡ false → P (setUpStep s r stream)) where
   pub start-by : P (startStep s r (startedOf r (startCall (r .track) stream len (paramsOf s stream .period) budget))) → P (startOf s r stream len budget n)
   unfolding startOf
-  start-by g = xfer-by P (leb messageSize n) (noneIn (s .pending)) s (r .track) stream (refusedStep s r) (setUpStep s r stream) (λ period. startStep s r (startedOf r (startCall (r .track) stream len period budget))) a b (λ _ _. g)
+  start-by g = start-as-by P false (λ period. startCall (r .track) stream len period budget) s r stream n a b (λ _. g)
 
   pub script-by : (script : List ℕ) → P (doneStep s (transferOf r stream len (paramsOf s stream .period) budget script)) → P (xferOf s r stream len budget script n)
   unfolding xferOf
@@ -87,6 +100,9 @@ set-up-kept s stream = with-set-up-kept s (Xfer stream) refl
 
 pub capture-kept : (s : Sound) (r : Ring) (stream periods lent budget n : ℕ) → Kept s → Kept (captureOf s r stream periods lent budget n .sound)
 capture-kept s r stream periods lent budget n k = capture-by (λ x. Kept (x .sound)) s r stream periods lent budget n (λ _. k) (with-set-up-kept s (Capture stream) refl k) (λ _. k)
+
+pub traced-kept : (s : Sound) (r : Ring) (stream len budget room n : ℕ) → Kept s → Kept (startTracedOf s r stream len budget room n .sound)
+traced-kept s r stream len budget room n k = traced-by (λ x. Kept (x .sound)) s r stream len budget room n (λ _. k) (set-up-kept s stream k) (λ _. k)
 
 module _ (s : Sound) (r : Ring) (stream len budget n : ℕ) (k : Kept s) where
   pub start-kept : Kept (startOf s r stream len budget n .sound)
@@ -152,18 +168,26 @@ pub passed-all : {A : Type 0} (lengths : Bool) (s : Sound) (r : Ring) (stream : 
     → go (paramsOf s stream .period) ≡ xferBy lengths (noneIn (s .pending)) s (r .track) stream refuse setUp go
 passed-all lengths s r stream refuse setUp go long o = passed-as false lengths s r stream refuse setUp go long o refl
 
--- and those of a capture, where its stream is an input
+-- so a start does what it does to the ring
+pub start-as-is : (capture : Bool) (begin : ℕ → step.Step) (s : Sound) (r : Ring) (stream n : ℕ) → Playable s r stream → heldTo capture (eqb (pcmOf s stream .direction) 1) ≡ true → messageSize ≤ n
+    → startStep s r (startedOf r (begin (paramsOf s stream .period))) ≡ startAs capture begin s r stream n
+start-as-is capture begin s r stream n o turned long =
+    passed-as capture (leb messageSize n) s r stream (refusedStep s r) (setUpStepWith s r (waitingAs capture stream)) (λ period. startStep s r (startedOf r (begin period))) (le-leb messageSize n long) o turned
+
+-- a capture, where its stream is an input
 pub capture-is : (s : Sound) (r : Ring) (stream periods lent budget n : ℕ) → Playable s r stream → pcmOf s stream .direction ≡ 1 → messageSize ≤ n
     → startStep s r (startedOf r (captureStart (r .track) stream periods (paramsOf s stream .period) lent budget)) ≡ captureOf s r stream periods lent budget n
 unfolding captureOf
-capture-is s r stream periods lent budget n o input long =
-    passed-as true (leb messageSize n) s r stream (refusedStep s r) (setUpStepWith s r (Capture stream)) (λ period. startStep s r (startedOf r (captureStart (r .track) stream periods period lent budget)))
-    (le-leb messageSize n long) o (eq-eqb _ _ input)
+capture-is s r stream periods lent budget n o input long = start-as-is true (λ period. captureStart (r .track) stream periods period lent budget) s r stream n o (eq-eqb _ _ input) long
 
 module _ (s : Sound) (r : Ring) (stream len budget n : ℕ) (o : Playable s r stream) (long : messageSize ≤ n) where
   pub start-is : startStep s r (startedOf r (startCall (r .track) stream len (paramsOf s stream .period) budget)) ≡ startOf s r stream len budget n
   unfolding startOf
-  start-is = passed-all (leb messageSize n) s r stream (refusedStep s r) (setUpStep s r stream) (λ period. startStep s r (startedOf r (startCall (r .track) stream len period budget))) (le-leb messageSize n long) o
+  start-is = start-as-is false (λ period. startCall (r .track) stream len period budget) s r stream n o refl long
+
+  pub traced-is : (room : ℕ) → startStep s r (startedOf r (startTraced (r .track) stream len (paramsOf s stream .period) budget room)) ≡ startTracedOf s r stream len budget room n
+  unfolding startTracedOf
+  traced-is room = start-as-is false (λ period. startTraced (r .track) stream len period budget room) s r stream n o refl long
 
   pub xfer-is : (script : List ℕ) → length script % 12 ≡ 0 → doneStep s (transferOf r stream len (paramsOf s stream .period) budget script) ≡ xferOf s r stream len budget script n
   unfolding xferOf

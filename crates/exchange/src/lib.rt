@@ -43,3 +43,4 @@ pub use xfer::XferStep;
 pub use xfer::pcm_capture_start;
 pub use xfer::pcm_xfer;
 pub use xfer::pcm_xfer_start;
+pub use xfer::pcm_xfer_start_traced;

@@ -5,7 +5,7 @@ ghost use lib.ListN.{length};
 ghost use Rattle.layout.specs.Lent.{messageSize};
 ghost use Rattle.core.specs.Reply.{messageAfter};
 ghost use Rattle.core.specs.declared.gate.Gate.the-variants.{Shut, SetUp, Open};
-ghost use Rattle.exchange.specs.Xfer.{xferAs, setUpWith, refusedStep, setUpStepWith, startStep, doneStep, startOf, xferOf, captureOf, startSays, xferSays, captureSays, Transfers};
+ghost use Rattle.exchange.specs.Xfer.{xferAs, setUpWith, refusedStep, setUpStepWith, startStep, doneStep, startOf, startTracedOf, xferOf, captureOf, startSays, startTracedSays, xferSays, captureSays, Transfers};
 use crate::effect::direction_of;
 use crate::effect::life_of;
 use crate::effect::params_of;
@@ -28,6 +28,7 @@ use turns::Transferred;
 use turns::Turned;
 use turns::capture_start;
 use turns::start;
+use turns::traced_start;
 use turns::transfer;
 
 // A request of so many bytes to send, or what the start or the last turn says.
@@ -143,6 +144,32 @@ pub fn pcm_xfer_start(
         Gate::SetUp => set_up(s, ring, Call::Xfer { stream }, message),
         Gate::Open(period) => {
             let t = start(ring, stream, frames, period as usize, budget);
+            started(s, ring, t)
+        }
+    }
+}
+
+// The start of a transfer of some frames that writes a trace, lent room for it: it goes on, is
+// refused, or begins set-up.
+pub fn pcm_xfer_start_traced(
+    s: Sound,
+    ring: Ring,
+    stream: u32,
+    frames: &[u8],
+    budget: u64,
+    room: &[u8],
+    message: &mut [u8],
+) -> XferStep
+    ensures { λ r. ⌜ Transfers (startTracedOf s ring stream (length (now (frames .entry))) budget (length (now (room .entry))) (length (now (message .entry)))) (startTracedSays s ring stream (length (now (frames .entry))) budget (length (now (room .entry))) (length (now (message .entry)))) s stream (now (message .entry)) (now (message .exit)) r ⌝ }
+{
+    let clear = is_none(s.pending);
+    let fits = MESSAGE <= message.len();
+    let outcome = checked(false, fits, clear, s, ring.track, stream);
+    match outcome {
+        Gate::Shut(refusal) => refused(s, ring, refusal),
+        Gate::SetUp => set_up(s, ring, Call::Xfer { stream }, message),
+        Gate::Open(period) => {
+            let t = traced_start(ring, stream, frames, period, budget, room);
             started(s, ring, t)
         }
     }

@@ -14,6 +14,8 @@ use Rattle.ring_store.proofs.calls.new.Reads as new
 use Rattle.ring_store.proofs.calls.turn.Reads as turn
 use Rattle.ring_store.proofs.calls.drain_turn.Reads as drain-turn
 use Rattle.ring_store.proofs.calls.start.Reads as start
+use Rattle.ring_store.proofs.calls.start_traced.Reads as start-traced
+use Rattle.ring_store.proofs.calls.turn_traced.Reads as turn-traced
 use Rattle.ring_store.proofs.calls.capture_turn.Reads as capture-turn
 use Rattle.ring_store.proofs.calls.capture_start.Reads as capture-start
 use Rattle.ring_store.proofs.reads.offered.Reads as offered
@@ -24,6 +26,7 @@ use Rattle.ring_store.proofs.reads.free_descriptors.Reads as free-descr
 use Rattle.ring_store.proofs.reads.turns_run.Reads as turns-run
 use Rattle.ring_store.proofs.reads.stream.Reads as stream
 use Rattle.ring_store.proofs.reads.kept.Reads as kept
+use Rattle.ring_store.proofs.reads.trace_length.Reads as trace-length
 use Rattle.ring_store.proofs.reads.carried.Reads as carried
 use Rattle.ring_store.proofs.reads.oldest.Reads as oldest
 
@@ -35,7 +38,7 @@ tells : {m n : ℕ} {x y : List ℕ} {l : Shown} → shown m x ≡ l → shown n
 tells p q = (ap (λ (l : Shown). l .answer) (same p q), ap (λ (l : Shown). l .result) (same p q))
 
 catches : {m n : ℕ} {x y v w : List ℕ} {l : Caught} → caught m x v ≡ l → caught n y w ≡ l → (m ≡ n) × (x ≡ y) × (v ≡ w)
-catches p q = let e = same p q in (ap (λ (l : Caught). l .answer) e, ap (λ (l : Caught). l .ring) e, ap (λ (l : Caught). l .recording) e)
+catches p q = let e = same p q in (ap (λ (l : Caught). l .answer) e, ap (λ (l : Caught). l .ring) e, ap (λ (l : Caught). l .lent) e)
 
 pub size-one : (κs : _) (a : _) (r₁ r₂ : _) (e₁ e₂ : _) → size.Post κs a r₁ e₁ → size.Post κs a r₂ e₂ → r₁ ≡ r₂
 size-one κs a r₁ r₂ e₁ e₂ p q = same p q
@@ -54,6 +57,12 @@ drain-turn-one κs a r₁ r₂ e₁ e₂ p q = changes p q
 
 pub start-one : (κs : _) (a : _) (r₁ r₂ : _) (e₁ e₂ : _) → start.Post κs a r₁ e₁ → start.Post κs a r₂ e₂ → (r₁ ≡ r₂) × (now (e₁ .0) ≡ now (e₂ .0))
 start-one κs a r₁ r₂ e₁ e₂ p q = changes p q
+
+pub start-traced-one : (κs : _) (a : _) (r₁ r₂ : _) (e₁ e₂ : _) → start-traced.Post κs a r₁ e₁ → start-traced.Post κs a r₂ e₂ → (r₁ ≡ r₂) × (now (e₁ .0) ≡ now (e₂ .0))
+start-traced-one κs a r₁ r₂ e₁ e₂ p q = changes p q
+
+pub turn-traced-one : (κs : _) (a : _) (r₁ r₂ : _) (e₁ e₂ : _) → turn-traced.Post κs a r₁ e₁ → turn-traced.Post κs a r₂ e₂ → (r₁ ≡ r₂) × (now (e₁ .0) ≡ now (e₂ .0)) × (now (e₁ .1 .1 .0) ≡ now (e₂ .1 .1 .0))
+turn-traced-one κs a r₁ r₂ e₁ e₂ p q = catches p q
 
 pub capture-turn-one : (κs : _) (a : _) (r₁ r₂ : _) (e₁ e₂ : _) → capture-turn.Post κs a r₁ e₁ → capture-turn.Post κs a r₂ e₂ → (r₁ ≡ r₂) × (now (e₁ .0) ≡ now (e₂ .0)) × (now (e₁ .1 .0) ≡ now (e₂ .1 .0))
 capture-turn-one κs a r₁ r₂ e₁ e₂ p q = catches p q
@@ -84,6 +93,9 @@ stream-one κs a r₁ r₂ e₁ e₂ p q = tells p q
 
 pub kept-one : (κs : _) (a : _) (r₁ r₂ : _) (e₁ e₂ : _) → kept.Post κs a r₁ e₁ → kept.Post κs a r₂ e₂ → (r₁ ≡ r₂) × (now (e₁ .1 .0) ≡ now (e₂ .1 .0))
 kept-one κs a r₁ r₂ e₁ e₂ p q = tells p q
+
+pub trace-length-one : (κs : _) (a : _) (r₁ r₂ : _) (e₁ e₂ : _) → trace-length.Post κs a r₁ e₁ → trace-length.Post κs a r₂ e₂ → (r₁ ≡ r₂) × (now (e₁ .1 .0) ≡ now (e₂ .1 .0))
+trace-length-one κs a r₁ r₂ e₁ e₂ p q = tells p q
 
 pub carried-one : (κs : _) (a : _) (r₁ r₂ : _) (e₁ e₂ : _) → carried.Post κs a r₁ e₁ → carried.Post κs a r₂ e₂ → (r₁ ≡ r₂) × (now (e₁ .1 .1 .0) ≡ now (e₂ .1 .1 .0))
 carried-one κs a r₁ r₂ e₁ e₂ p q = tells p q

@@ -1,26 +1,35 @@
--- The refusals of a turn and of a start, once for both directions: what holds of each refusal and of the rest holds of the call. And what a capture's call does with them.
+-- The refusals of a turn and of a start, once for both directions and for a trace: what holds of each refusal and of the rest holds of the call. And what a capture's call does with them.
 -- Assumes nothing.
-use mathlib.Core.Path.{_≡_, ap}
-use mathlib.Core.Bool.{Bool, true, false, not}
-use Prim.Native.Nat.{ℕ, _*_, _≤_}
+use mathlib.Core.Path.{_≡_, refl, sym, ap, subst}
+use mathlib.Core.Bool.{Bool, true, false, not, _&&_, _||_, false≢true}
+use Prim.Native.Nat.{ℕ, _+_, _*_, _≤_, _<_}
 use native.Mathlib.Omega.{arith}
-use borrow.Author.Tests.{leb-true}
-use Rattle.codes.specs.SaysLaws.{guarded-by}
+use lib.Dec.{ltb, leb, eqb}
+use lib.ListN.{length}
+use borrow.Author.Tests.{leb-true, ltb-true, eqb-true}
+use Rattle.codes.specs.Says.{pick, guard}
+use Rattle.codes.specs.SaysLaws.{picks, guarded-by}
 use Rattle.codes.specs.declared.answers.Refusal.{Refusal}
-use Rattle.turns.specs.Rules.{turnOf, countedOf}
+use Rattle.codes.specs.declared.answers.Refusal.the-variants.{InvalidParam}
+use Rattle.turns.specs.Rules.{comesTo, playedOf, turnOf, countedOf}
 use Rattle.turns.specs.CaseLaws.{plain}
-use Rattle.turns.specs.Calls.{unchangedOf, refusedOf, runsAs, admit, ready, begunAs}
+use Rattle.turns.specs.Calls.{unchangedOf, refusedOf, runsAs, admit, tracedCall, ready, begunIn, begunAs, startTraced}
 use Rattle.turns.specs.Consistent.{consistentOf}
 use Rattle.turns.specs.ConsistentLaws.{both, Consistent}
 use Rattle.turns.specs.KeepLaws.{turn-after}
-use Rattle.turns.specs.RefusalLaws.{Untouched, turn-answers}
+use Rattle.turns.specs.RefusalLaws.{Untouched, refuses, turn-answers}
 use Rattle.turns.specs.Capture.{caughtOf, caughtTurn, captureCall, captureStart}
 use Rattle.turns.specs.CaptureLaws.{keeps-room}
-use Rattle.ring_store.specs.Types.{Track, Going, Step, Catch}
+use Rattle.trace.specs.Writer.{inkOf, penFits, inked, writesNone, inkedBy, writingCall}
+use Rattle.ring_store.specs.Types.{Track, Going, Refused, Step, Reading, Catch}
 
 runs-on : (capture : Bool) (t : Track) → runsAs capture t ≡ true → t .running ≡ true
 runs-on true t e = both (t .running) (t .capture) e .0
 runs-on false t e = both (t .running) (not (t .capture)) e .0
+
+lent-room : (running : Bool) (room own : ℕ) → (not running || eqb room own) ≡ true → running ≡ true → room ≡ own
+lent-room true room own e on = eqb-true room own e
+lent-room false room own e on = absurd (false≢true on)
 
 module _ (P : Step → Type 0) (t : Track) (refused : (r : Refusal) → P (refusedOf r t)) where
   pub admitted : (capture : Bool) (len : ℕ) (rest : Step) → (consistentOf t ≡ true → t .running ≡ true → P rest) → P (admit capture t len (λ r. refusedOf r t) rest)
@@ -30,6 +39,16 @@ module _ (P : Step → Type 0) (t : Track) (refused : (r : Refusal) → P (refus
   pub readied : (period budget : ℕ) (rest : Step) → (consistentOf t ≡ true → P rest) → P (ready t period budget rest)
   readied period budget rest f =
       guarded-by P _ _ _ (λ c. guarded-by P _ _ _ (λ _. guarded-by P _ _ _ (λ _. guarded-by P _ _ _ (λ _. f c) (λ _. refused _)) (λ _. refused _)) (λ _. refused _)) (λ _. refused _)
+
+  -- a turn, lent the room of its start, and the start of a transfer that writes a trace
+  pub traced : (len room : ℕ) (reading : Reading) → (consistentOf t ≡ true → t .running ≡ true → room ≡ t .room → P (countedOf (turnOf (t .descriptors) t (comesTo playedOf reading) reading))) → P (tracedCall t len room reading)
+  unfolding tracedCall
+  traced len room reading f = guarded-by P _ _ _ (λ e. admitted false len _ (λ c on. f c on (lent-room (t .running) room (t .room) e on))) (λ _. refused _)
+
+  pub traced-started : (stream total period budget room : ℕ) → (consistentOf t ≡ true → total < 4294967296 → P (unchangedOf Going (begunIn room false total t stream total period budget)))
+      → P (startTraced t stream total period budget room)
+  unfolding startTraced
+  traced-started stream total period budget room f = readied period budget _ (λ c. guarded-by P _ _ _ (λ e. guarded-by P _ _ _ (λ _. f c (ltb-true _ _ e)) (λ _. refused _)) (λ _. refused _))
 
   -- the two calls of a capture
   pub captured : (len : ℕ) (c : Catch) → (consistentOf t ≡ true → t .running ≡ true → P (caughtTurn (t .descriptors) t c)) → P (captureCall t len c)
@@ -41,10 +60,42 @@ module _ (P : Step → Type 0) (t : Track) (refused : (r : Refusal) → P (refus
   unfolding captureStart
   capture-started stream periods period lent budget f = readied period budget _ (λ c. guarded-by P _ _ _ (λ e. f c (leb-true _ _ e)) (λ _. refused _))
 
--- ---- a refusal of a capture changes nothing
+-- ---- a turn that writes is the turn, or the same with the length of its trace
 
-refuses : (t : Track) (r : Refusal) → Untouched t (refusedOf r t)
-refuses t r x e = let same : r ≡ x = cc in ap (λ (y : Refusal). refusedOf y t) same
+pub or-true : (b : Bool) → (b || true) ≡ true
+or-true true = refl
+or-true false = refl
+
+inked-by : (P : Step → Type 0) (t : Track) (s : Step) (room : ℕ) (none : Bool) → P s → ((r : Refusal) → P (refusedOf r t)) → (t .written + length (inkOf t s) ≤ room → P (inked t s))
+    → P (pick none s (guard (penFits t s room) (refusedOf InvalidParam t) (inked t s)))
+inked-by P t s room true p refused f = p
+inked-by P t s room false p refused f =
+    guarded-by P _ _ _
+    (λ e.
+    let a = both (ltb (t .total) 4294967296) (ltb (t .period) 4294967296 && leb (t .written + length (inkOf t s)) room) e in
+    f (leb-true _ _ (both (ltb (t .period) 4294967296) (leb (t .written + length (inkOf t s)) room) (a .1) .1)))
+    (λ _. refused _)
+
+module _ (P : Step → Type 0) (t : Track) (refused : (r : Refusal) → P (refusedOf r t)) where
+  pub writes : (len room : ℕ) (reading : Reading)
+      → (consistentOf t ≡ true → t .running ≡ true → room ≡ t .room → let s = countedOf (turnOf (t .descriptors) t (comesTo playedOf reading) reading) in
+      P s × (t .written + length (inkOf t s) ≤ room → P (inked t s))) → P (writingCall t len room reading)
+  unfolding writingCall
+  writes len room reading f =
+      traced (λ s. P (inkedBy t s room)) t (λ r. subst P (passes-none (refusedOf r t) (or-true (eqb room 0))) (refused r)) len room reading
+      (λ c on e. let s = countedOf (turnOf (t .descriptors) t (comesTo playedOf reading) reading) in
+      let g = f c on e in
+      inked-by P t s room (writesNone room s) (g .0) refused (g .1))
+    where
+      passes-none : (s : Step) → writesNone room s ≡ true → s ≡ inkedBy t s room
+      passes-none s e = sym (picks (writesNone room s) s (guard (penFits t s room) (refusedOf InvalidParam t) (inked t s)) e)
+
+pub writing-refused : (t : Track) (len room : ℕ) (reading : Reading) → Untouched t (writingCall t len room reading)
+writing-refused t len room reading =
+    let never : (x : Refusal) → countedOf (turnOf (t .descriptors) t (comesTo playedOf reading) reading) .said ≡ Refused x → ⊥ = plain _ (turn-answers (t .descriptors) t (comesTo playedOf reading) reading) in
+    writes (Untouched t) t (refuses t) len room reading (λ _ _ _. ((λ x e. absurd (never x e)), (λ _ x e. absurd (never x e))))
+
+-- ---- a refusal of a capture changes nothing
 
 pub capture-refused : (t : Track) (len : ℕ) (c : Catch) → Untouched t (captureCall t len c)
 capture-refused t len c = captured (Untouched t) t (refuses t) len c (λ _ _ x e. absurd (plain _ (turn-answers (t .descriptors) t (caughtOf t c) (c .reading)) x e))
@@ -57,6 +108,6 @@ capture-start-refused t stream periods period lent budget = capture-started (Unt
 pub kept-within : (t : Track) (c : Catch) → Consistent t → caughtTurn (t .descriptors) t c .track .kept ≤ t .lent
 kept-within t c k =
     let s = countedOf (turnOf (t .descriptors) t (caughtOf t c) (c .reading)) in
-    let lent : s .track .lent ≡ t .lent = ap (λ (x : Bool × ℕ × ℕ). x .1) (turn-after (t .descriptors) t (caughtOf t c) (c .reading) .2) in
+    let lent : s .track .lent ≡ t .lent = ap (λ (x : Bool × ℕ × ℕ × ℕ × ℕ). x .1) (turn-after (t .descriptors) t (caughtOf t c) (c .reading) .2) in
     let room = keeps-room (t .descriptors) t c (caughtOf t c) (c .reading) (k .kept) in
     omega arith

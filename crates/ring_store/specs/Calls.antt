@@ -14,9 +14,11 @@ use Rattle.codes.specs.Says.{Says, says, pick, guard}
 use Rattle.codes.specs.Answers.{refusalWord}
 use Rattle.turns.specs.Ring.{direct, newRing, saidWord, isRefused}
 use Rattle.turns.specs.Reads.{readOf}
-use Rattle.turns.specs.Calls.{startCall, startedOf, turnedOf, offerCall, saysSent}
+use Rattle.turns.specs.Calls.{startCall, startTraced, startedOf, turnedOf, offerCall, saysSent}
 use Rattle.turns.specs.Capture.{catchOf, captureCall, recordingAfter, captureStart, captureOffer}
 use Rattle.turns.specs.InPlace.{turnWords, drainWords}
+use Rattle.turns.specs.Script.{readingOf}
+use Rattle.trace.specs.Writer.{writingCall, roomAfter}
 use Rattle.turns.specs.declared.calls.Offer.{Offer}
 use Rattle.turns.specs.declared.calls.Offer.the-variants as offer
 use Rattle.ring_store.specs.Types.{Track, Turned, Sent, Nothing, Period, Step}
@@ -46,31 +48,43 @@ drainIn s kind slot status = changed s (drainWords (ringOf s) kind slot status)
 unfoldable pub startIn : List ℕ → ℕ → ℕ → ℕ → ℕ → Made
 startIn s stream len period budget = changed s (startedOf (ringOf s) (startCall (trackAt s) stream len period budget))
 
--- ---- the calls of a capture (2026-09)
+-- ---- turns that change something lent besides: the recording of a capture (2026-09), or the room of a trace (2026-11)
 
--- what a turn answers, and what it leaves of the ring's store and of the recording
+-- what a turn answers, and what it leaves of the ring's store and of the recording, or of the room of a trace
 pub record Caught : Type 0 where
   pub answer : ℕ
   pub ring : List ℕ
-  pub recording : List ℕ
+  pub lent : List ℕ
 
 abbrev pub caught : ℕ → List ℕ → List ℕ → Caught
-caught answer ring recording = record { answer = answer; ring = ring; recording = recording }
+caught answer ring lent = record { answer = answer; ring = ring; lent = lent }
 
 abbrev pub caughtBy : Made → List ℕ → Caught
-caughtBy l recording = caught (l .answer) (l .store) recording
+caughtBy l lent = caught (l .answer) (l .store) lent
+
+-- by the step that it is, and what is then in `lent`
+abbrev pub caughtIn : List ℕ → List ℕ → Step → List ℕ → Caught
+caughtIn s lent x left =
+    guard (leb ringSize (length s)) (caught 10 s lent)
+    (caughtBy (leftBy s (turnedOf (ringOf s) x)) left)
 
 abbrev pub captureStep : List ℕ → ℕ → ℕ → ℕ → ℕ → List ℕ → Step
 captureStep s len kind slot written bytes = captureCall (trackAt s) len (catchOf kind slot written bytes)
 
 unfoldable pub captureIn : List ℕ → List ℕ → ℕ → ℕ → ℕ → List ℕ → Caught
-captureIn s recording kind slot written bytes =
-    let x = captureStep s (length recording) kind slot written bytes in
-    guard (leb ringSize (length s)) (caught 10 s recording)
-    (caughtBy (leftBy s (turnedOf (ringOf s) x)) (recordingAfter (trackAt s) x bytes recording))
+captureIn s recording kind slot written bytes = let x = captureStep s (length recording) kind slot written bytes in caughtIn s recording x (recordingAfter (trackAt s) x bytes recording)
 
 unfoldable pub captureStartIn : List ℕ → ℕ → ℕ → ℕ → ℕ → ℕ → Made
 captureStartIn s stream periods period len budget = changed s (startedOf (ringOf s) (captureStart (trackAt s) stream periods period len budget))
+
+abbrev pub writingStep : List ℕ → ℕ → ℕ → ℕ → ℕ → ℕ → Step
+writingStep s len room kind slot status = writingCall (trackAt s) len room (readingOf kind slot status)
+
+unfoldable pub turnTracedIn : List ℕ → ℕ → List ℕ → ℕ → ℕ → ℕ → Caught
+turnTracedIn s len room kind slot status = let x = writingStep s len (length room) kind slot status in caughtIn s room x (roomAfter (trackAt s) x room)
+
+unfoldable pub startTracedIn : List ℕ → ℕ → ℕ → ℕ → ℕ → ℕ → Made
+startTracedIn s stream len period budget room = changed s (startedOf (ringOf s) (startTraced (trackAt s) stream len period budget room))
 
 -- ---- calls that only look: their values stand in the result slice, 8 bytes each
 

@@ -1,10 +1,10 @@
 -- The calls on a store, by what their code does.
 -- Assumes nothing.
 use mathlib.Core.Path.{_≡_, refl, sym, ap, _∙_}
-use mathlib.Core.Bool.{true, false}
+use mathlib.Core.Bool.{Bool, true, false, not, _||_}
 use mathlib.Core.List.{List}
 use Prim.Native.Nat.{ℕ, _≤_, _<_}
-use lib.Dec.{leb}
+use lib.Dec.{leb, eqb}
 use lib.ListN.{length}
 use lib.Seq.{sets}
 use borrow.Author.Tests.{le-leb, lt-leb}
@@ -13,13 +13,15 @@ use Rattle.layout.specs.Lent.{Made, made}
 use Rattle.codes.specs.Says.{pick, guard}
 use Rattle.codes.specs.SaysLaws.{picks, skips, passes, stops}
 use Rattle.turns.specs.Ring.{direct, newTrack, saidWord, isRefused}
-use Rattle.turns.specs.Calls.{refusedOf, turnCall, turnedOf}
+use Rattle.turns.specs.Calls.{refusedOf, tracedCall, turnCall, turnedOf}
 use Rattle.turns.specs.CallLaws.{no-transfer}
 use Rattle.turns.specs.Capture.{catchOf, captureCall, recordingAfter}
+use Rattle.turns.specs.Script.{readingOf}
+use Rattle.trace.specs.Writer.{writingCall, roomAfter}
 use Rattle.ring_store.specs.Types.{Track, Step, Reading}
 use Rattle.codes.specs.declared.answers.Refusal.the-variants.{InvalidParam}
 use Rattle.ring_store.specs.Store.{ringSize, trackAt, ringOf}
-use Rattle.ring_store.specs.Calls.{leftBy, changed, newIn, caught, caughtBy, captureIn}
+use Rattle.ring_store.specs.Calls.{leftBy, changed, newIn, caught, caughtBy, caughtIn, captureIn, turnTracedIn}
 use Rattle.ring_store.specs.StoreLaws.{sent-over, new-over}
 use Rattle.ring_store.specs.Private.{trackOver, sentOver, blankOver, stepOver}
 
@@ -51,13 +53,17 @@ pub stepped : (s : List ℕ) (x y : Step) {l : Made} → Bytes s → ringSize �
 stepped s x y b h e p = p ∙ step-over s x b ∙ ap (λ (z : Step). leftBy s (turnedOf (ringOf s) z)) e ∙ long s _ h
 
 pub turn-idle : (t : Track) (len : ℕ) (reading : Reading) → t .running ≡ false → refusedOf InvalidParam t ≡ turnCall t len reading
-unfolding turnCall
-turn-idle t len reading e = no-transfer false t len _ _ _ e
+unfolding tracedCall
+turn-idle t len reading e = passes _ _ _ (ap (λ (b : Bool). not b || eqb 0 (t .room)) e) (no-transfer false t len _ _ _ e)
 
 pub made-new : (s : List ℕ) (t : Track) (l : List ℕ) → Bytes s → ringSize ≤ length s → t ≡ newTrack direct → l ≡ blankOver (trackOver s t) → made 0 l ≡ newIn s
 made-new s t l b h e p = ap (made 0) (p ∙ ap (λ (u : Track). blankOver (trackOver s u)) e ∙ new-over s b) ∙ long s _ h
 
--- ---- and of a turn of a capture
+-- ---- and of a turn that is lent something besides: x is the step that the call took, y what it had to be; l and n are what it left
+
+pub lent-stepped : (s lent : List ℕ) (x y : Step) (after : Step → List ℕ) {l : Made} {n : List ℕ} → Bytes s → ringSize ≤ length s → x ≡ y → l ≡ stepOver s x → n ≡ after x → caughtBy l n ≡ caughtIn s lent y (after y)
+lent-stepped s lent x y after b h e q m =
+    (λ i. caughtBy ((q ∙ step-over s x b) i) (m i)) ∙ ap (λ (z : Step). caughtBy (leftBy s (turnedOf (ringOf s) z)) (after z)) e ∙ passes _ _ _ (le-leb ringSize (length s) h) refl
 
 module _ (s recording : List ℕ) (kind slot written : ℕ) (bytes : List ℕ) where
   pub caught-short : length s < ringSize → caught 10 s recording ≡ captureIn s recording kind slot written bytes
@@ -71,6 +77,19 @@ module _ (s recording : List ℕ) (kind slot written : ℕ) (bytes : List ℕ) w
   caught-stepped t x b h e p q m =
       let c = catchOf kind slot written bytes in
       let y : x ≡ captureCall (trackAt s) (length recording) c = p ∙ ap (λ (u : Track). captureCall u (length recording) c) e in
-      (λ i. caughtBy ((q ∙ step-over s x b) i) ((m ∙ ap (λ (u : Track). recordingAfter u x bytes recording) e) i))
-      ∙ ap (λ (z : Step). caughtBy (leftBy s (turnedOf (ringOf s) z)) (recordingAfter (trackAt s) z bytes recording)) y
-      ∙ passes _ _ _ (le-leb ringSize (length s) h) refl
+      lent-stepped s recording x _ (λ z. recordingAfter (trackAt s) z bytes recording) b h y q (m ∙ ap (λ (u : Track). recordingAfter u x bytes recording) e)
+
+-- the reading stands in numbers; r is the one that was made of them, and k what was written to the room
+module _ (s : List ℕ) (len : ℕ) (room : List ℕ) (kind slot status : ℕ) where
+  pub traced-short : length s < ringSize → caught 10 s room ≡ turnTracedIn s len room kind slot status
+  unfolding turnTracedIn
+  traced-short h = stops _ _ _ (lt-leb ringSize (length s) h) refl
+
+  pub traced-stepped : (t : Track) (r : Reading) (x : Step) {l : Made} {n : List ℕ} → Bytes s → ringSize ≤ length s → t ≡ trackAt s → r ≡ readingOf kind slot status → x ≡ writingCall t len (length room) r
+      → l ≡ stepOver s x → n ≡ roomAfter t (writingCall t len (length room) r) room → caughtBy l n ≡ turnTracedIn s len room kind slot status
+  unfolding turnTracedIn
+  traced-stepped t r x b h e w p q m =
+      let called : Track → Reading → Step = λ u k. writingCall u len (length room) k in
+      let y : x ≡ called (trackAt s) (readingOf kind slot status) = p ∙ (λ i. called (e i) (w i)) in
+      lent-stepped s room x _ (λ z. roomAfter (trackAt s) z room) b h y q
+      (m ∙ (λ i. roomAfter (e i) (called (e i) (w i)) room) ∙ ap (λ (z : Step). roomAfter (trackAt s) z room) (sym y))

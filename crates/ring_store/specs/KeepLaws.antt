@@ -1,7 +1,7 @@
 -- What calls leave: a store that holds a ring again, and after a refusal the very bytes that stood there.
 -- Assumes nothing.
 use mathlib.Core.Path.{_≡_, refl, sym, ap, _∙_, subst}
-use mathlib.Core.Bool.{Bool, true, false}
+use mathlib.Core.Bool.{Bool, true, false, _||_}
 use mathlib.Core.Logic.{_⊎_, inl, inr}
 use mathlib.Core.List.{List}
 use Prim.Native.Nat.{ℕ, _+_, _*_, _≤_}
@@ -9,10 +9,11 @@ use native.Mathlib.Omega.{arith}
 use lib.Dec.{leb, eqb}
 use borrow.Author.Tests.{leb-true, leb-false}
 use lib.ListN.{length, length-set}
+use lib.Seq.{sets}
 use Rattle.layout.specs.Bytes.{numAt}
 use Rattle.layout.specs.Lent.{Made}
 use Rattle.codes.specs.Says.{pick}
-use Rattle.codes.specs.SaysLaws.{guard-ap, guarded-by}
+use Rattle.codes.specs.SaysLaws.{picks, guard-ap, guarded-by}
 use Rattle.codes.specs.Answers.{refusalWord}
 use Rattle.codes.specs.declared.answers.Cause.the-variants.{Status}
 use Rattle.codes.specs.declared.answers.Refusal.{Refusal}
@@ -23,17 +24,18 @@ use Rattle.turns.specs.RuleLaws.{Judged, judged}
 use Rattle.turns.specs.CaseLaws.{lastOf}
 use Rattle.turns.specs.Consistent.{consistentOf}
 use Rattle.turns.specs.ConsistentLaws.{consistent-facts}
-use Rattle.turns.specs.Calls.{turnCall, drained, drainCall, startCall, carry, turnedOf}
+use Rattle.turns.specs.Calls.{tracedCall, turnCall, drained, drainCall, startCall, startTraced, carry, turnedOf}
 use Rattle.turns.specs.Capture.{catchOf, lengthGood, capturedOf, caughtOf, recordingAfter, captureCall, captureStart}
 use Rattle.turns.specs.CaptureLaws.{copy-nothing}
 use Rattle.turns.specs.RefusalLaws.{Untouched}
 use Rattle.turns.specs.InPlace.{turnWords, drainWords}
+use Rattle.trace.specs.Writer.{inkOf, writesNone, writingCall, roomAfter}
 use Rattle.turns.specs.Script.{readingOf}
 use Rattle.ring_store.specs.Types.{Slot, Track, Sent, Nothing, Period, Said, Going, Done, Ended, Refused, Step, Reading, Quiet, Completed, Choice, Submit, Finish, Wait, Outcome, Fine, Fails, Verdict, WrongSlot, Good, Bad, Catch}
 use Rattle.ring_store.specs.Store.{ringSize, trackAt, ringOf}
-use Rattle.ring_store.specs.Calls.{changed, newIn, turnIn, drainIn, startIn, Caught, captureStep, captureIn, captureStartIn}
+use Rattle.ring_store.specs.Calls.{changed, newIn, turnIn, drainIn, startIn, Caught, caughtIn, captureStep, captureIn, captureStartIn, writingStep, turnTracedIn, startTracedIn}
 use Rattle.ring_store.specs.StoreLaws.{slots-long}
-use Rattle.ring_store.specs.AdmitLaws.{admitted, readied, captured, capture-started, capture-refused}
+use Rattle.ring_store.specs.AdmitLaws.{readied, traced, traced-started, or-true, writes, captured, capture-started, capture-refused}
 use Rattle.ring_store.specs.RoundLaws.{wholeAt, whole-written}
 
 -- ---- each call is a step of the track that the store holds
@@ -50,6 +52,9 @@ startStep s stream len period budget = startCall (trackAt s) stream len period b
 abbrev pub captureStartStep : List ℕ → ℕ → ℕ → ℕ → ℕ → ℕ → Step
 captureStartStep s stream periods period len budget = captureStart (trackAt s) stream periods period len budget
 
+abbrev pub tracedStartStep : List ℕ → ℕ → ℕ → ℕ → ℕ → ℕ → Step
+tracedStartStep s stream len period budget room = startTraced (trackAt s) stream len period budget room
+
 abbrev pub leaves : List ℕ → Step → Made
 leaves s x = changed s (turnedOf (ringOf s) x)
 
@@ -65,14 +70,29 @@ pub start-leaves : (s : List ℕ) (stream len period budget : ℕ) → startIn s
 unfolding startIn
 start-leaves s stream len period budget = refl
 
--- of a capture's turn: its answer, and the ring's store
+-- of a turn that is lent something besides: its answer, and the ring's store
 abbrev pub ringLeft : Caught → Made
 ringLeft x = record { answer = x .answer; store = x .ring }
+
+caught-leaves : (s lent : List ℕ) (x : Step) (left : List ℕ) → ringLeft (caughtIn s lent x left) ≡ leaves s x
+caught-leaves s lent x left = guard-ap ringLeft (leb ringSize (length s)) _ _
 
 pub capture-leaves : (s recording : List ℕ) (kind slot written : ℕ) (bytes : List ℕ)
     → ringLeft (captureIn s recording kind slot written bytes) ≡ leaves s (captureStep s (length recording) kind slot written bytes)
 unfolding captureIn
-capture-leaves s recording kind slot written bytes = guard-ap ringLeft (leb ringSize (length s)) _ _
+capture-leaves s recording kind slot written bytes =
+    let x = captureStep s (length recording) kind slot written bytes in
+    caught-leaves s recording x (recordingAfter (trackAt s) x bytes recording)
+
+pub traced-leaves : (s : List ℕ) (len : ℕ) (room : List ℕ) (kind slot status : ℕ) → ringLeft (turnTracedIn s len room kind slot status) ≡ leaves s (writingStep s len (length room) kind slot status)
+unfolding turnTracedIn
+traced-leaves s len room kind slot status =
+    let x = writingStep s len (length room) kind slot status in
+    caught-leaves s room x (roomAfter (trackAt s) x room)
+
+pub traced-start-leaves : (s : List ℕ) (stream len period budget room : ℕ) → startTracedIn s stream len period budget room ≡ leaves s (tracedStartStep s stream len period budget room)
+unfolding startTracedIn
+traced-start-leaves s stream len period budget room = refl
 
 pub capture-start-leaves : (s : List ℕ) (stream periods period len budget : ℕ) → captureStartIn s stream periods period len budget ≡ leaves s (captureStartStep s stream periods period len budget)
 unfolding captureStartIn
@@ -108,6 +128,12 @@ start-fits s stream len period budget p = rw (start-leaves s stream len period b
 
 pub capture-fits : (s recording : List ℕ) (kind slot written : ℕ) (bytes : List ℕ) → wholeAt s ≡ true → wholeAt (captureIn s recording kind slot written bytes .ring) ≡ true
 capture-fits s recording kind slot written bytes p = subst Whole (sym (capture-leaves s recording kind slot written bytes)) (left-fits s (captureStep s (length recording) kind slot written bytes) p)
+
+pub traced-fits : (s : List ℕ) (len : ℕ) (room : List ℕ) (kind slot status : ℕ) → wholeAt s ≡ true → wholeAt (turnTracedIn s len room kind slot status .ring) ≡ true
+traced-fits s len room kind slot status p = subst Whole (sym (traced-leaves s len room kind slot status)) (left-fits s (writingStep s len (length room) kind slot status) p)
+
+pub traced-start-fits : (s : List ℕ) (stream len period budget room : ℕ) → wholeAt s ≡ true → wholeAt (startTracedIn s stream len period budget room .store) ≡ true
+traced-start-fits s stream len period budget room p = rw (traced-start-leaves s stream len period budget room) (left-fits s (tracedStartStep s stream len period budget room) p)
 
 pub capture-start-fits : (s : List ℕ) (stream periods period len budget : ℕ) → wholeAt s ≡ true → wholeAt (captureStartIn s stream periods period len budget .store) ≡ true
 capture-start-fits s stream periods period len budget p = rw (capture-start-leaves s stream periods period len budget) (left-fits s (captureStartStep s stream periods period len budget) p)
@@ -225,9 +251,14 @@ drained-tells : (t : Track) (reading : Reading) → Tells (drained t reading)
 drained-tells t Quiet = tt
 drained-tells t (Completed slot status) = guarded-by Tells _ _ _ (λ _. tt) (λ _. other 6 (λ e. omega arith) (λ e. omega arith))
 
-turn-tells : (t : Track) (len : ℕ) (reading : Reading) → Tells (turnCall t len reading)
-unfolding turnCall
-turn-tells t len reading = admitted Tells t (λ _. tt) false len _ (λ _ _. counted-tells (t .descriptors) t _ reading (comes playedOf played-comes reading))
+played-tells : (t : Track) (reading : Reading) → Tells (countedOf (turnOf (t .descriptors) t (comesTo playedOf reading) reading))
+played-tells t reading = counted-tells (t .descriptors) t _ reading (comes playedOf played-comes reading)
+
+traced-tells : (t : Track) (len room : ℕ) (reading : Reading) → Tells (tracedCall t len room reading)
+traced-tells t len room reading = traced Tells t (λ _. tt) len room reading (λ _ _ _. played-tells t reading)
+
+writing-tells : (t : Track) (len room : ℕ) (reading : Reading) → Tells (writingCall t len room reading)
+writing-tells t len room reading = writes Tells t (λ _. tt) len room reading (λ _ _ _. (played-tells t reading, (λ _. played-tells t reading)))
 
 capture-tells : (t : Track) (len : ℕ) (c : Catch) → Tells (captureCall t len c)
 capture-tells t len c = captured Tells t (λ _. tt) len c (λ _ _. counted-tells (t .descriptors) t (caughtOf t c) (c .reading) (comes (capturedOf (t .period) (c .written)) (captured-comes (t .period) (c .written)) (c .reading)))
@@ -244,16 +275,22 @@ start-begins : (t : Track) (stream total period budget : ℕ) → Starts (startC
 unfolding startCall
 start-begins t stream total period budget = readied Starts t (λ _. tt) period budget _ (λ _. tt)
 
+traced-start-begins : (t : Track) (stream total period budget room : ℕ) → Starts (startTraced t stream total period budget room)
+traced-start-begins t stream total period budget room = traced-started Starts t (λ _. tt) stream total period budget room (λ _ _. tt)
+
 capture-start-begins : (t : Track) (stream periods period lent budget : ℕ) → Starts (captureStart t stream periods period lent budget)
 capture-start-begins t stream periods period lent budget = capture-started Starts t (λ _. tt) stream periods period lent budget (λ _ _. tt)
 
 pub turn-unchanged : (s : List ℕ) (len kind slot status : ℕ) → Barred (turnIn s len kind slot status .answer) → turnIn s len kind slot status .store ≡ s
-turn-unchanged s len kind slot status = rw (turn-leaves s len kind slot status) (refused-unchanged s (turnStep s len kind slot status) (turn-tells (trackAt s) len (readingOf kind slot status)))
+turn-unchanged s len kind slot status = rw (turn-leaves s len kind slot status) (refused-unchanged s (turnStep s len kind slot status) (traced-tells (trackAt s) len 0 (readingOf kind slot status)))
 
 pub drain-unchanged : (s : List ℕ) (kind slot status : ℕ) → Barred (drainIn s kind slot status .answer) → drainIn s kind slot status .store ≡ s
 drain-unchanged s kind slot status = rw (drain-leaves s kind slot status) (refused-unchanged s (drainStep s kind slot status) (drain-call-tells (trackAt s) (readingOf kind slot status)))
 
--- the same of a capture, and of its recording
+-- the same of a turn that is lent something besides, and of what it was lent: a recording, or room for a trace
+
+lent-unchanged : (s lent : List ℕ) (x : Step) (left : List ℕ) → (Barred (saidWord (x .said)) → left ≡ lent) → Barred (caughtIn s lent x left .answer) → caughtIn s lent x left .lent ≡ lent
+lent-unchanged s lent x left f = guarded-by (λ (c : Caught). Barred (c .answer) → c .lent ≡ lent) (leb ringSize (length s)) _ _ (λ _ b. f b) (λ _ _. refl)
 
 recording-barred : (t : Track) (x : Step) (bytes recording : List ℕ) → Untouched t x → Telling (x .said) → Barred (saidWord (x .said)) → recordingAfter t x bytes recording ≡ recording
 recording-barred t x bytes recording u p b =
@@ -270,12 +307,26 @@ module _ (s recording : List ℕ) (kind slot written : ℕ) (bytes : List ℕ) w
   capture-unchanged =
       subst (λ (l : Made). Barred (l .answer) → l .store ≡ s) (sym (capture-leaves s recording kind slot written bytes)) (refused-unchanged s step capture-step-tells)
 
-  pub recording-unchanged : Barred (captureIn s recording kind slot written bytes .answer) → captureIn s recording kind slot written bytes .recording ≡ recording
+  pub recording-unchanged : Barred (captureIn s recording kind slot written bytes .answer) → captureIn s recording kind slot written bytes .lent ≡ recording
   unfolding captureIn
   recording-unchanged =
-      guarded-by (λ (x : Caught). Barred (x .answer) → x .recording ≡ recording) (leb ringSize (length s)) _ _
-      (λ _ b. recording-barred (trackAt s) step bytes recording (capture-refused (trackAt s) (length recording) (catchOf kind slot written bytes)) capture-step-tells b)
-      (λ _ _. refl)
+      lent-unchanged s recording step _ (recording-barred (trackAt s) step bytes recording (capture-refused (trackAt s) (length recording) (catchOf kind slot written bytes)) capture-step-tells)
+
+room-barred : (t : Track) (x : Step) (room : List ℕ) → Telling (x .said) → Barred (saidWord (x .said)) → roomAfter t x room ≡ room
+room-barred t x room p b =
+    barred (x .said) p b (λ r e. picks (writesNone (length room) x) room (sets room (t .written) (inkOf t x)) (ap (λ (y : Said). eqb (length room) 0 || isRefused y) e ∙ or-true (eqb (length room) 0)))
+
+module _ (s : List ℕ) (len : ℕ) (room : List ℕ) (kind slot status : ℕ) where
+  writing-step-tells : Tells (writingStep s len (length room) kind slot status)
+  writing-step-tells = writing-tells (trackAt s) len (length room) (readingOf kind slot status)
+
+  pub traced-unchanged : Barred (turnTracedIn s len room kind slot status .answer) → turnTracedIn s len room kind slot status .ring ≡ s
+  traced-unchanged =
+      subst (λ (l : Made). Barred (l .answer) → l .store ≡ s) (sym (traced-leaves s len room kind slot status)) (refused-unchanged s (writingStep s len (length room) kind slot status) writing-step-tells)
+
+  pub room-unchanged : Barred (turnTracedIn s len room kind slot status .answer) → turnTracedIn s len room kind slot status .lent ≡ room
+  unfolding turnTracedIn
+  room-unchanged = lent-unchanged s room (writingStep s len (length room) kind slot status) _ (room-barred (trackAt s) (writingStep s len (length room) kind slot status) room writing-step-tells)
 
 -- a start that does not go on, whatever it answers: 10, 1, 8 or 9
 start-refused-unchanged : (s : List ℕ) (x : Step) → Starts x → (leaves s x .answer ≡ going → ⊥) → leaves s x .store ≡ s
@@ -284,6 +335,10 @@ start-refused-unchanged s x p = guarded-by (λ (l : Made). (l .answer ≡ going 
 pub start-unchanged : (s : List ℕ) (stream len period budget : ℕ) → (startIn s stream len period budget .answer ≡ going → ⊥) → startIn s stream len period budget .store ≡ s
 start-unchanged s stream len period budget =
     rw (start-leaves s stream len period budget) (start-refused-unchanged s (startStep s stream len period budget) (start-begins (trackAt s) stream len period budget))
+
+pub traced-start-unchanged : (s : List ℕ) (stream len period budget room : ℕ) → (startTracedIn s stream len period budget room .answer ≡ going → ⊥) → startTracedIn s stream len period budget room .store ≡ s
+traced-start-unchanged s stream len period budget room =
+    rw (traced-start-leaves s stream len period budget room) (start-refused-unchanged s (tracedStartStep s stream len period budget room) (traced-start-begins (trackAt s) stream len period budget room))
 
 pub capture-start-unchanged : (s : List ℕ) (stream periods period len budget : ℕ) → (captureStartIn s stream periods period len budget .answer ≡ going → ⊥) → captureStartIn s stream periods period len budget .store ≡ s
 capture-start-unchanged s stream periods period len budget =

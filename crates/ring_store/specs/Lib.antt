@@ -6,6 +6,7 @@ pub mod Private
 -- theorems
 pub mod Holds
 pub mod Run
+pub mod Traced
 -- laws
 pub mod StoreLaws
 pub mod CallsLaws

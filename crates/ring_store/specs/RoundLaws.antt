@@ -6,7 +6,7 @@ use mathlib.Core.List.{List, [], _∷_, _++_, append-assoc, append-nil}
 use Prim.Native.Nat.{ℕ, zero, suc, _+_, _*_, _≤_}
 use native.Mathlib.Omega.{arith}
 use lib.Dec.{leb, eqb}
-use borrow.Author.Tests.{leb-true, eqb-true}
+use borrow.Author.Tests.{leb-true}
 use lib.ListN.{length, getD, drop, length-append}
 use lib.Seq.{sets, sets-eq}
 use Rattle.layout.specs.Bytes.{le, un, numAt, bytesAt, Bytes}
@@ -24,23 +24,19 @@ use Rattle.ring_store.specs.Types.{Slot, Track, Ring}
 use Rattle.ring_store.specs.Store.{trackSize, slotSize, slotsSize, sidePlace, sideSize, ringSize, trackRow, trackValues, sideRow, sideValues, wholeOf, trackOf, trackAt, slotRow, slotBytes, slotAt, ringOf, ringBytes, trackBytes, sideBytes}
 use Rattle.ring_store.specs.StoreLaws.{slot-sized, slot-same, length-slots, length-front}
 
--- of a store: `running` and `capture` are 0 or 1, and what is reserved is 0
+-- of a store: `running` and `capture` are 0 or 1
 abbrev pub wholeAt : List ℕ → Bool
-wholeAt s = wholeOf (numAt 76 4 s) (numAt 624 4 s) (numAt 80 8 s) (numAt 88 8 s)
+wholeAt s = wholeOf (numAt 76 4 s) (numAt 624 4 s)
 
 -- the same as facts
 pub record Sound (s : List ℕ) : Type 0 where
   pub running : numAt 76 4 s ≤ 1
   pub capture : numAt 624 4 s ≤ 1
-  pub first : 0 ≡ numAt 80 8 s
-  pub second : 0 ≡ numAt 88 8 s
 
 whole-facts : (s : List ℕ) → wholeAt s ≡ true → Sound s
 whole-facts s h =
-    let w = both (leb (numAt 76 4 s) 1) (leb (numAt 624 4 s) 1 && (eqb (numAt 80 8 s) 0 && eqb (numAt 88 8 s) 0)) h in
-    let v = both (leb (numAt 624 4 s) 1) (eqb (numAt 80 8 s) 0 && eqb (numAt 88 8 s) 0) (w .1) in
-    let z = both (eqb (numAt 80 8 s) 0) (eqb (numAt 88 8 s) 0) (v .1) in
-    record { running = leb-true _ _ (w .0); capture = leb-true _ _ (v .0); first = sym (eqb-true _ _ (z .0)); second = sym (eqb-true _ _ (z .1)) }
+    let w = both (leb (numAt 76 4 s) 1) (leb (numAt 624 4 s) 1) h in
+    record { running = leb-true _ _ (w .0); capture = leb-true _ _ (w .1) }
 
 -- ---- STORE, RING, STORE: a whole store is the bytes of the ring that it holds
 
@@ -54,11 +50,11 @@ unfolding trackAt
 track-values s h =
     let w = whole-facts s h in
     λ i. picks (wholeAt s) (numAt 0 8 s) 0 h i ∷ numAt 8 8 s ∷ numAt 16 8 s ∷ numAt 24 8 s ∷ numAt 32 8 s ∷ numAt 40 8 s ∷ numAt 48 8 s ∷ numAt 56 8 s ∷ numAt 64 8 s ∷ numAt 72 4 s
-    ∷ flag-same (numAt 76 4 s) (w .running) i ∷ w .first i ∷ w .second i ∷ []
+    ∷ flag-same (numAt 76 4 s) (w .running) i ∷ numAt 80 8 s ∷ numAt 88 8 s ∷ []
 
 pub side-values : (s : List ℕ) → wholeAt s ≡ true → sideValues (trackAt s) ≡ readAt sidePlace sideRow s
 unfolding trackAt
-side-values s h = λ i. numAt 608 8 s ∷ numAt 616 8 s ∷ flag-same (numAt 624 4 s) (whole-facts s h .capture) i ∷ []
+side-values s h = λ i. numAt 608 8 s ∷ numAt 616 8 s ∷ flag-same (numAt 624 4 s) (whole-facts s h .capture) i ∷ numAt 628 8 s ∷ []
 
 pub store-same : (s : List ℕ) → Bytes s → wholeAt s ≡ true → sets s 0 (ringBytes (ringOf s)) ≡ s
 unfolding ringOf ringBytes
@@ -94,7 +90,7 @@ pub record Fits (r : Ring) : Type 0 where
   pub slots : SlotsFit (r .slots)
   pub long : length (r .slots) ≡ 32
 
-flags-small : (a b : Bool) → wholeOf (pick a 1 0) (pick b 1 0) 0 0 ≡ true
+flags-small : (a b : Bool) → wholeOf (pick a 1 0) (pick b 1 0) ≡ true
 flags-small true true = refl
 flags-small true false = refl
 flags-small false true = refl
@@ -106,7 +102,7 @@ flag-back false = refl
 
 track-back : (t : Track) → trackOf (trackValues t) (sideValues t) ≡ t
 track-back t =
-    λ i. record { descriptors = picks _ (t .descriptors) 0 (flags-small (t .running) (t .capture)) i; head = t .head; tail = t .tail; inflight = t .inflight; stream = t .stream; total = t .total; period = t .period; next = t .next; budget = t .budget; turns = t .turns; running = flag-back (t .running) i; capture = flag-back (t .capture) i; lent = t .lent; kept = t .kept }
+    λ i. record { descriptors = picks _ (t .descriptors) 0 (flags-small (t .running) (t .capture)) i; head = t .head; tail = t .tail; inflight = t .inflight; stream = t .stream; total = t .total; period = t .period; next = t .next; budget = t .budget; turns = t .turns; running = flag-back (t .running) i; capture = flag-back (t .capture) i; lent = t .lent; kept = t .kept; room = t .room; written = t .written; good = t .good }
 
 pub length-ringBytes : (r : Ring) → length (r .slots) ≡ 32 → length (ringBytes r) ≡ ringSize
 unfolding ringBytes
@@ -157,13 +153,13 @@ store-back s r f h =
 
 -- ---- what was written is whole
 
-flag-read : (lent kept : ℕ) (b : Bool) (l : List ℕ) → numAt 16 4 (write sideRow (lent ∷ kept ∷ pick b 1 0 ∷ []) ++ l) ≡ pick b 1 0
+flag-read : (lent kept written : ℕ) (b : Bool) (l : List ℕ) → numAt 16 4 (write sideRow (lent ∷ kept ∷ pick b 1 0 ∷ written ∷ []) ++ l) ≡ pick b 1 0
 unfolding le un bytesAt numAt
-flag-read lent kept true l = refl
-flag-read lent kept false l = refl
+flag-read lent kept written true l = refl
+flag-read lent kept written false l = refl
 
-whole-by : (t : Track) (a b : Bool) (l : List ℕ) → let s = write trackRow (t .descriptors ∷ t .head ∷ t .tail ∷ t .inflight ∷ t .total ∷ t .period ∷ t .next ∷ t .budget ∷ t .turns ∷ t .stream ∷ pick a 1 0 ∷ 0 ∷ 0 ∷ []) ++ l in
-    wholeOf (numAt 76 4 s) (pick b 1 0) (numAt 80 8 s) (numAt 88 8 s) ≡ true
+whole-by : (t : Track) (a b : Bool) (l : List ℕ) → let s = write trackRow (t .descriptors ∷ t .head ∷ t .tail ∷ t .inflight ∷ t .total ∷ t .period ∷ t .next ∷ t .budget ∷ t .turns ∷ t .stream ∷ pick a 1 0 ∷ t .room ∷ t .good ∷ []) ++ l in
+    wholeOf (numAt 76 4 s) (pick b 1 0) ≡ true
 unfolding le un bytesAt numAt
 whole-by t true true l = refl
 whole-by t true false l = refl
@@ -177,5 +173,5 @@ whole-written s r e h =
     let l = rowsBytes slotBytes (r .slots) ++ ending s r e h in
     let all = trackBytes t ++ l in
     ap wholeAt (parts s r e h)
-    ∙ ap (λ (n : ℕ). wholeOf (numAt 76 4 all) n (numAt 80 8 all) (numAt 88 8 all)) (ap un (behind s r e h 16 4) ∙ flag-read (t .lent) (t .kept) (t .capture) (rest s r e h))
+    ∙ ap (λ (n : ℕ). wholeOf (numAt 76 4 all) n) (ap un (behind s r e h 16 4) ∙ flag-read (t .lent) (t .kept) (t .written) (t .capture) (rest s r e h))
     ∙ whole-by t (t .running) (t .capture) l

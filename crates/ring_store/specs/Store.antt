@@ -1,4 +1,4 @@
--- The ring as bytes in its owner's storage: the track, then 32 slots, then what a capture (2026-09) added to the track. 628 bytes.
+-- The ring as bytes in its owner's storage: the track, then 32 slots, then what a capture (2026-09) and a trace (2026-11) added to the track. 636 bytes.
 -- Assumes nothing.
 use mathlib.Core.Bool.{Bool, not, _&&_}
 use mathlib.Core.List.{List, [], _∷_, _++_}
@@ -26,35 +26,34 @@ abbrev pub sidePlace : ℕ
 sidePlace = 608
 
 abbrev pub sideSize : ℕ
-sideSize = 20
+sideSize = 28
 
 abbrev pub ringSize : ℕ
-ringSize = 628
+ringSize = 636
 
 -- descriptors of a submission 8, head 8, tail 8, in flight 8, frames' length 8, period 8, next offset 8, budget 8, turns 8, stream 4, running 4,
--- reserved 8, reserved 8
+-- room of a trace 8, good completions 8
 abbrev pub trackRow : List ℕ
 trackRow = 8 ∷ 8 ∷ 8 ∷ 8 ∷ 8 ∷ 8 ∷ 8 ∷ 8 ∷ 8 ∷ 4 ∷ 4 ∷ 8 ∷ 8 ∷ []
 
 abbrev pub trackValues : Track → List ℕ
-trackValues t = t .descriptors ∷ t .head ∷ t .tail ∷ t .inflight ∷ t .total ∷ t .period ∷ t .next ∷ t .budget ∷ t .turns ∷ t .stream ∷ pick (t .running) 1 0 ∷ 0 ∷ 0 ∷ []
+trackValues t = t .descriptors ∷ t .head ∷ t .tail ∷ t .inflight ∷ t .total ∷ t .period ∷ t .next ∷ t .budget ∷ t .turns ∷ t .stream ∷ pick (t .running) 1 0 ∷ t .room ∷ t .good ∷ []
 
--- length lent at the start 8, bytes accepted 8, capture 4
+-- length lent at the start 8, bytes accepted 8, capture 4, length of the trace 8
 abbrev pub sideRow : List ℕ
-sideRow = 8 ∷ 8 ∷ 4 ∷ []
+sideRow = 8 ∷ 8 ∷ 4 ∷ 8 ∷ []
 
 abbrev pub sideValues : Track → List ℕ
-sideValues t = t .lent ∷ t .kept ∷ pick (t .capture) 1 0 ∷ []
+sideValues t = t .lent ∷ t .kept ∷ pick (t .capture) 1 0 ∷ t .written ∷ []
 
--- `running` and `capture` are 0 or 1, and what is reserved is 0. A store with another number there reads as a ring of no descriptors a submission, which
--- fails the consistency test
-abbrev pub wholeOf : ℕ → ℕ → ℕ → ℕ → Bool
-wholeOf running capture first second = leb running 1 && (leb capture 1 && (eqb first 0 && eqb second 0))
+-- `running` and `capture` are 0 or 1. A store with another number there reads as a ring of no descriptors a submission, which fails the consistency test
+abbrev pub wholeOf : ℕ → ℕ → Bool
+wholeOf running capture = leb running 1 && leb capture 1
 
 abbrev pub trackOf : List ℕ → List ℕ → Track
 trackOf vs ws =
     record {
-      descriptors = pick (wholeOf (getD vs 10 0) (getD ws 2 0) (getD vs 11 0) (getD vs 12 0)) (getD vs 0 0) 0;
+      descriptors = pick (wholeOf (getD vs 10 0) (getD ws 2 0)) (getD vs 0 0) 0;
       head = getD vs 1 0;
       tail = getD vs 2 0;
       inflight = getD vs 3 0;
@@ -68,6 +67,9 @@ trackOf vs ws =
       capture = not (eqb (getD ws 2 0) 0);
       lent = getD ws 0 0;
       kept = getD ws 1 0;
+      room = getD vs 11 0;
+      written = getD ws 3 0;
+      good = getD vs 12 0;
     }
 
 unfoldable pub trackAt : List ℕ → Track

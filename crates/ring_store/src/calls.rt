@@ -6,7 +6,7 @@ ghost use lib.ListN.{length};
 ghost use Rattle.layout.specs.Lent.{made};
 ghost use Rattle.turns.specs.Ring.{saidWord, isRefused};
 ghost use Rattle.ring_store.specs.Store.{ringSize};
-ghost use Rattle.ring_store.specs.Calls.{newIn, turnIn, drainIn, startIn, caught, captureIn, captureStartIn};
+ghost use Rattle.ring_store.specs.Calls.{newIn, turnIn, drainIn, startIn, caught, captureIn, captureStartIn, turnTracedIn, startTracedIn};
 ghost use Rattle.ring_store.specs.Private.{stepOver};
 use crate::store;
 use crate::store::SIZE;
@@ -115,6 +115,46 @@ pub fn start(ring: &mut [u8], stream: u32, len: usize, period: usize, budget: u6
     }
     let t = store::get_track(ring);
     let step = turns::start_track(t, stream, len, period, budget);
+    leave(ring, step)
+}
+
+// The start of a transfer of len bytes of frames that writes a trace, lent room of some length:
+// nothing is written yet.
+pub fn start_traced(
+    ring: &mut [u8],
+    stream: u32,
+    len: usize,
+    period: u32,
+    budget: u64,
+    room: usize,
+) -> u64
+    ensures { λ r. ⌜ made r (now (ring .exit)) ≡ startTracedIn (now (ring .entry)) stream len period budget room ⌝ }
+{
+    if ring.len() < SIZE {
+        return BAD_LENGTH;
+    }
+    let t = store::get_track(ring);
+    let step = turns::traced_start_track(t, stream, len, period, budget, room);
+    leave(ring, step)
+}
+
+// A turn of such a transfer, lent the room again: what it writes stands behind what is written there.
+pub fn turn_traced(
+    ring: &mut [u8],
+    len: usize,
+    room: &mut [u8],
+    kind: u32,
+    slot: u32,
+    status: u32,
+) -> u64
+    ensures { λ r. ⌜ caught r (now (ring .exit)) (now (room .exit)) ≡ turnTracedIn (now (ring .entry)) len (now (room .entry)) kind slot status ⌝ }
+{
+    if ring.len() < SIZE {
+        return BAD_LENGTH;
+    }
+    let t = store::get_track(ring);
+    let reading = Reading::from_words(kind, slot, status);
+    let step = trace::turn_traced(t, len, room, reading);
     leave(ring, step)
 }
 

@@ -14,8 +14,8 @@ use turns::Sent;
 use turns::Slot;
 use turns::Track;
 
-// The bytes of a ring: the track, 32 slots, and what a capture keeps in the track besides.
-pub const SIZE: usize = 628;
+// The bytes of a ring: the track, 32 slots, and what a capture or a trace keeps in the track besides.
+pub const SIZE: usize = 636;
 
 const TRACK: usize = 96;
 
@@ -46,15 +46,17 @@ const STREAM: usize = 72;
 
 const RUNNING: usize = 76;
 
-const RESERVED: usize = 80;
+const ROOM: usize = 80;
 
-const RESERVED_TOO: usize = 88;
+const GOOD: usize = 88;
 
 const LENT: usize = 608;
 
 const KEPT: usize = 616;
 
 const CAPTURE: usize = 624;
+
+const WRITTEN: usize = 628;
 
 // Numbers that lie within the store.
 fn word(s: &[u8], at: usize) -> u64
@@ -106,21 +108,15 @@ fn put_half(s: &mut [u8], at: usize, v: u32)
     s[at + 3] = bytes[3];
 }
 
-// `running` and `capture` are 0 or 1, and what is reserved is 0. With another number there the store
-// holds no ring: 0 descriptors to a submission fail every test of it.
-fn descriptors_of(running: u32, capture: u32, first: u64, second: u64, descriptors: usize) -> usize
-    ensures { λ r. ⌜ r ≡ pick (wholeOf running capture first second) descriptors 0 ⌝ }
+// `running` and `capture` are 0 or 1. With another number there the store holds no ring: 0
+// descriptors to a submission fail every test of it.
+fn descriptors_of(running: u32, capture: u32, descriptors: usize) -> usize
+    ensures { λ r. ⌜ r ≡ pick (wholeOf running capture) descriptors 0 ⌝ }
 {
     if 1 < running {
         return 0;
     }
-    if 1 < capture {
-        return 0;
-    }
-    if first != 0 {
-        return 0;
-    }
-    if second == 0 { descriptors } else { 0 }
+    if 1 < capture { 0 } else { descriptors }
 }
 
 pub(crate) fn flag_of(set: bool) -> u32
@@ -142,16 +138,17 @@ fn track_of(
     turns: u64,
     stream: u32,
     running: u32,
-    first: u64,
-    second: u64,
+    room: u64,
+    good: u64,
     lent: u64,
     kept: u64,
     capture: u32,
+    written: u64,
 ) -> Track
-    ensures { λ r. ⌜ r ≡ trackOf (descriptors ∷ head ∷ tail ∷ inflight ∷ total ∷ period ∷ next ∷ budget ∷ turns ∷ stream ∷ running ∷ first ∷ second ∷ []) (lent ∷ kept ∷ capture ∷ []) ⌝ }
+    ensures { λ r. ⌜ r ≡ trackOf (descriptors ∷ head ∷ tail ∷ inflight ∷ total ∷ period ∷ next ∷ budget ∷ turns ∷ stream ∷ running ∷ room ∷ good ∷ []) (lent ∷ kept ∷ capture ∷ written ∷ []) ⌝ }
 {
     Track {
-        descriptors: descriptors_of(running, capture, first, second, descriptors as usize),
+        descriptors: descriptors_of(running, capture, descriptors as usize),
         head: head as usize,
         tail: tail as usize,
         inflight: inflight as usize,
@@ -165,6 +162,9 @@ fn track_of(
         capture: capture != 0,
         lent: lent as usize,
         kept: kept as usize,
+        room: room as usize,
+        written: written as usize,
+        good,
     }
 }
 
@@ -184,11 +184,12 @@ pub(crate) fn short_track(ring: &[u8]) -> Track
         layout::get_u64(ring, TURNS),
         layout::get_u32(ring, STREAM),
         layout::get_u32(ring, RUNNING),
-        layout::get_u64(ring, RESERVED),
-        layout::get_u64(ring, RESERVED_TOO),
+        layout::get_u64(ring, ROOM),
+        layout::get_u64(ring, GOOD),
         layout::get_u64(ring, LENT),
         layout::get_u64(ring, KEPT),
         layout::get_u32(ring, CAPTURE),
+        layout::get_u64(ring, WRITTEN),
     )
 }
 
@@ -209,11 +210,12 @@ pub(crate) fn get_track(ring: &[u8]) -> Track
         word(ring, TURNS),
         half(ring, STREAM),
         half(ring, RUNNING),
-        word(ring, RESERVED),
-        word(ring, RESERVED_TOO),
+        word(ring, ROOM),
+        word(ring, GOOD),
         word(ring, LENT),
         word(ring, KEPT),
         half(ring, CAPTURE),
+        word(ring, WRITTEN),
     )
 }
 
@@ -244,8 +246,8 @@ fn put_front(ring: &mut [u8], t: Track)
     put_word(ring, TURNS, t.turns);
     put_half(ring, STREAM, t.stream);
     put_half(ring, RUNNING, flag);
-    put_word(ring, RESERVED, 0);
-    put_word(ring, RESERVED_TOO, 0);
+    put_word(ring, ROOM, t.room as u64);
+    put_word(ring, GOOD, t.good);
 }
 
 // The part behind the slots.
@@ -257,6 +259,7 @@ fn put_side(ring: &mut [u8], t: Track)
     put_word(ring, LENT, t.lent as u64);
     put_word(ring, KEPT, t.kept as u64);
     put_half(ring, CAPTURE, flag);
+    put_word(ring, WRITTEN, t.written as u64);
 }
 
 // A track written over a store's.

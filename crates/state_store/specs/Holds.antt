@@ -21,7 +21,7 @@ use Rattle.codes.specs.Says.{pick, guard}
 use Rattle.codes.specs.SaysLaws.{guarded-by}
 use Rattle.tables.specs.Tables.{fits, isGood, jacksPlace, pcmsPlace, mapsPlace, tablesBytes, copiedIn}
 use Rattle.tables.specs.FillLaws.{copied-length}
-use Rattle.turns.specs.Calls.{startCall}
+use Rattle.turns.specs.Calls.{startCall, startTraced}
 use Rattle.turns.specs.Capture.{captureStart}
 use Rattle.turns.specs.Consistent as ring
 use Rattle.turns.specs.declared.ring.Step as ring-step
@@ -34,7 +34,7 @@ use Rattle.core.specs.Plan.{effectOf, kindLife}
 use Rattle.exchange.specs.Tables.{moved, soundAfter}
 use Rattle.exchange.specs.Exchange.{stepOf, callOf, feedOf, failOf}
 use Rattle.exchange.specs.Feed.{Feed, paged, failed, planOf, pageOf}
-use Rattle.exchange.specs.Xfer.{xferAs, waitingAs, setUpWith, setUpStepWith, startAs, startOf, captureOf}
+use Rattle.exchange.specs.Xfer.{xferAs, waitingAs, setUpWith, setUpStepWith, startAs, startOf, startTracedOf, captureOf}
 use Rattle.exchange.specs.OwnLaws.{picked-by}
 use Rattle.exchange.specs.PlanLaws.{begun, Answered, short, idle, asks-streams, asks-maps, cuts, finishes, ends, fails, fed}
 use Rattle.exchange.specs.StayLaws.{called-quiet}
@@ -268,6 +268,10 @@ module _ (s m : List ℕ) (b : Bytes s) (h : stateSize ≤ length s) (r : Ring) 
   pub open-holds : (len budget : ℕ) → soundOf (openIn s (r .track) stream m .state) ≡ startOf (soundOf s) r stream len budget (length m) .sound
   unfolding openIn startOf
   open-holds len budget = opens-holds false (λ period. startCall (r .track) stream len period budget)
+
+  pub open-traced-holds : (len budget room : ℕ) → soundOf (openIn s (r .track) stream m .state) ≡ startTracedOf (soundOf s) r stream len budget room (length m) .sound
+  unfolding openIn startTracedOf
+  open-traced-holds len budget room = opens-holds false (λ period. startTraced (r .track) stream len period budget room)
 
   pub open-capture-holds : (periods lent budget : ℕ) → soundOf (openCaptureIn s (r .track) stream m .state) ≡ captureOf (soundOf s) r stream periods lent budget (length m) .sound
   unfolding openCaptureIn captureOf

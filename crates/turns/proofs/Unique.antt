@@ -29,8 +29,11 @@ use Rattle.turns.proofs.consistent.is_consistent.Reads as is-consistent
 use Rattle.turns.proofs.calls.turn.Reads as turn
 use Rattle.turns.proofs.calls.drain_turn.Reads as drain-turn
 use Rattle.turns.proofs.calls.start.Reads as start
+use Rattle.turns.proofs.calls.traced_start.Reads as traced-start
 use Rattle.turns.proofs.calls.next_offer.Reads as next-offer
 use Rattle.turns.proofs.calls.turn_track.Reads as turn-track
+use Rattle.turns.proofs.calls.traced_track.Reads as traced-track
+use Rattle.turns.proofs.calls.traced_start_track.Reads as traced-start-track
 use Rattle.turns.proofs.calls.drain_track.Reads as drain-track
 use Rattle.turns.proofs.calls.start_track.Reads as start-track
 use Rattle.turns.proofs.calls.offer_track.Reads as offer-track
@@ -47,6 +50,7 @@ use Rattle.turns.proofs.ring.Ring.free_descriptors.Reads as free-descri
 use Rattle.turns.proofs.ring.Ring.turns_run.Reads as turns-run
 use Rattle.turns.proofs.ring.Ring.stream.Reads as stream
 use Rattle.turns.proofs.ring.Ring.kept.Reads as kept
+use Rattle.turns.proofs.ring.Ring.trace_length.Reads as trace-length
 use Rattle.turns.proofs.capture.Catch.from_words.Reads as catch-from-words
 use Rattle.turns.proofs.capture.capture_track.Reads as capture-track
 use Rattle.turns.proofs.capture.capture_turn.Reads as capture-turn
@@ -62,11 +66,17 @@ use Rattle.turns.proofs.ring.Ring.oldest.Reads as read-oldest
 pub turn-track-one : (κs : _) (a : _) (r₁ r₂ : _) (e₁ e₂ : _) → turn-track.Post κs a r₁ e₁ → turn-track.Post κs a r₂ e₂ → r₁ ≡ r₂
 turn-track-one κs a r₁ r₂ e₁ e₂ p q = same p q
 
+pub traced-track-one : (κs : _) (a : _) (r₁ r₂ : _) (e₁ e₂ : _) → traced-track.Post κs a r₁ e₁ → traced-track.Post κs a r₂ e₂ → r₁ ≡ r₂
+traced-track-one κs a r₁ r₂ e₁ e₂ p q = same p q
+
 pub drain-track-one : (κs : _) (a : _) (r₁ r₂ : _) (e₁ e₂ : _) → drain-track.Post κs a r₁ e₁ → drain-track.Post κs a r₂ e₂ → r₁ ≡ r₂
 drain-track-one κs a r₁ r₂ e₁ e₂ p q = same p q
 
 pub start-track-one : (κs : _) (a : _) (r₁ r₂ : _) (e₁ e₂ : _) → start-track.Post κs a r₁ e₁ → start-track.Post κs a r₂ e₂ → r₁ ≡ r₂
 start-track-one κs a r₁ r₂ e₁ e₂ p q = same p q
+
+pub traced-start-track-one : (κs : _) (a : _) (r₁ r₂ : _) (e₁ e₂ : _) → traced-start-track.Post κs a r₁ e₁ → traced-start-track.Post κs a r₂ e₂ → r₁ ≡ r₂
+traced-start-track-one κs a r₁ r₂ e₁ e₂ p q = same p q
 
 pub offer-track-one : (κs : _) (a : _) (r₁ r₂ : _) (e₁ e₂ : _) → offer-track.Post κs a r₁ e₁ → offer-track.Post κs a r₂ e₂ → r₁ ≡ r₂
 offer-track-one κs a r₁ r₂ e₁ e₂ p q = same p q
@@ -81,6 +91,9 @@ drain-turn-one κs a r₁ r₂ e₁ e₂ p q = same p q
 
 pub start-one : (κs : _) (a : _) (r₁ r₂ : _) (e₁ e₂ : _) → start.Post κs a r₁ e₁ → start.Post κs a r₂ e₂ → r₁ ≡ r₂
 start-one κs a r₁ r₂ e₁ e₂ p q = same p q
+
+pub traced-start-one : (κs : _) (a : _) (r₁ r₂ : _) (e₁ e₂ : _) → traced-start.Post κs a r₁ e₁ → traced-start.Post κs a r₂ e₂ → r₁ ≡ r₂
+traced-start-one κs a r₁ r₂ e₁ e₂ p q = same p q
 
 pub next-offer-one : (κs : _) (a : _) (r₁ r₂ : _) (e₁ e₂ : _) → next-offer.Post κs a r₁ e₁ → next-offer.Post κs a r₂ e₂ → r₁ ≡ r₂
 next-offer-one κs a r₁ r₂ e₁ e₂ p q = same p q
@@ -167,6 +180,9 @@ turns-run-one κs a r₁ r₂ e₁ e₂ p q = one saysNumber unNumber un-number 
 
 pub kept-one : (κs : _) (a : _) (r₁ r₂ : _) (e₁ e₂ : _) → kept.Post κs a r₁ e₁ → kept.Post κs a r₂ e₂ → r₁ ≡ r₂
 kept-one κs a r₁ r₂ e₁ e₂ p q = one saysNumber unNumber un-number p q
+
+pub trace-length-one : (κs : _) (a : _) (r₁ r₂ : _) (e₁ e₂ : _) → trace-length.Post κs a r₁ e₁ → trace-length.Post κs a r₂ e₂ → r₁ ≡ r₂
+trace-length-one κs a r₁ r₂ e₁ e₂ p q = one saysNumber unNumber un-number p q
 
 pub stream-one : (κs : _) (a : _) (r₁ r₂ : _) (e₁ e₂ : _) → stream.Post κs a r₁ e₁ → stream.Post κs a r₂ e₂ → r₁ ≡ r₂
 stream-one κs a r₁ r₂ e₁ e₂ p q = one saysNumber unNumber un-number p q

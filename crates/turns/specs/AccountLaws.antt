@@ -12,7 +12,7 @@ use Rattle.codes.specs.AnswersLaws.{numbered}
 use Rattle.codes.specs.declared.answers.Refusal.{Refusal}
 use Rattle.turns.specs.Ring.{after, going, saysSaid}
 use Rattle.turns.specs.CutLaws.{spans, spans-more}
-use Rattle.turns.specs.Rules.{chooseOf, submit, sentOf, comesTo, release, playedOf, judgeOf, settle, hear, act, turnOf, ticked, countedBy, countedOf}
+use Rattle.turns.specs.Rules.{chooseOf, submit, sentOf, comesTo, release, accept, playedOf, judgeOf, settle, hear, act, turnOf, ticked, countedBy, countedOf}
 use Rattle.turns.specs.RuleLaws.{Chosen, chosen, Judged, judged, played-fine, played-fails}
 use Rattle.turns.specs.CaseLaws.{lastOf, hear-cases}
 use Rattle.turns.specs.KeepLaws.{turn-plain, counted-track}
@@ -31,7 +31,7 @@ abbrev pub Fuelled : ℕ → Track → Type 0
 Fuelled f t = (t .total ≤ t .next + f) × (0 < t .period)
 
 hear-fuelled : (f : ℕ) (sent : Sent) (t : Track) (o : Outcome) (reading : Reading) → Fuelled f t → Fuelled f (hear o sent t reading .track)
-hear-fuelled f sent t o reading h = hear-cases (λ s. Fuelled f (s .track)) sent t o reading (λ _ _. h) (λ _ _ _ _ _. h)
+hear-fuelled f sent t o reading h = hear-cases (λ s. Fuelled f (s .track)) sent t o reading (λ _ _. h) (λ _ _ _ _ _ _ _. h)
 
 -- ---- what the laws ask of a judgement: a completion that is fine has 0x8000, another ends with a fault of the judgement's, and 2 is of another status
 
@@ -165,9 +165,9 @@ module _ (Fault : ℕ → Type 0) (known : (n : ℕ) → Fault n → (n ≡ 2) �
   settle-account f w sent t slot status o last rest h fu fair WrongSlot j k =
       ends Fault f w sent t t (Completed slot status) Silent h (omega arith) (λ s. omega arith) _ fu (spares 6 (λ e. omega arith) (λ e. omega arith))
   settle-account f w sent t slot status o true rest h fu fair Good j k =
-      ends Fault f w sent t (release t) (Completed slot status) (Freed slot status) h (omega arith) (λ s. omega arith) _ fu (j .1, inl (subst (λ (x : Outcome). Fair Fault x status) (j .2) fair, spares 9 (λ e. omega arith) (λ e. omega arith)))
+      ends Fault f w sent t (accept t) (Completed slot status) (Freed slot status) h (omega arith) (λ s. omega arith) _ fu (j .1, inl (subst (λ (x : Outcome). Fair Fault x status) (j .2) fair, spares 9 (λ e. omega arith) (λ e. omega arith)))
   settle-account f w sent t slot status o false rest h fu fair Good j k =
-      goes Fault f w sent t (release t) (Completed slot status) (Freed slot status) h (omega arith) (λ s. omega arith) rest k (j .1, inl (subst (λ (x : Outcome). Fair Fault x status) (j .2) fair, k .back))
+      goes Fault f w sent t (accept t) (Completed slot status) (Freed slot status) h (omega arith) (λ s. omega arith) rest k (j .1, inl (subst (λ (x : Outcome). Fair Fault x status) (j .2) fair, k .back))
   settle-account f w sent t slot status o last rest h fu fair (Bad a) j k =
       let p = subst (λ (x : Outcome). Fair Fault x status) (j .2) fair in
       ends Fault f w sent t (release t) (Completed slot status) (Freed slot status) h (omega arith) (λ s. omega arith) a fu (j .1, inr (p .1, p .0, refl))

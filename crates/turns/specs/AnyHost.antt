@@ -8,11 +8,11 @@ use mathlib.Core.Bool.{Bool, true, false, false≢true, not, _||_, _&&_}
 use mathlib.Core.List.{List, [], _∷_}
 use lib.Dec.{eqb}
 use lib.ListN.{length}
-use borrow.Author.Tests.{ne-eqb, eqb-true, eqb-false}
+use borrow.Author.Tests.{eq-eqb, ne-eqb, eqb-true, eqb-false}
 use Rattle.codes.specs.Says.{pick}
 use Rattle.codes.specs.SaysLaws.{passes, stops}
 use Rattle.codes.specs.declared.answers.Refusal.the-variants.{InvalidParam, Busy, BadLength}
-use Rattle.turns.specs.Calls.{refusedOf, turnCall, drainCall, startCall, ringAfter, turnedOf, startedOf}
+use Rattle.turns.specs.Calls.{refusedOf, tracedCall, turnCall, drainCall, startCall, ringAfter, turnedOf, startedOf}
 use Rattle.turns.specs.Log.{Line, Ran, onward, loopOf, called, turnByTurn}
 use Rattle.turns.specs.Asked.{starts}
 use Rattle.turns.specs.ConsistentLaws.{consistent-true}
@@ -64,9 +64,13 @@ module _ (len : ℕ) (t : Track) (r : Runs len t) where
   other true same e f = f
   other false same e f = absurd (false≢true e)
 
+  own : (running same : Bool) → same ≡ true → (not running || same) ≡ true
+  own true same e = e
+  own false same e = refl
+
   other-length : (n : ℕ) (reading : Reading) → (n ≡ len → ⊥) → turnCall t n reading ≡ refusedOf BadLength t
-  unfolding turnCall
-  other-length n reading ne = sym (stops _ _ _ (other (t .running) (eqb n (t .lent)) (r .running) (ne-eqb n (t .lent) (λ e. ne (e ∙ sym (r .whole))))) refl)
+  unfolding tracedCall
+  other-length n reading ne = sym (passes _ _ _ (own (t .running) (eqb 0 (t .room)) (eq-eqb _ _ (r .lentRoom))) (stops _ _ _ (other (t .running) (eqb n (t .lent)) (r .running) (ne-eqb n (t .lent) (λ e. ne (e ∙ sym (r .whole))))) refl))
 
   no-drain : (reading : Reading) → drainCall t reading ≡ refusedOf InvalidParam t
   unfolding drainCall

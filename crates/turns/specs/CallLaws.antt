@@ -1,18 +1,18 @@
 -- What the code of the calls leans on: a test that a callee answered, a part of the frames, the ring after a step.
 -- Assumes nothing.
-use Prim.Native.Nat.{ℕ, _+_, _-_, _≤_}
+use Prim.Native.Nat.{ℕ, _+_, _-_, _*_, _/_, _%_, _≤_, _<_}
 use native.Mathlib.Omega.{arith}
-use native.Mathlib.Nat.{add-sub-cancel-left}
-use mathlib.Core.Path.{_≡_, refl, sym, ap, _∙_}
+use native.Mathlib.Nat.{add-zero, add-sub-cancel-left, div-le-self, le-of-lt, lt-of-le-of-lt}
+use mathlib.Core.Path.{_≡_, refl, sym, ap, _∙_, subst}
 use mathlib.Core.Bool.{Bool, true, false, false≢true, _&&_, _||_, not}
 use mathlib.Core.List.{List, [], _∷_}
-use borrow.Author.Tests.{lt-ltb, le-ltb, eq-eqb, ne-eqb, not-true, not-false}
-use lib.Dec.{ltb, eqb}
+use borrow.Author.Tests.{lt-ltb, le-ltb, le-leb, lt-leb, eq-eqb, ne-eqb, not-true, not-false}
+use lib.Dec.{ltb, leb, eqb}
 use lib.ListN.{length, take, drop, set, length-drop, drop-of-length-le}
 use lib.Seq.{drop-length, take-nil, take-all, set-out}
 use Rattle.codes.specs.Says.{pick, guard}
 use Rattle.codes.specs.SaysLaws.{passes, stops}
-use Rattle.turns.specs.Calls.{lengthAgrees, runsAs, carry, ringAfter, offerBy, offerAs}
+use Rattle.turns.specs.Calls.{lengthAgrees, runsAs, periodsOf, carry, ringAfter, offerBy, offerAs}
 use Rattle.turns.specs.Consistent.{consistentOf}
 use Rattle.turns.specs.Rules.{chooseOf}
 use Rattle.turns.specs.Reads.{readOf, runningOf}
@@ -88,6 +88,25 @@ positive n h = lt-ltb 0 n (omega arith)
 
 pub nought : (n : ℕ) → n ≡ 0 → ltb 0 n ≡ false
 nought n h = le-ltb 0 n (omega arith)
+
+-- ---- the periods of a transfer that writes a trace, and its room
+
+module _ (total period : ℕ) (short : total < 4294967296) where
+  pub whole-few : total / period < 4294967296
+  whole-few = lt-of-le-of-lt (div-le-self total period) short
+
+  pub periods-even : total % period ≡ 0 → (total / period ≡ periodsOf total period) × (total / period ≤ 4294967296)
+  periods-even e = (sym (add-zero (total / period)) ∙ ap (λ (b : Bool). total / period + pick b 0 1) (sym (eq-eqb (total % period) 0 e)), le-of-lt whole-few)
+
+  pub periods-odd : (total % period ≡ 0 → ⊥) → (total / period + 1 ≡ periodsOf total period) × (total / period + 1 ≤ 4294967296)
+  periods-odd n = let few = whole-few in (ap (λ (b : Bool). total / period + pick b 0 1) (sym (ne-eqb (total % period) 0 n)), omega (arith, few))
+
+module _ (n room total period : ℕ) (e : n ≡ periodsOf total period) where
+  pub room-short : room < 19 + 20 * n → leb (19 + 20 * periodsOf total period) room ≡ false
+  room-short h = lt-leb _ _ (subst (λ (k : ℕ). room < 19 + 20 * k) e h)
+
+  pub room-enough : 19 + 20 * n ≤ room → leb (19 + 20 * periodsOf total period) room ≡ true
+  room-enough h = le-leb _ _ (subst (λ (k : ℕ). 19 + 20 * k ≤ room) e h)
 
 -- ---- a part of the frames: what there is of len bytes from an offset on
 

@@ -2,10 +2,10 @@
 -- Assumes nothing.
 use mathlib.Core.Bool.{Bool, true, false, _&&_, _||_, not}
 use mathlib.Core.List.{List, [], _∷_}
-use Prim.Native.Nat.{ℕ}
-use lib.Dec.{ltb, eqb}
+use Prim.Native.Nat.{ℕ, _+_, _*_, _/_, _%_}
+use lib.Dec.{ltb, leb, eqb}
 use lib.ListN.{set}
-use Rattle.codes.specs.Says.{guard, Says, says}
+use Rattle.codes.specs.Says.{guard, pick, Says, says}
 use Rattle.codes.specs.declared.answers.Refusal.{Refusal}
 use Rattle.codes.specs.declared.answers.Refusal.the-variants.{InvalidParam, WrongToken, Busy, OutOfTurns, BadLength}
 use Rattle.turns.specs.Cut.{payload}
@@ -39,9 +39,42 @@ admit capture t len refused rest =
     (guard (runsAs capture t) (refused InvalidParam)
     rest))
 
--- A TURN, lent frames of some length
-unfoldable pub turnCall : Track → ℕ → Reading → Step
-turnCall t len reading = admit false t len (λ r. refusedOf r t) (countedOf (turnOf (t .descriptors) t (comesTo playedOf reading) reading))
+-- 2026-11: 10 too "at a turn for room not as long as at the start"
+abbrev pub roomAgrees : Track → ℕ → Bool
+roomAgrees t room = not (t .running) || eqb room (t .room)
+
+-- A TURN, lent frames and room for its trace, each of some length
+unfoldable pub tracedCall : Track → ℕ → ℕ → Reading → Step
+tracedCall t len room reading =
+    guard (roomAgrees t room) (refusedOf BadLength t)
+    (admit false t len (λ r. refusedOf r t) (countedOf (turnOf (t .descriptors) t (comesTo playedOf reading) reading)))
+
+-- a track whose trace is so long (crate trace has what a turn writes); nothing else of it is another
+abbrev pub writtenIn : ℕ → Track → Track
+writtenIn written t =
+    record {
+      descriptors = t .descriptors;
+      head = t .head;
+      tail = t .tail;
+      inflight = t .inflight;
+      stream = t .stream;
+      total = t .total;
+      period = t .period;
+      next = t .next;
+      budget = t .budget;
+      turns = t .turns;
+      running = t .running;
+      capture = t .capture;
+      lent = t .lent;
+      kept = t .kept;
+      room = t .room;
+      written = written;
+      good = t .good;
+    }
+
+-- one that writes no trace is lent no room
+abbrev pub turnCall : Track → ℕ → Reading → Step
+turnCall t len reading = tracedCall t len 0 reading
 
 -- "After 2, 6 or 9 drain turns free owed slots, oldest first, ignoring status; a wrong slot, or any when none is owed, gives 6 and frees none;
 -- a right slot or a quiet reading gives Ok."
@@ -61,9 +94,9 @@ drainCall t reading =
     (guard (t .running) (drained t reading)
     (refusedOf InvalidParam t))
 
--- "A transfer starts with 32 free descriptors, head and tail 0." Something of a length is lent; nothing of it was accepted yet
-abbrev pub begunAs : Bool → ℕ → Track → ℕ → ℕ → ℕ → ℕ → Track
-begunAs capture lent t stream total period budget =
+-- "A transfer starts with 32 free descriptors, head and tail 0." Something of a length is lent, and room for a trace; nothing was accepted yet
+abbrev pub begunIn : ℕ → Bool → ℕ → Track → ℕ → ℕ → ℕ → ℕ → Track
+begunIn room capture lent t stream total period budget =
     record {
       descriptors = t .descriptors;
       head = 0;
@@ -79,7 +112,14 @@ begunAs capture lent t stream total period budget =
       capture = capture;
       lent = lent;
       kept = 0;
+      room = room;
+      written = 0;
+      good = 0;
     }
+
+-- without a trace
+abbrev pub begunAs : Bool → ℕ → Track → ℕ → ℕ → ℕ → ℕ → Track
+begunAs capture lent t stream total period budget = begunIn 0 capture lent t stream total period budget
 
 -- a playback is lent its frames
 abbrev pub begun : Track → ℕ → ℕ → ℕ → ℕ → Track
@@ -101,6 +141,19 @@ ready t period budget rest =
 -- THE START of a transfer, "nothing submitted"
 unfoldable pub startCall : Track → ℕ → ℕ → ℕ → ℕ → Step
 startCall t stream total period budget = ready t period budget (unchangedOf Going (begun t stream total period budget))
+
+-- the periods of so many bytes, the last one perhaps shorter
+abbrev pub periodsOf : ℕ → ℕ → ℕ
+periodsOf total period = total / period + pick (eqb (total % period) 0) 0 1
+
+-- 2026-11, THE START of a transfer that writes a trace: the refusals of a start, and then 10, "last before the first turn, for frames of 2^32 bytes or more or room
+-- under 19 + 20n"
+unfoldable pub startTraced : Track → ℕ → ℕ → ℕ → ℕ → ℕ → Step
+startTraced t stream total period budget room =
+    ready t period budget
+    (guard (ltb total 4294967296) (refusedOf BadLength t)
+    (guard (leb (19 + 20 * periodsOf total period) room) (refusedOf BadLength t)
+    (unchangedOf Going (begunIn room false total t stream total period budget))))
 
 -- ---- the same of the ring: what was submitted stands in its slot
 

@@ -65,6 +65,9 @@ keptMore more t =
       capture = t .capture;
       lent = t .lent;
       kept = t .kept + more;
+      room = t .room;
+      written = t .written;
+      good = t .good;
     }
 
 abbrev pub keepOf : ℕ → Step → Step

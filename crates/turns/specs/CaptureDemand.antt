@@ -19,7 +19,7 @@ use Rattle.layout.specs.All.{All}
 use Rattle.turns.specs.Cut.{join, spanOf}
 use Rattle.turns.specs.CutLaws.{spans, plan, spans-more, spans-done, plan-at}
 use Rattle.turns.specs.Ring.{after, saysSaid}
-use Rattle.turns.specs.Calls.{refusedOf, turnCall, runsAs, begunAs, ringAfter, turnedOf, startedOf}
+use Rattle.turns.specs.Calls.{refusedOf, tracedCall, turnCall, runsAs, begunAs, ringAfter, turnedOf, startedOf}
 use Rattle.turns.specs.Log.{Line, Ran, run, sends, frees}
 use Rattle.turns.specs.Asked.{NoFault, CompletesWithin, Idle}
 use Rattle.turns.specs.ConsistentLaws.{both, Consistent, consistent-facts}
@@ -73,7 +73,7 @@ opens t stream periods period lent budget =
     (λ b. guarded-by P _ _ _
     (λ h _. record {
       track = refl;
-      runs = record { consistent = begun-keeps true lent t stream (periods * period) period budget (consistent-facts t c .placed .mode) (ltb-true _ _ p) (ltb-true _ _ b); running = refl; direction = refl; whole = refl };
+      runs = record { consistent = begun-keeps 0 true lent t stream (periods * period) period budget (consistent-facts t c .placed .mode) (ltb-true _ _ p) (ltb-true _ _ b); running = refl; direction = refl; whole = refl; lentRoom = refl };
       holds = leb-true _ _ h;
     })
     (λ _ e. absurd (never _ e)))
@@ -224,9 +224,11 @@ no-capture t len c e =
     (λ _. (_, refl))
 
 pub no-playback : (t : Track) (len : ℕ) (reading : Reading) → t .capture ≡ true → Refuses t (turnCall t len reading)
-unfolding turnCall
+unfolding tracedCall
 no-playback t len reading e =
     let P : Step → Type 0 = Refuses t in
     guarded-by P _ _ _
+    (λ _. guarded-by P _ _ _
     (λ _. guarded-by P _ _ _ (λ _. guarded-by P _ _ _ (λ on. absurd (false≢true (sym (ap not e) ∙ both (t .running) (not (t .capture)) on .1))) (λ _. (_, refl))) (λ _. (_, refl)))
+    (λ _. (_, refl)))
     (λ _. (_, refl))

@@ -59,8 +59,8 @@ pub keeps-room : (least : ℕ) (t : Track) (c : Catch) (o : Outcome) (reading : 
 keeps-room least t c o reading h =
     let s = countedOf (turnOf least t o reading) in
     let same = turn-after least t o reading .2 in
-    let kept : s .track .kept ≡ t .kept = ap (λ (x : Bool × ℕ × ℕ). x .2) same in
-    let lent : s .track .lent ≡ t .lent = ap (λ (x : Bool × ℕ × ℕ). x .1) same in
+    let kept : s .track .kept ≡ t .kept = ap (λ (x : Bool × ℕ × ℕ × ℕ × ℕ). x .2) same in
+    let lent : s .track .lent ≡ t .lent = ap (λ (x : Bool × ℕ × ℕ × ℕ × ℕ). x .1) same in
     let most = accepts-most o (s .heard) (payloadFor t c) in
     omega arith
 

@@ -1,6 +1,7 @@
 -- The cases of rule 2, of the count and of a loop: what holds in each of them holds of what they leave.
 -- Assumes nothing.
-use Prim.Native.Nat.{ℕ, _+_, _<_}
+use Prim.Native.Nat.{ℕ, _+_, _≤_, _<_}
+use native.Mathlib.Omega.{arith}
 use mathlib.Core.Path.{_≡_, refl, sym, ap, _∙_, subst}
 use mathlib.Core.Logic.{_≢_}
 use mathlib.Core.Bool.{Bool, true, false, false≢true}
@@ -9,7 +10,7 @@ use lib.Dec.{eqb}
 use borrow.Author.Tests.{eqb-false}
 use Rattle.codes.specs.declared.answers.Refusal.{Refusal}
 use Rattle.codes.specs.Says.{pick}
-use Rattle.turns.specs.Rules.{release, judgeOf, settle, hear, ticked, countedBy, countedOf}
+use Rattle.turns.specs.Rules.{freeing, judgeOf, settle, hear, ticked, countedBy, countedOf}
 use Rattle.turns.specs.RuleLaws.{Judged, judged}
 use Rattle.turns.specs.Ring.{goesOn}
 use Rattle.turns.specs.Log.{Line, Ran, onward}
@@ -43,16 +44,16 @@ lastOf s = eqb (s .track .turns + 1) (s .track .budget)
 module _ (P : Step → Type 0) where
   settle-cases : (sent : Sent) (t : Track) (slot status : ℕ) (outcome : Outcome) (v : Verdict) → Judged t slot outcome v
       → ((said : Said) → Plain said → P (record { track = t; sent = sent; heard = Silent; said = said }))
-      → ((said : Said) → Plain said → 0 < t .inflight → P (record { track = release t; sent = sent; heard = Freed slot status; said = said }))
+      → ((said : Said) → Plain said → 0 < t .inflight → (good : ℕ) → good ≤ t .good + 1 → P (record { track = freeing good t; sent = sent; heard = Freed slot status; said = said }))
       → P (settle v sent t slot status)
   settle-cases sent t slot status outcome WrongSlot j silent freed = silent _ tt
-  settle-cases sent t slot status outcome Good j silent freed = freed _ tt (j .0)
-  settle-cases sent t slot status outcome (Bad r) j silent freed = freed _ tt (j .0)
+  settle-cases sent t slot status outcome Good j silent freed = freed _ tt (j .0) (t .good + 1) (omega arith)
+  settle-cases sent t slot status outcome (Bad r) j silent freed = freed _ tt (j .0) (t .good) (omega arith)
 
   -- rule 2 frees nothing, or the oldest in flight
   pub hear-cases : (sent : Sent) (t : Track) (o : Outcome) (reading : Reading)
       → ((said : Said) → Plain said → P (record { track = t; sent = sent; heard = Silent; said = said }))
-      → ((slot status : ℕ) (said : Said) → Plain said → 0 < t .inflight → P (record { track = release t; sent = sent; heard = Freed slot status; said = said }))
+      → ((slot status : ℕ) (said : Said) → Plain said → 0 < t .inflight → (good : ℕ) → good ≤ t .good + 1 → P (record { track = freeing good t; sent = sent; heard = Freed slot status; said = said }))
       → P (hear o sent t reading)
   hear-cases sent t o Quiet silent freed = silent _ tt
   hear-cases sent t o (Completed slot status) silent freed = settle-cases sent t slot status o (judgeOf t slot o) (judged t slot o) silent (freed slot status)

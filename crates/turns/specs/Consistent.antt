@@ -22,5 +22,9 @@ pacedOf t = leb (t .next) (t .total) && (not (t .running) || (ltb 0 (t .period) 
 abbrev pub keptOf : Track → Bool
 keptOf t = leb (t .kept) (t .lent)
 
+-- each completion took a turn
+abbrev pub goodOf : Track → Bool
+goodOf t = leb (t .good) (t .turns)
+
 abbrev pub consistentOf : Track → Bool
-consistentOf t = placedOf t && (pacedOf t && keptOf t)
+consistentOf t = placedOf t && (pacedOf t && (keptOf t && goodOf t))

@@ -7,7 +7,7 @@ use mathlib.Core.Bool.{Bool, true, false, _&&_, _||_, not, false≢true}
 use lib.Dec.{ltb, eqb}
 use borrow.Author.Tests.{lt-ltb, ltb-true, ltb-false, le-leb, leb-true, eq-eqb, ne-eqb, eqb-true}
 use Rattle.turns.specs.Ring.{direct}
-use Rattle.turns.specs.Consistent.{placedOf, pacedOf, keptOf, consistentOf}
+use Rattle.turns.specs.Consistent.{placedOf, pacedOf, keptOf, goodOf, consistentOf}
 use Rattle.turns.specs.Types.{Track}
 use Rattle.turns.specs.Private.{Placed}
 
@@ -96,15 +96,17 @@ pub record Consistent (t : Track) : Type 0 where
   pub placed : Placed t
   pub paced : Paced t
   pub kept : t .kept ≤ t .lent
+  pub good : t .good ≤ t .turns
 
 pub consistent-facts : (t : Track) → consistentOf t ≡ true → Consistent t
 consistent-facts t e =
-    let b = both (placedOf t) (pacedOf t && keptOf t) e in
-    let p = both (pacedOf t) (keptOf t) (b .1) in
-    record { placed = placed-facts t (b .0); paced = paced-facts t (p .0); kept = leb-true _ _ (p .1) }
+    let b = both (placedOf t) (pacedOf t && (keptOf t && goodOf t)) e in
+    let p = both (pacedOf t) (keptOf t && goodOf t) (b .1) in
+    let k = both (keptOf t) (goodOf t) (p .1) in
+    record { placed = placed-facts t (b .0); paced = paced-facts t (p .0); kept = leb-true _ _ (k .0); good = leb-true _ _ (k .1) }
 
 pub consistent-true : (t : Track) → Consistent t → consistentOf t ≡ true
 consistent-true t c =
     let p : placedOf t ≡ true = sym (placed-true t (c .placed)) in
     let q : pacedOf t ≡ true = sym (paced-true t (c .paced)) in
-    rw (p, q) (le-leb _ _ (c .kept))
+    rw (p, q, le-leb _ _ (c .kept)) (le-leb _ _ (c .good))

@@ -62,3 +62,7 @@ some-bad v t slot outcome r e g = subst (Judged t slot outcome) (sym e ∙ g) (j
 -- a submission leaves tail where it is
 pub tail-stays : (s t : Track) → s ≡ submit t → t .tail < 32 → s .tail < 32
 tail-stays s t e h = rw e h
+
+-- and the good completions
+pub good-stays : (s t : Track) → s ≡ submit t → t .good < t .budget → s .good < s .budget
+good-stays s t e h = rw e h

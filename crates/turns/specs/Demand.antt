@@ -9,7 +9,7 @@ use lib.ListN.{length}
 use Rattle.codes.specs.declared.answers.Refusal.{Refusal}
 use Rattle.layout.specs.All.{All}
 use Rattle.turns.specs.Cut.{cut}
-use Rattle.turns.specs.Calls.{refusedOf, turnCall, drainCall, startCall, turnedOf, startedOf, offerCall}
+use Rattle.turns.specs.Calls.{refusedOf, tracedCall, turnCall, drainCall, startCall, turnedOf, startedOf, offerCall}
 use Rattle.turns.specs.Log.{turnByTurn, sends, frees}
 use Rattle.turns.specs.Script.{scriptOf, transferOf}
 use Rattle.turns.specs.Asked.{starts, plays, NoFault, CompletesWithin, Idle, Whole, Accounted, Carried, AtMostTen}
@@ -97,10 +97,10 @@ module _ (r : Ring) (stream period budget : ℕ) (frames : List ℕ) (script : L
   ten-at-most = plays-ten r stream period budget frames script began
 
 -- ---- a turn submits just what was offered, whatever it reads; and it is refused, changing nothing, where the offer is
-pub offered-is-sent : (t : Track) (len : ℕ) (sent : Sent) → offerCall t len ≡ offer.Is sent → (reading : Reading) → turnCall t len reading .sent ≡ sent
+pub offered-is-sent : (t : Track) (len : ℕ) (sent : Sent) → offerCall t len ≡ offer.Is sent → (reading : Reading) → tracedCall t len (t .room) reading .sent ≡ sent
 offered-is-sent t len sent e reading = offered t len reading .is sent e
 
-pub offered-refused : (t : Track) (len : ℕ) (x : Refusal) → offerCall t len ≡ offer.Refused x → (reading : Reading) → turnCall t len reading ≡ refusedOf x t
+pub offered-refused : (t : Track) (len : ℕ) (x : Refusal) → offerCall t len ≡ offer.Refused x → (reading : Reading) → tracedCall t len (t .room) reading ≡ refusedOf x t
 offered-refused t len x e reading = offered t len reading .refused x e
 
 -- ---- a refusal leaves the ring as it was

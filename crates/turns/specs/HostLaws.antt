@@ -1,18 +1,19 @@
 -- One log: the host's loop over the call of a turn and the run of the rules say the same, and both come to an answer within the budget.
 -- Assumes nothing.
-use Prim.Native.Nat.{ℕ, zero, suc, _+_, _≤_, _<_}
+use Prim.Native.Nat.{ℕ, zero, suc, _+_, _*_, _≤_, _<_}
 use native.Mathlib.Omega.{arith}
 use mathlib.Core.Path.{_≡_, refl, sym, ap, _∙_, subst}
-use mathlib.Core.Bool.{Bool, true, false, not, _||_, _&&_}
+use mathlib.Core.Bool.{Bool, true, false, not, _||_, _&&_, false≢true}
 use mathlib.Core.List.{List}
 use lib.Dec.{eqb}
 use lib.ListN.{length}
-use borrow.Author.Tests.{eq-eqb, lt-ltb, ltb-true}
+use borrow.Author.Tests.{eq-eqb, eqb-true, lt-ltb, ltb-true, leb-true, not-true}
 use Rattle.codes.specs.SaysLaws.{passes, guarded-by}
 use Rattle.codes.specs.declared.answers.Refusal.{Refusal}
 use Rattle.turns.specs.Rules.{comesTo, playedOf, turnOf, countedOf}
-use Rattle.turns.specs.ConsistentLaws.{Consistent, consistent-facts, consistent-true}
-use Rattle.turns.specs.Calls.{refusedOf, runsAs, admit, turnCall, begun, startCall}
+use Rattle.turns.specs.Ring.{isRefused}
+use Rattle.turns.specs.ConsistentLaws.{Consistent, consistent-facts, consistent-true, both}
+use Rattle.turns.specs.Calls.{refusedOf, runsAs, admit, tracedCall, turnCall, begunIn, begun, startCall, periodsOf, startTraced}
 use Rattle.turns.specs.CaseLaws.{onward-cases, stays}
 use Rattle.turns.specs.KeepLaws.{After, turn-after, turn-keeps, turn-runs}
 use Rattle.turns.specs.StaysConsistentLaws.{begun-keeps}
@@ -47,12 +48,17 @@ loops-alike {A} {B} quiet f g view Inv step (suc fuel) a script i =
 
 -- ---- THE LINK
 
--- a transfer of a direction runs, lent something of a length
-pub record RunsAs (capture : Bool) (len : ℕ) (t : Track) : Type 0 where
+-- a transfer of a direction runs, lent something of a length, and room for a trace of a length
+pub record RunsIn (capture : Bool) (len room : ℕ) (t : Track) : Type 0 where
   pub consistent : Consistent t
   pub running : t .running ≡ true
   pub direction : t .capture ≡ capture
   pub whole : len ≡ t .lent
+  pub lentRoom : room ≡ t .room
+
+-- it writes no trace
+abbrev pub RunsAs : Bool → ℕ → Track → Type 0
+RunsAs capture len = RunsIn capture len 0
 
 abbrev pub Runs : ℕ → Track → Type 0
 Runs = RunsAs false
@@ -66,24 +72,55 @@ runs-as true t r d = rw (r, d)
 runs-as false t r d = rw (r, d)
 
 -- a call is not refused while its transfer runs
-pub admits : {A : Type 0} (capture : Bool) (len : ℕ) (t : Track) (refused : Refusal → A) (rest : A) → RunsAs capture len t → rest ≡ admit capture t len refused rest
+pub admits : {A : Type 0} {room : ℕ} (capture : Bool) (len : ℕ) (t : Track) (refused : Refusal → A) (rest : A) → RunsIn capture len room t → rest ≡ admit capture t len refused rest
 admits capture len t refused rest r =
     passes _ _ _ (agrees (t .running) (eqb len (t .lent)) (eq-eqb _ _ (r .whole))) (passes _ _ _ (consistent-true t (r .consistent)) (passes _ _ _ (runs-as capture t (r .running) (r .direction)) refl))
 
 -- the call of a turn is the counted turn
+pub call-traces : (len room : ℕ) (t : Track) (reading : Reading) → RunsIn false len room t → countedOf (turnOf (t .descriptors) t (comesTo playedOf reading) reading) ≡ tracedCall t len room reading
+unfolding tracedCall
+call-traces len room t reading r = passes _ _ _ (agrees (t .running) (eqb room (t .room)) (eq-eqb _ _ (r .lentRoom))) (admits false len t (λ x. refusedOf x t) _ r)
+
+agreed : (running same : Bool) → (not running || same) ≡ true → running ≡ true → same ≡ true
+agreed true same e r = e
+agreed false same e r = absurd (false≢true r)
+
+-- and where the call is not refused, the transfer runs
+pub traced-ran : (len room : ℕ) (t : Track) (reading : Reading) → isRefused (tracedCall t len room reading .said) ≡ false → RunsIn false len room t
+unfolding tracedCall
+traced-ran len room t reading =
+    let P : Step → Type 0 = λ s. isRefused (s .said) ≡ false → RunsIn false len room t in
+    guarded-by P _ _ _
+    (λ m. guarded-by P _ _ _
+    (λ l. guarded-by P _ _ _
+    (λ c. guarded-by P _ _ _
+    (λ d _.
+    let on = both (t .running) (not (t .capture)) d in
+    record {
+      consistent = consistent-facts t c;
+      running = on .0;
+      direction = not-true (t .capture) (on .1);
+      whole = eqb-true _ _ (agreed (t .running) (eqb len (t .lent)) l (on .0));
+      lentRoom = eqb-true _ _ (agreed (t .running) (eqb room (t .room)) m (on .0));
+    })
+    (λ _ e. absurd (false≢true (sym e))))
+    (λ _ e. absurd (false≢true (sym e))))
+    (λ _ e. absurd (false≢true (sym e))))
+    (λ _ e. absurd (false≢true (sym e)))
+
 pub call-turns : (len : ℕ) (t : Track) (reading : Reading) → Runs len t → countedOf (turnOf (t .descriptors) t (comesTo playedOf reading) reading) ≡ turnCall t len reading
-unfolding turnCall
-call-turns len t reading r = admits false len t (λ x. refusedOf x t) _ r
+call-turns len t reading r = call-traces len 0 t reading r
 
 -- a turn that goes on leaves a transfer that runs
-pub runs-on : {capture : Bool} (least len : ℕ) (t : Track) (o : Outcome) (reading : Reading) → t .descriptors ≤ least → RunsAs capture len t → countedOf (turnOf least t o reading) .said ≡ Going → RunsAs capture len (countedOf (turnOf least t o reading) .track)
+pub runs-on : {capture : Bool} {room : ℕ} (least len : ℕ) (t : Track) (o : Outcome) (reading : Reading) → t .descriptors ≤ least → RunsIn capture len room t → countedOf (turnOf least t o reading) .said ≡ Going → RunsIn capture len room (countedOf (turnOf least t o reading) .track)
 runs-on least len t o reading le r e =
     let same = turn-after least t o reading .2 in
     record {
       consistent = turn-keeps least t o reading le (r .consistent) (r .running);
       running = turn-runs least t o reading e;
-      direction = ap (λ (x : Bool × ℕ × ℕ). x .0) same ∙ r .direction;
-      whole = r .whole ∙ sym (ap (λ (x : Bool × ℕ × ℕ). x .1) same);
+      direction = ap (λ (x : Bool × ℕ × ℕ × ℕ × ℕ). x .0) same ∙ r .direction;
+      whole = r .whole ∙ sym (ap (λ (x : Bool × ℕ × ℕ × ℕ × ℕ). x .1) same);
+      lentRoom = r .lentRoom ∙ sym (ap (λ (x : Bool × ℕ × ℕ × ℕ × ℕ). x .3) same);
     }
 
 -- one turn of each: the same line, the same track, and a turn that goes on leaves a transfer that runs in the same mode
@@ -162,7 +199,40 @@ begins t stream total period budget =
     (λ c. guarded-by P _ _ _
     (λ _. guarded-by P _ _ _
     (λ p. guarded-by P _ _ _
-    (λ b _. record { track = refl; sent = refl; runs = record { consistent = begun-keeps false total t stream total period budget (consistent-facts t c .placed .mode) (ltb-true _ _ p) (ltb-true _ _ b); running = refl; direction = refl; whole = refl } })
+    (λ b _. record { track = refl; sent = refl; runs = record { consistent = begun-keeps 0 false total t stream total period budget (consistent-facts t c .placed .mode) (ltb-true _ _ p) (ltb-true _ _ b); running = refl; direction = refl; whole = refl; lentRoom = refl } })
+    (λ _ e. absurd (never _ e)))
+    (λ _ e. absurd (never _ e)))
+    (λ _ e. absurd (never _ e)))
+    (λ _ e. absurd (never _ e))
+
+-- the same of one that writes a trace: its room is enough
+pub record BeginsTraced (t : Track) (stream total period budget room : ℕ) (s : Step) : Type 0 where
+  pub track : s .track ≡ begunIn room false total t stream total period budget
+  pub sent : s .sent ≡ Nothing
+  pub runs : RunsIn false total room (begunIn room false total t stream total period budget)
+  pub short : total < 4294967296
+  pub enough : 19 + 20 * periodsOf total period ≤ room
+
+pub begins-traced : (t : Track) (stream total period budget room : ℕ) → startTraced t stream total period budget room .said ≡ Going
+    → BeginsTraced t stream total period budget room (startTraced t stream total period budget room)
+unfolding startTraced
+begins-traced t stream total period budget room =
+    let P : Step → Type 0 = λ s. s .said ≡ Going → BeginsTraced t stream total period budget room s in
+    guarded-by P _ _ _
+    (λ c. guarded-by P _ _ _
+    (λ _. guarded-by P _ _ _
+    (λ p. guarded-by P _ _ _
+    (λ b. guarded-by P _ _ _
+    (λ w. guarded-by P _ _ _
+    (λ n _. record {
+      track = refl;
+      sent = refl;
+      runs = record { consistent = begun-keeps room false total t stream total period budget (consistent-facts t c .placed .mode) (ltb-true _ _ p) (ltb-true _ _ b); running = refl; direction = refl; whole = refl; lentRoom = refl };
+      short = ltb-true _ _ w;
+      enough = leb-true _ _ n;
+    })
+    (λ _ e. absurd (never _ e)))
+    (λ _ e. absurd (never _ e)))
     (λ _ e. absurd (never _ e)))
     (λ _ e. absurd (never _ e)))
     (λ _ e. absurd (never _ e)))

@@ -49,6 +49,10 @@ streamOf t = readOf t (t .stream ∷ [])
 abbrev pub keptRead : Track → Says
 keptRead t = readOf t (t .kept ∷ [])
 
+-- how long the trace is of the transfer that runs or ran last; 0 where it writes none
+abbrev pub writtenRead : Track → Says
+writtenRead t = readOf t (t .written ∷ [])
+
 -- a slot of 32 or more gets 1
 abbrev pub carriedOf : Ring → ℕ → Says
 carriedOf r slot =

@@ -2,15 +2,17 @@
 -- Assumes nothing.
 use Prim.Native.Nat.{ℕ}
 use native.Mathlib.Omega.{arith}
-use mathlib.Core.Path.{_≡_, refl, ap, _∙_}
-use mathlib.Core.Bool.{Bool, true, false}
+use mathlib.Core.Path.{_≡_, refl, ap, _∙_, subst}
+use mathlib.Core.Bool.{Bool, true, false, _||_, not}
+use lib.Dec.{eqb}
+use borrow.Author.Tests.{eq-eqb}
 use Rattle.codes.specs.Says.{guard}
-use Rattle.codes.specs.SaysLaws.{guarded-by}
+use Rattle.codes.specs.SaysLaws.{guarded-by, passes}
 use Rattle.codes.specs.declared.answers.Refusal.{Refusal}
 use Rattle.turns.specs.Rules.{chooseOf, submit, sentOf, comesTo, playedOf, hear, act, turnOf, countedOf}
 use Rattle.turns.specs.CaseLaws.{Plain, plain, over-plain, hear-cases, counted-cases}
 use Rattle.turns.specs.KeepLaws.{turn-plain}
-use Rattle.turns.specs.Calls.{refusedOf, turnCall, drained, drainCall, startCall, ringAfter, offerBy, offerAs, offerCall}
+use Rattle.turns.specs.Calls.{refusedOf, tracedCall, turnCall, drained, drainCall, startCall, startTraced, ringAfter, offerBy, offerAs, offerCall}
 use Rattle.turns.specs.Types.{Track, Ring, Sent, Nothing, Going, Refused, Step, Reading, Quiet, Completed, Choice, Submit, Finish, Wait, Outcome, Offer}
 use Rattle.turns.specs.declared.calls.Offer.the-variants as offer
 
@@ -35,12 +37,17 @@ module _ (t : Track) where
   abbrev P : Step → Type 0
   P s = Untouched t s
 
-  pub turn-refused : (len : ℕ) (reading : Reading) → Untouched t (turnCall t len reading)
-  unfolding turnCall
-  turn-refused len reading =
+  pub traced-refused : (len room : ℕ) (reading : Reading) → Untouched t (tracedCall t len room reading)
+  unfolding tracedCall
+  traced-refused len room reading =
       guarded-by P _ _ _
+      (λ _. guarded-by P _ _ _
       (λ _. guarded-by P _ _ _ (λ _. guarded-by P _ _ _ (λ _ x e. absurd (plain _ (turn-answers (t .descriptors) t _ reading) x e)) (λ _. refuses t _)) (λ _. refuses t _))
+      (λ _. refuses t _))
       (λ _. refuses t _)
+
+  pub turn-refused : (len : ℕ) (reading : Reading) → Untouched t (turnCall t len reading)
+  turn-refused len reading = traced-refused len 0 reading
 
   pub drain-refused : (reading : Reading) → Untouched t (drainCall t reading)
   unfolding drainCall
@@ -52,6 +59,17 @@ module _ (t : Track) where
       guarded-by P _ _ _
       (λ _. guarded-by P _ _ _
       (λ _. guarded-by P _ _ _ (λ _. guarded-by P _ _ _ (λ _ x e. absurd (plain Going tt x e)) (λ _. refuses t _)) (λ _. refuses t _))
+      (λ _. refuses t _))
+      (λ _. refuses t _)
+
+  pub traced-start-refused : (stream total period budget room : ℕ) → Untouched t (startTraced t stream total period budget room)
+  unfolding startTraced
+  traced-start-refused stream total period budget room =
+      guarded-by P _ _ _
+      (λ _. guarded-by P _ _ _
+      (λ _. guarded-by P _ _ _
+      (λ _. guarded-by P _ _ _ (λ _. guarded-by P _ _ _ (λ _. guarded-by P _ _ _ (λ _ x e. absurd (plain Going tt x e)) (λ _. refuses t _)) (λ _. refuses t _)) (λ _. refuses t _))
+      (λ _. refuses t _))
       (λ _. refuses t _))
       (λ _. refuses t _)
 
@@ -67,7 +85,7 @@ guarded-both P true a b c d p q = p
 guarded-both P false a b c d p q = q
 
 hear-sent : (sent : Sent) (t : Track) (o : Outcome) (reading : Reading) → hear o sent t reading .sent ≡ sent
-hear-sent sent t o reading = hear-cases (λ s. s .sent ≡ sent) sent t o reading (λ _ _. refl) (λ _ _ _ _ _. refl)
+hear-sent sent t o reading = hear-cases (λ s. s .sent ≡ sent) sent t o reading (λ _ _. refl) (λ _ _ _ _ _ _ _. refl)
 
 act-sent : (c : Choice) (t : Track) (o : Outcome) (reading : Reading) → act c t o reading .sent ≡ offerBy c t
 act-sent Submit t o reading = hear-sent (sentOf t) (submit t) o reading
@@ -92,8 +110,13 @@ bars t r =
       refused = λ x e. let same : r ≡ x = cc in ap (λ (y : Refusal). refusedOf y t) same;
     }
 
-pub offered : (t : Track) (len : ℕ) (reading : Reading) → Offered t (offerCall t len) (turnCall t len reading)
-unfolding offerAs turnCall
+own-room : (t : Track) (running : Bool) → (not running || eqb (t .room) (t .room)) ≡ true
+own-room t true = eq-eqb (t .room) (t .room) refl
+own-room t false = refl
+
+-- lent the room of the start
+pub offered : (t : Track) (len : ℕ) (reading : Reading) → Offered t (offerCall t len) (tracedCall t len (t .room) reading)
+unfolding offerAs tracedCall
 offered t len reading =
     let P : Offer → Step → Type 0 = Offered t in
     let shows : Offered t (offer.Is (offerBy (chooseOf (t .descriptors) t) t)) (countedOf (turnOf (t .descriptors) t (comesTo playedOf reading) reading)) =
@@ -101,4 +124,5 @@ offered t len reading =
       is = λ sent e. let same : offerBy (chooseOf (t .descriptors) t) t ≡ sent = cc in turn-sent (t .descriptors) t _ reading ∙ same;
       refused = λ x e. let z : _≡_ {A = ℕ} 0 1 = cc in absurd (omega arith);
     } in
-    guarded-both P _ _ _ _ _ (guarded-both P _ _ _ _ _ (guarded-both P _ _ _ _ _ shows (bars t _)) (bars t _)) (bars t _)
+    subst (Offered t (offerCall t len)) (passes _ _ _ (own-room t (t .running)) refl)
+    (guarded-both P _ _ _ _ _ (guarded-both P _ _ _ _ _ (guarded-both P _ _ _ _ _ shows (bars t _)) (bars t _)) (bars t _))

@@ -17,7 +17,7 @@ direct = 3
 
 -- a ring that no transfer ran on, with some descriptors to a submission
 abbrev pub newTrack : ℕ → Track
-newTrack descriptors = record { descriptors = descriptors; head = 0; tail = 0; inflight = 0; stream = 0; total = 0; period = 0; next = 0; budget = 0; turns = 0; running = false; capture = false; lent = 0; kept = 0 }
+newTrack descriptors = record { descriptors = descriptors; head = 0; tail = 0; inflight = 0; stream = 0; total = 0; period = 0; next = 0; budget = 0; turns = 0; running = false; capture = false; lent = 0; kept = 0; room = 0; written = 0; good = 0 }
 
 abbrev pub newRing : ℕ → Ring
 newRing descriptors = record { track = newTrack descriptors; slots = replicate 32 blankSlot }

@@ -47,6 +47,9 @@ submit t =
       capture = t .capture;
       lent = t .lent;
       kept = t .kept;
+      room = t .room;
+      written = t .written;
+      good = t .good;
     }
 
 -- ---- RULE 2. "The turn's reading is quiet, or a completed slot with a status. Not the oldest in flight, or nothing in flight: end with 6.
@@ -71,9 +74,9 @@ verdictOf (Fails r) = Bad r
 unfoldable pub judgeOf : Track → ℕ → Outcome → Verdict
 judgeOf t slot outcome = pick (isOldest t slot) (verdictOf outcome) WrongSlot
 
--- the oldest in flight is free
-abbrev pub release : Track → Track
-release t =
+-- the oldest in flight is free, and so many completions were good
+abbrev pub freeing : ℕ → Track → Track
+freeing good t =
     record {
       descriptors = t .descriptors;
       head = t .head;
@@ -89,11 +92,21 @@ release t =
       capture = t .capture;
       lent = t .lent;
       kept = t .kept;
+      room = t .room;
+      written = t .written;
+      good = good;
     }
+
+abbrev pub release : Track → Track
+release t = freeing (t .good) t
+
+-- a good one is counted
+abbrev pub accept : Track → Track
+accept t = freeing (t .good + 1) t
 
 abbrev pub settle : Verdict → Sent → Track → ℕ → ℕ → Step
 settle WrongSlot sent t slot status = record { track = t; sent = sent; heard = Silent; said = Ended WrongToken }
-settle Good sent t slot status = record { track = release t; sent = sent; heard = Freed slot status; said = Going }
+settle Good sent t slot status = record { track = accept t; sent = sent; heard = Freed slot status; said = Going }
 settle (Bad r) sent t slot status = record { track = release t; sent = sent; heard = Freed slot status; said = Ended r }
 
 -- the reading, and what it comes to
@@ -130,6 +143,9 @@ ticked running t =
       capture = t .capture;
       lent = t .lent;
       kept = t .kept;
+      room = t .room;
+      written = t .written;
+      good = t .good;
     }
 
 -- a turn that goes on and spends the last of the budget says 9; a transfer that was answered runs no more

@@ -87,6 +87,9 @@ bare t =
       capture = t .capture;
       lent = t .lent;
       kept = 0;
+      room = t .room;
+      written = t .written;
+      good = t .good;
     }
 
 abbrev bareStep : Step → Step
@@ -160,10 +163,12 @@ keep-runs len more t h r =
         placed = record { mode = c .placed .mode; head-in = c .placed .head-in; tail-in = c .placed .tail-in; room = c .placed .room; line = c .placed .line };
         paced = record { within = c .paced .within; some = c .paced .some; left = c .paced .left };
         kept = h;
+        good = c .good;
       };
       running = r .running;
       direction = r .direction;
       whole = r .whole;
+      lentRoom = r .lentRoom;
     }
 
 -- a track that runs a capture of a period, lent a recording of a length
@@ -314,7 +319,7 @@ hear-roomy most payload o sent t Quiet small r = let z = silent-none o payload i
 hear-roomy most payload o sent t (Completed named reported) small r =
     hear-cases (λ s. Roomy most (keptMore (accepts o (s .heard) payload) (s .track))) sent t o (Completed named reported)
     (λ _ _. let z = silent-none o payload in record { left = r .left; all = r .all; room = omega (arith, r .room) })
-    (λ slot status _ _ some.
+    (λ slot status _ _ some _ _.
     let n = one-less (t .inflight) (t .period) some in
     let a = accepts-period o (Freed slot status) payload (t .period) small in
     record { left = r .left; all = r .all; room = omega (arith, r .room) })
@@ -372,7 +377,7 @@ freed-room : (most : ℕ) (o : Outcome) (sent : Sent) (t : Track) (reading : Rea
 freed-room most o sent t reading r =
     hear-cases (λ s. (slot status : ℕ) → s .heard ≡ Freed slot status → t .kept + t .period ≤ most) sent t o reading
     (λ _ _ slot status e. absurd (silent-freed slot status e))
-    (λ _ _ _ _ some _ _ _. let n = one-less (t .inflight) (t .period) some in omega (arith, r .room))
+    (λ _ _ _ _ some _ _ _ _ _. let n = one-less (t .inflight) (t .period) some in omega (arith, r .room))
   where
     silent-freed : (slot status : ℕ) → Silent ≡ Freed slot status → ⊥
     silent-freed slot status e = let z : _≡_ {A = ℕ} 0 1 = cc in omega arith
@@ -418,7 +423,7 @@ turn-took most a x some fits l r =
     let c = catchIn x in
     let o = caughtOf t c in
     let s = countedOf (turnOf (t .descriptors) t o (c .reading)) in
-    let kept : s .track .kept ≡ t .kept = ap (λ (z : Bool × ℕ × ℕ). z .2) (turn-after (t .descriptors) t o (c .reading) .2) in
+    let kept : s .track .kept ≡ t .kept = ap (λ (z : Bool × ℕ × ℕ × ℕ × ℕ). z .2) (turn-after (t .descriptors) t o (c .reading) .2) in
     let more = accepts o (s .heard) (payloadFor t c) in
     let exact : o ≡ Fine → (slot status : ℕ) → s .heard ≡ Freed slot status → (payloadFor t c ≡ x .written - 8) × (x .written - 8 ≤ length (x .bytes)) =
     λ fine slot status e. by (turn-freed (t .descriptors) most t o (c .reading) some r slot status e) (small-payload t x l fine) slot status e in

@@ -17,7 +17,7 @@ use Rattle.turns.specs.Cut.{cutBy, cut}
 use Rattle.turns.specs.Ring.{direct, newRing}
 use Rattle.turns.specs.Rules.{chooseOf, playedOf, isOldest, judgeOf, turnOf, countedOf}
 use Rattle.turns.specs.Consistent.{placedOf, pacedOf}
-use Rattle.turns.specs.Calls.{startCall, startedOf, turnCall, drainCall, turnedOf, idleOf}
+use Rattle.turns.specs.Calls.{startCall, startedOf, tracedCall, drainCall, turnedOf, idleOf}
 use Rattle.turns.specs.Log.{Ran, loopOf, turnByTurn, sends}
 use Rattle.turns.specs.Asked.{plays, Idle, NoFault, CompletesWithin}
 use Rattle.turns.specs.PremiseLaws.{by-faultless, by-within}
@@ -40,7 +40,7 @@ comesTo total period budget script =
 pub worked : (comesTo 0 4 5 [] ≡ (Going, Done, 1, [], 0))
     × (comesTo 10 4 9 (Completed 0 0x8000 ∷ Completed 1 0x8000 ∷ Completed 2 0x8000 ∷ []) ≡ (Going, Done, 4, 4 ∷ 4 ∷ 2 ∷ [], 0))
     × (comesTo 11 1 12 [] ≡ (Going, Ended OutOfTurns, 12, replicate 10 1, 10))
-unfolding loopOf startCall turnCall guard placedOf pacedOf turnOf chooseOf playedOf isOldest judgeOf countedOf
+unfolding loopOf startCall tracedCall guard placedOf pacedOf turnOf chooseOf playedOf isOldest judgeOf countedOf
 worked = (refl, refl, refl)
 
 -- ---- DEMAND 3'S PREMISES CAN BE MET, all together: 12 periods, g = 2, a budget of 12 * 2 + 1, a completion every other turn
@@ -54,11 +54,11 @@ announced = plays (newRing direct) 0 3 25 (replicate 35 7) (twoEach 12 0)
 
 -- Ok on the last turn that the theorem allows
 pub just-in-time : (announced .said ≡ Done) × (length (announced .log) ≡ 25) × (length (cut {A = ℕ} 3 (replicate 35 7)) ≡ 12)
-unfolding loopOf startCall turnCall guard placedOf pacedOf turnOf chooseOf playedOf isOldest judgeOf countedOf cutBy
+unfolding loopOf startCall tracedCall guard placedOf pacedOf turnOf chooseOf playedOf isOldest judgeOf countedOf cutBy
 just-in-time = (refl, refl, refl)
 
 pub premises-met : Idle (newRing direct) × (All NoFault (announced .log)) × (CompletesWithin 2 (announced .log))
-unfolding loopOf startCall turnCall guard placedOf pacedOf turnOf chooseOf playedOf isOldest judgeOf countedOf
+unfolding loopOf startCall tracedCall guard placedOf pacedOf turnOf chooseOf playedOf isOldest judgeOf countedOf
 premises-met = (record { consistent = refl; stopped = refl; empty = refl }, by-faultless (announced .log) refl, by-within 2 (announced .log) refl)
 
 -- ---- A COMPLETION OUT OF ORDER IS LOST. A device completes slot 1 before slot 0, each once: the transfer ends with 6 and slot 1's completion is gone,
@@ -73,7 +73,7 @@ drainedOnce = turnedOf (outOfOrder .at) (drainCall (outOfOrder .at .track) (Comp
 pub stuck : (outOfOrder .said ≡ Ended WrongToken) × (drainedOnce .said ≡ Done) × (drainedOnce .ring .track .inflight ≡ 1)
     × (turnedOf (drainedOnce .ring) (drainCall (drainedOnce .ring .track) Quiet) .ring .track .inflight ≡ 1)
     × (idleOf (turnedOf (drainedOnce .ring) (drainCall (drainedOnce .ring .track) (Completed 1 0x8000)) .ring .track) ≡ true)
-unfolding loopOf startCall turnCall drainCall guard placedOf pacedOf turnOf chooseOf playedOf isOldest judgeOf countedOf
+unfolding loopOf startCall tracedCall drainCall guard placedOf pacedOf turnOf chooseOf playedOf isOldest judgeOf countedOf
 stuck = (refl, refl, refl, refl, refl)
 
 -- ---- A CAPTURE'S PREMISES CAN BE MET: three periods of 4 bytes, g = 2, a budget of 3 * 2 + 1, a recording of 14 bytes, a completion every other turn;

@@ -3,7 +3,7 @@ ghost use mathlib.Core.Path.{_≡_};
 ghost use Prim.Native.Nat.{_≤_, _<_};
 ghost use lib.ListN.{length, take, drop};
 ghost use Rattle.turns.specs.Cut.{payload};
-ghost use Rattle.turns.specs.Calls.{refusedOf, unchangedOf, lengthAgrees, runsAs, turnCall, freedOf, drained, drainCall, begunAs, idleOf, startCall, ringAfter, turnedOf, startedOf, offerBy, offerAs, offerCall, shownBy};
+ghost use Rattle.turns.specs.Calls.{refusedOf, unchangedOf, lengthAgrees, roomAgrees, runsAs, tracedCall, turnCall, freedOf, drained, drainCall, begunAs, idleOf, startCall, periodsOf, startTraced, ringAfter, turnedOf, startedOf, offerBy, offerAs, offerCall, shownBy};
 use crate::consistent::is_consistent;
 use crate::reading::Reading;
 use crate::ring::Heard;
@@ -61,10 +61,24 @@ pub(crate) fn runs_as(capture: bool, t: Track) -> bool
     if capture { t.capture } else { !t.capture }
 }
 
-// A turn of the track, lent frames of some length.
-pub fn turn_track(t: Track, len: usize, reading: Reading) -> Step
-    ensures { λ r. ⌜ r ≡ turnCall t len reading ⌝ }
+// The room of a trace is as long as at the start.
+fn room_agrees(t: Track, room: usize) -> bool
+    ensures { λ r. ⌜ r ≡ roomAgrees t room ⌝ }
 {
+    if t.running {
+        return room == t.room;
+    }
+    true
+}
+
+// A turn of the track, lent frames and room for its trace, each of some length.
+pub fn traced_track(t: Track, len: usize, room: usize, reading: Reading) -> Step
+    ensures { λ r. ⌜ r ≡ tracedCall t len room reading ⌝ }
+{
+    let same = room_agrees(t, room);
+    if !same {
+        return refused(Refusal::BadLength, t);
+    }
     let agrees = length_agrees(t, len);
     if !agrees {
         return refused(Refusal::BadLength, t);
@@ -80,6 +94,13 @@ pub fn turn_track(t: Track, len: usize, reading: Reading) -> Step
     let outcome = rules::comes_to_played(reading);
     let s = rules::turn(t.descriptors, t, outcome, reading);
     rules::counted(s)
+}
+
+// A turn of the track, lent frames of some length: it writes no trace.
+pub fn turn_track(t: Track, len: usize, reading: Reading) -> Step
+    ensures { λ r. ⌜ r ≡ turnCall t len reading ⌝ }
+{
+    traced_track(t, len, 0, reading)
 }
 
 // An owed slot's completion: its status plays no part.
@@ -153,6 +174,9 @@ pub(crate) fn begun_as(
         capture,
         lent,
         kept: 0,
+        room: 0,
+        written: 0,
+        good: 0,
     }
 }
 
@@ -176,6 +200,55 @@ pub fn start_track(t: Track, stream: u32, total: usize, period: usize, budget: u
     }
     let track = begun_as(false, total, t, stream, total, period, budget);
     unchanged(Said::Going, track)
+}
+
+// The periods of so many bytes, the last one perhaps shorter.
+fn periods(total: usize, period: usize) -> usize
+    requires { ⌜ (0 < period) × (total < 4294967296) ⌝ }
+    ensures { λ r. ⌜ (r ≡ periodsOf total period) × (r ≤ 4294967296) ⌝ }
+{
+    let whole = total / period;
+    if total % period == 0 {
+        return whole;
+    }
+    whole + 1
+}
+
+// The start of a transfer on the track that writes a trace, lent room of some length.
+pub fn traced_start_track(
+    t: Track,
+    stream: u32,
+    total: usize,
+    period: u32,
+    budget: u64,
+    room: usize,
+) -> Step
+    ensures { λ r. ⌜ r ≡ startTraced t stream total period budget room ⌝ }
+{
+    let sound = is_consistent(t);
+    if !sound {
+        return refused(Refusal::InvalidParam, t);
+    }
+    let free = is_idle(t);
+    if !free {
+        return refused(Refusal::Busy, t);
+    }
+    if period == 0 {
+        return refused(Refusal::InvalidParam, t);
+    }
+    if budget == 0 {
+        return refused(Refusal::OutOfTurns, t);
+    }
+    if 4294967296 <= total {
+        return refused(Refusal::BadLength, t);
+    }
+    let span = period as usize;
+    let n = periods(total, span);
+    if room < 19 + 20 * n {
+        return refused(Refusal::BadLength, t);
+    }
+    let begun = begun_as(false, total, t, stream, total, span, budget);
+    unchanged(Said::Going, Track { room, ..begun })
 }
 
 // No transfer runs and no slot is in flight: else a new call is Busy.
@@ -250,6 +323,24 @@ pub fn start(r: Ring, stream: u32, frames: &[u8], period: usize, budget: u64) ->
     ensures { λ x. ⌜ x ≡ startedOf r (startCall (r .track) stream (length (now (frames .entry))) period budget) ⌝ }
 {
     let s = start_track(r.track, stream, frames.len(), period, budget);
+    Turned {
+        turns: 0,
+        ..turned(r, s)
+    }
+}
+
+// The start of a transfer of some frames that writes a trace, lent room for it: nothing is written yet.
+pub fn traced_start(
+    r: Ring,
+    stream: u32,
+    frames: &[u8],
+    period: u32,
+    budget: u64,
+    room: &[u8],
+) -> Turned
+    ensures { λ x. ⌜ x ≡ startedOf r (startTraced (r .track) stream (length (now (frames .entry))) period budget (length (now (room .entry)))) ⌝ }
+{
+    let s = traced_start_track(r.track, stream, frames.len(), period, budget, room.len());
     Turned {
         turns: 0,
         ..turned(r, s)

@@ -51,5 +51,8 @@ pub fn is_consistent(t: Track) -> bool
     if !pace {
         return false;
     }
-    t.kept <= t.lent
+    if t.lent < t.kept {
+        return false;
+    }
+    t.good <= t.turns
 }

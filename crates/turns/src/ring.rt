@@ -2,7 +2,7 @@
 ghost use mathlib.Core.Path.{_≡_};
 ghost use mathlib.Core.List.{[], _∷_};
 ghost use Rattle.turns.specs.Ring.{direct, newRing, goesOn};
-ghost use Rattle.turns.specs.Reads.{saysNumber, readOf, runningOf, inFlightOf, freeOf, turnsOf, streamOf, keptRead, saysCarried, carriedOf, saysOldest, oldestOf};
+ghost use Rattle.turns.specs.Reads.{saysNumber, readOf, runningOf, inFlightOf, freeOf, turnsOf, streamOf, keptRead, writtenRead, saysCarried, carriedOf, saysOldest, oldestOf};
 use crate::consistent::is_consistent;
 use codes::Refusal;
 
@@ -41,6 +41,12 @@ pub struct Track {
     pub lent: usize,
     // Bytes of the recording that were accepted.
     pub kept: usize,
+    // The length of the room for a trace, lent at the start; 0 where the transfer writes none.
+    pub room: usize,
+    // The bytes of it that hold the trace so far.
+    pub written: usize,
+    // Completions of this transfer with 0x8000.
+    pub good: u64,
 }
 
 pub struct Ring {
@@ -152,6 +158,9 @@ impl Ring {
             capture: false,
             lent: 0,
             kept: 0,
+            room: 0,
+            written: 0,
+            good: 0,
         };
         Ring {
             track,
@@ -209,6 +218,14 @@ impl Ring {
     {
         let t = self.track;
         number(t, t.kept as u64)
+    }
+
+    // How long the trace is of the transfer that runs or ran last; 0 where it writes none.
+    pub fn trace_length(self) -> RingNumber
+        ensures { λ r. ⌜ saysNumber r ≡ writtenRead (self .track) ⌝ }
+    {
+        let t = self.track;
+        number(t, t.written as u64)
     }
 
     pub fn carried(self, slot: usize) -> Carried

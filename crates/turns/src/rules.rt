@@ -2,7 +2,7 @@
 ghost use mathlib.Core.Path.{_≡_};
 ghost use Prim.Native.Nat.{_+_, _*_, _≤_, _<_};
 ghost use Rattle.turns.specs.Cut.{spanOf};
-ghost use Rattle.turns.specs.Rules.{chooseOf, sentOf, submit, comesTo, playedOf, isOldest, judgeOf, release, settle, hear, turnOf, ticked, countedOf};
+ghost use Rattle.turns.specs.Rules.{chooseOf, sentOf, submit, comesTo, playedOf, isOldest, judgeOf, release, accept, settle, hear, turnOf, ticked, countedOf};
 ghost use Rattle.turns.specs.Private.{Placed};
 use crate::reading::Reading;
 use crate::ring::Heard;
@@ -103,6 +103,17 @@ pub(crate) fn release(t: Track) -> Track
     }
 }
 
+// The same of a good completion, which is counted.
+fn accept(t: Track) -> Track
+    requires { ⌜ (t .tail < 32) × (0 < t .inflight) × (t .good < t .budget) ⌝ }
+    ensures { λ r. ⌜ r ≡ accept t ⌝ }
+{
+    Track {
+        good: t.good + 1,
+        ..release(t)
+    }
+}
+
 // What the completion of a period that was played comes to.
 pub(crate) fn played(status: u32) -> Outcome
     ensures { λ r. ⌜ r ≡ playedOf status ⌝ }
@@ -152,7 +163,7 @@ fn judge(t: Track, slot: u32, outcome: Outcome) -> Verdict
 
 // What is made of a completion, by what it comes to.
 fn settle(outcome: Outcome, sent: Sent, t: Track, slot: u32, status: u32) -> Step
-    requires { ⌜ t .tail < 32 ⌝ }
+    requires { ⌜ (t .tail < 32) × (t .good < t .budget) ⌝ }
     ensures { λ r. ⌜ r ≡ settle (judgeOf t slot outcome) sent t slot status ⌝ }
 {
     let v = judge(t, slot, outcome);
@@ -164,7 +175,7 @@ fn settle(outcome: Outcome, sent: Sent, t: Track, slot: u32, status: u32) -> Ste
             said: Said::Ended(Refusal::WrongToken),
         },
         Verdict::Good => Step {
-            track: release(t),
+            track: accept(t),
             sent,
             heard: Heard::Freed {
                 slot: slot as usize,
@@ -186,7 +197,7 @@ fn settle(outcome: Outcome, sent: Sent, t: Track, slot: u32, status: u32) -> Ste
 
 // Rule 2: the reading, and what it comes to.
 fn hear(outcome: Outcome, sent: Sent, t: Track, reading: Reading) -> Step
-    requires { ⌜ t .tail < 32 ⌝ }
+    requires { ⌜ (t .tail < 32) × (t .good < t .budget) ⌝ }
     ensures { λ r. ⌜ r ≡ hear outcome sent t reading ⌝ }
 {
     match reading {
@@ -202,7 +213,7 @@ fn hear(outcome: Outcome, sent: Sent, t: Track, reading: Reading) -> Step
 
 // One turn: rule 1, then rule 2.
 pub(crate) fn turn(least: usize, t: Track, outcome: Outcome, reading: Reading) -> Step
-    requires { ⌜ (Placed t) × (t .next ≤ t .total) ⌝ }
+    requires { ⌜ (Placed t) × (t .next ≤ t .total) × (t .good < t .budget) ⌝ }
     ensures { λ r. ⌜ r ≡ turnOf least t outcome reading ⌝ }
 {
     let choice = choose(least, t);

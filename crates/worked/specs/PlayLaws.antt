@@ -83,7 +83,7 @@ module _ (d : Device) (stream : ℕ) (p : Plays d stream) where
 
 -- ---- the ring, with nothing in flight
 
--- h is head and tail, o the offset of the next period, k the turns run
+-- h is head and tail, o the offset of the next period, k the turns run, and as many completions were good
 abbrev pub trackAt : ℕ → ℕ → ℕ → ℕ → ℕ → ℕ → ℕ → ℕ → Track
 trackAt per stream total period budget h o k =
     record {
@@ -101,6 +101,9 @@ trackAt per stream total period budget h o k =
       capture = false;
       lent = total;
       kept = 0;
+      room = 0;
+      written = 0;
+      good = k;
     }
 
 module _ (per stream total period budget h o k : ℕ) (room : per ≤ 32) where

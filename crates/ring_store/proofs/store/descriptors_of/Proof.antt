@@ -1,5 +1,5 @@
--- By the tests of the flags, and of what is reserved. Assumes nothing.
-use borrow.Author.Tests.{le-leb, lt-leb, eq-eqb, ne-eqb}
+-- By the tests of the flags. Assumes nothing.
+use borrow.Author.Tests.{le-leb, lt-leb}
 use Rattle.ring_store.proofs.store.descriptors_of.Statement.{statement}
 use Rattle.ring_store.proofs.store.descriptors_of.Tie as tie
 
@@ -10,13 +10,7 @@ returns-2 : tie.Need-returns-2
 returns-2 c = rw (le-leb _ 1 (c .before .if1 .left), lt-leb _ 1 (c .if2 .taken))
 
 returns-3 : tie.Need-returns-3
-returns-3 c = rw (le-leb _ 1 (c .before .before .if1 .left), le-leb _ 1 (c .before .if2 .left), ne-eqb _ 0 (c .if3 .taken))
-
-returns-4 : tie.Need-returns-4
-returns-4 c = rw (le-leb _ 1 (c .before .before .before .if1 .left), le-leb _ 1 (c .before .before .if2 .left), eq-eqb _ 0 (c .before .if3 .left), eq-eqb _ 0 (c .if4 .taken))
-
-returns-5 : tie.Need-returns-5
-returns-5 c = rw (le-leb _ 1 (c .before .before .before .if1 .left), le-leb _ 1 (c .before .before .if2 .left), eq-eqb _ 0 (c .before .if3 .left), ne-eqb _ 0 (c .if4 .left))
+returns-3 c = rw (le-leb _ 1 (c .before .if1 .left), le-leb _ 1 (c .if2 .left))
 
 pub descriptors-of-spec : {M : Type 1} → statement M
-descriptors-of-spec = tie.close (tie.spec returns returns-2 returns-3 returns-4 returns-5)
+descriptors-of-spec = tie.close (tie.spec returns returns-2 returns-3)

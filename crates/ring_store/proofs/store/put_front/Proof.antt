@@ -31,7 +31,7 @@ returns c =
     let f = c1 .before .before in
     let a = f .before .before .args in
     stored _ (a .ring .now) 0 trackRow _ (put (c1 .put-word .ensures) (put (c2 .put-word2 .ensures) (put (c3 .put-word3 .ensures) (put (c4 .put-word4 .ensures) (put (c5 .put-word5 .ensures) (put (c6 .put-word6 .ensures) (put (c7 .put-word7 .ensures) (put (c8 .put-word8 .ensures) (put (c9 .put-word9 .ensures) (put (c10 .put-half .ensures) (put (c11 .put-half2 .ensures) (put (c12 .put-word10 .ensures) (put (c13 .put-word11 .ensures) end)))))))))))))
-    ∙ ap (λ (n : ℕ). sets (a .ring .now) 0 (write trackRow (a .t .descriptors ∷ a .t .head ∷ a .t .tail ∷ a .t .inflight ∷ a .t .total ∷ a .t .period ∷ a .t .next ∷ a .t .budget ∷ a .t .turns ∷ a .t .stream ∷ n ∷ 0 ∷ 0 ∷ []))) (f .flag-of .ensures)
+    ∙ ap (λ (n : ℕ). sets (a .ring .now) 0 (write trackRow (a .t .descriptors ∷ a .t .head ∷ a .t .tail ∷ a .t .inflight ∷ a .t .total ∷ a .t .period ∷ a .t .next ∷ a .t .budget ∷ a .t .turns ∷ a .t .stream ∷ n ∷ a .t .room ∷ a .t .good ∷ []))) (f .flag-of .ensures)
 
 same-length : tie.Need-same-length
 same-length c = ap length (returns c) ∙ simp length-sets

@@ -6,7 +6,8 @@ use Rattle.ring_store.proofs.store.short_track.Tie as tie
 
 returns : tie.Need-returns
 returns c =
-    let c16 = c .before in
+    let c17 = c .before in
+    let c16 = c17 .before in
     let c15 = c16 .before in
     let c14 = c15 .before in
     let c13 = c14 .before in
@@ -23,7 +24,7 @@ returns c =
     let c2 = c3 .before in
     let c1 = c2 .before in
     track-got (c1 .before .before .args .ring .now) _ _ _ (c .track-of .ensures) (get (c1 .get-u64 .ensures) (get (c2 .get-u642 .ensures) (get (c3 .get-u643 .ensures) (get (c4 .get-u644 .ensures) (get (c5 .get-u645 .ensures) (get (c6 .get-u646 .ensures) (get (c7 .get-u647 .ensures) (get (c8 .get-u648 .ensures) (get (c9 .get-u649 .ensures) (get (c10 .get-u32 .ensures) (get (c11 .get-u322 .ensures) (get (c12 .get-u6410 .ensures) (get (c13 .get-u6411 .ensures) end)))))))))))))
-    (get (c14 .get-u6412 .ensures) (get (c15 .get-u6413 .ensures) (get (c16 .get-u323 .ensures) end)))
+    (get (c14 .get-u6412 .ensures) (get (c15 .get-u6413 .ensures) (get (c16 .get-u323 .ensures) (get (c17 .get-u6414 .ensures) end))))
 
 pub short-track-spec : {M : Type 1} → statement M
-short-track-spec = tie.close (tie.spec (λ c κs. tt) (λ c κs. tt) (λ c κs. tt) (λ c κs. tt) (λ c κs. tt) (λ c κs. tt) (λ c κs. tt) (λ c κs. tt) (λ c κs. tt) (λ c κs. tt) (λ c κs. tt) (λ c κs. tt) (λ c κs. tt) (λ c κs. tt) (λ c κs. tt) (λ c κs. tt) (λ c κs. tt) returns)
+short-track-spec = tie.close (tie.spec (λ c κs. tt) (λ c κs. tt) (λ c κs. tt) (λ c κs. tt) (λ c κs. tt) (λ c κs. tt) (λ c κs. tt) (λ c κs. tt) (λ c κs. tt) (λ c κs. tt) (λ c κs. tt) (λ c κs. tt) (λ c κs. tt) (λ c κs. tt) (λ c κs. tt) (λ c κs. tt) (λ c κs. tt) (λ c κs. tt) returns)

@@ -4,13 +4,13 @@ use mathlib.Core.Path.{sym, ap, _∙_, subst}
 use Prim.Native.Nat.{_+_, _≤_}
 use Rattle.turns.specs.Rules.{countedOf}
 use Rattle.turns.specs.Types.{Step}
-use Rattle.turns.specs.KeepLaws.{turns-left}
+use Rattle.turns.specs.KeepLaws.{turns-left, good-left}
 use Rattle.turns.specs.CaptureLaws.{keeps-room}
 use Rattle.turns.proofs.capture.caught_turn.Statement.{statement}
 use Rattle.turns.proofs.capture.caught_turn.Tie as tie
 
 turn-requires : tie.Need-turn-requires
-turn-requires c κs = let f = c .before .pre .0 in (f .placed, f .paced .within)
+turn-requires c κs = let f = c .before .pre .0 in (f .placed, f .paced .within, good-left _ f (c .before .pre .1))
 
 counted-requires : tie.Need-counted-requires
 counted-requires c κs = turns-left _ _ _ _ _ (c .turn .ensures) (c .before .before .pre .0) (c .before .before .pre .1)

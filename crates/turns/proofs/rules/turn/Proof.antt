@@ -2,7 +2,7 @@
 use borrow.Author.Needs.{needs}
 use native.Mathlib.Omega.{arith}
 use Rattle.turns.specs.ConsistentLaws.{few}
-use Rattle.turns.specs.DecisionLaws.{tail-stays}
+use Rattle.turns.specs.DecisionLaws.{tail-stays, good-stays}
 use Rattle.turns.specs.Rules.{turnOf}
 use Rattle.turns.proofs.rules.turn.Statement.{statement}
 use Rattle.turns.proofs.rules.turn.Tie as tie
@@ -11,7 +11,7 @@ submit-requires : tie.Need-submit-requires
 submit-requires c κs = let p = few _ (c .before .before .before .before .pre .0) in omega arith
 
 hear-requires : tie.Need-hear-requires
-hear-requires c κs = search (needs, tail-stays)
+hear-requires c κs = (search (needs, tail-stays), search (needs, good-stays))
 
 returns : tie.Need-returns
 unfolding turnOf

@@ -1,0 +1,17 @@
+-- Nothing, or one field. Assumes nothing.
+use borrow.Author.Needs.{needs}
+use mathlib.Core.List.{[]}
+use mathlib.Core.Path.{refl, ap}
+use Rattle.trace.specs.Trace.{sentThen}
+use Rattle.trace.specs.InkLaws.{size-none, size-one}
+use Rattle.trace.proofs.writer.sent_size.Statement.{statement}
+use Rattle.trace.proofs.writer.sent_size.Tie as tie
+
+returns : tie.Need-returns
+returns c = size-none 12 _ (ap (λ x. sentThen x []) (c .enum-told .given .1))
+
+returns-2 : tie.Need-returns-2
+returns-2 c = size-one 12 _ _ (ap (λ x. sentThen x []) (c .enum-told2 .given .1)) refl
+
+pub sent-size-spec : {M : Type 1} → statement M
+sent-size-spec = tie.close (tie.spec (λ c. search needs) (λ c. search needs) returns returns-2)
