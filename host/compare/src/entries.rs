@@ -35,6 +35,8 @@ pub trait Entries {
     fn xfer_start(&mut self, stream: u32, frames: &[u8], budget: u64, message: &mut [u8]) -> u64;
     fn offered(&self, frames: &[u8], result: &mut [u8]) -> u64;
     fn turn(&mut self, frames: &[u8], kind: u32, slot: u32, status: u32) -> u64;
+    fn xfer_start_traced(&mut self, stream: u32, frames: &[u8], budget: u64, room: &[u8], message: &mut [u8]) -> u64;
+    fn turn_traced(&mut self, frames: &[u8], room: &mut [u8], kind: u32, slot: u32, status: u32) -> u64;
     fn capture_start(&mut self, stream: u32, periods: u64, recording: &[u8], budget: u64, message: &mut [u8]) -> u64;
     fn capture_offered(&self, recording: &[u8], result: &mut [u8]) -> u64;
     fn capture_turn(&mut self, recording: &mut [u8], kind: u32, slot: u32, written: u32, bytes: &[u8]) -> u64;
@@ -49,6 +51,9 @@ pub trait Entries {
     fn notification(&self, event: &[u8], result: &mut [u8]) -> u64;
     fn config(&self, config: &[u8], version: u32, features: u64, result: &mut [u8]) -> u64;
     fn notification_in(&self, event: &[u8], version: u32, features: u64, result: &mut [u8]) -> u64;
+    /// What is said of a trace, and its offset: of no store.
+    fn trace_scan(trace: &[u8]) -> (u64, u64);
+    fn judge(mode: u32, trace: &[u8]) -> (u64, u64);
 
     fn model_new(&mut self, tables: [&[u8]; 3]) -> u64;
     fn model_control(&mut self, request: &[u8], page: &mut [u8], result: &mut [u8]) -> u64;

@@ -210,6 +210,36 @@ unsafe extern "C" {
         status: u32,
     ) -> u64;
     pub fn snd_drain_turn(ring: *mut u8, ring_len: usize, kind: u32, slot: u32, status: u32) -> u64;
+    pub fn snd_pcm_xfer_start_traced(
+        state: *mut u8,
+        state_len: usize,
+        ring: *mut u8,
+        ring_len: usize,
+        stream: u32,
+        frames: *const u8,
+        frames_len: usize,
+        budget: u64,
+        room: *const u8,
+        room_len: usize,
+        message: *mut u8,
+        message_len: usize,
+    ) -> u64;
+    pub fn snd_turn_traced(
+        ring: *mut u8,
+        ring_len: usize,
+        frames: *const u8,
+        frames_len: usize,
+        room: *mut u8,
+        room_len: usize,
+        kind: u32,
+        slot: u32,
+        status: u32,
+    ) -> u64;
+    pub fn snd_trace_length(ring: *const u8, ring_len: usize, result: *mut u8, result_len: usize) -> u64;
+    pub fn snd_trace_scan(trace: *const u8, trace_len: usize) -> u64;
+    pub fn snd_trace_scan_at(trace: *const u8, trace_len: usize) -> u64;
+    pub fn snd_judge(mode: u32, trace: *const u8, trace_len: usize) -> u64;
+    pub fn snd_judge_at(mode: u32, trace: *const u8, trace_len: usize) -> u64;
     pub fn snd_pcm_capture_start(
         state: *mut u8,
         state_len: usize,

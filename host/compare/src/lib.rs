@@ -20,6 +20,7 @@ pub mod short;
 pub mod shown;
 pub mod stages;
 pub mod text;
+pub mod traces;
 pub mod versions;
 pub mod waves;
 

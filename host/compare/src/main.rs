@@ -8,7 +8,7 @@ use compare::plain::Plain;
 use compare::port::Port;
 use compare::run::{Counts, With, report, run};
 use compare::waves::{self, Kinds};
-use compare::{captures, guarded, pending, raw, record, rust, short, shown, stages, versions};
+use compare::{captures, guarded, pending, raw, record, rust, short, shown, stages, traces, versions};
 use options::{Options, Run, Seeds, USAGE, options};
 use std::process::exit;
 use std::time::Instant;
@@ -22,7 +22,9 @@ const PENDING: Seeds = 1..=10_000;
 const CAPTURES: Seeds = 1..=10_000;
 const ENTRIES: Seeds = 1..=8_000;
 const WAVES: Seeds = 1..=200_000;
-/// From so many files on every kind of fault must have been seen.
+/// Each has one transfer that writes a trace, and five traces that it is changed to.
+const TRACES: Seeds = 1..=20_000;
+/// From so many files, or transfers, on every kind of fault must have been seen.
 const ENOUGH: u64 = 10_000;
 /// Entries in one sequence.
 const LENGTH: usize = 60;
@@ -46,14 +48,15 @@ fn main() {
         Run::Case(case) => finish(one(&case, with)),
         Run::Short => finish(short_cases(with)),
         Run::Differences => finish(shown::print() == 0),
-        Run::Random { cases, strict, guard, pending, captures, entries, waves } => {
+        Run::Random { cases, strict, guard, pending, captures, entries, waves, traces } => {
             let agreed = cases.is_none_or(|seeds| random_cases(with, seeds));
             let agreed = agreed && strict.is_none_or(|seeds| strict_cases(with, seeds));
             let agreed = agreed && guard.is_none_or(|seeds| guarded_cases(with, seeds));
             let agreed = agreed && pending.is_none_or(|seeds| pending_cases(with, seeds));
             let agreed = agreed && captures.is_none_or(|seeds| capture_cases(with, seeds));
             let agreed = agreed && entries.is_none_or(random_entries);
-            finish(agreed && waves.is_none_or(|seeds| random_waves(seeds) && large_waves()))
+            let agreed = agreed && waves.is_none_or(|seeds| random_waves(seeds) && large_waves());
+            finish(agreed && traces.is_none_or(random_traces))
         }
         Run::Gate { short } => finish(gate(with, short)),
     }
@@ -76,9 +79,10 @@ fn gate(with: With, short: bool) -> bool {
     let random = random && pending_cases(with, PENDING) && (!with.port || capture_cases(with, CAPTURES));
     let entries = !with.port || entries_by_stage() && random_entries(ENTRIES);
     let waves = !with.port || random_waves(WAVES) && large_waves();
+    let traces = !with.port || random_traces(TRACES) && every_byte_of_traces();
     let versions = !with.port || by_version();
     let recorded = !with.port || replay(RECORDED);
-    short && random && entries && waves && versions && recorded
+    short && random && entries && waves && traces && versions && recorded
 }
 
 fn told(name: &str, counts: &Counts, since: Instant) {
@@ -231,6 +235,36 @@ fn large_waves() -> bool {
     match &tried {
         Ok((count, Some(more))) => println!("large WAVE files: {count} of 64 MiB, {more} of about 4 GiB"),
         Ok((count, None)) => println!("large WAVE files: {count} of 64 MiB; there is no room for 4 GiB"),
+        Err(text) => println!("DIFFERENCE\n{text}"),
+    }
+    println!("  {:.1} s", since.elapsed().as_secs_f64());
+    tried.is_ok()
+}
+
+fn random_traces(seeds: Seeds) -> bool {
+    let (since, mut tally, first) = (Instant::now(), traces::Tally::default(), *seeds.start());
+    for seed in seeds {
+        if let Err(text) = traces::tried(seed, &mut tally) {
+            println!("DIFFERENCE\n{text}\nrepeat with --traces 1 --seed {seed}");
+            return false;
+        }
+    }
+    let traces::Tally { transfers, turns, ends, judged } = &tally;
+    println!("traces from seed {first}: {transfers} transfers that write one, {turns} turns, ended {ends:?}");
+    println!("  {} judged: {judged:?}", judged.values().sum::<u64>());
+    println!("  {:.1} s", since.elapsed().as_secs_f64());
+    let enough = *transfers < ENOUGH || tally.missing().is_empty();
+    if !enough {
+        println!("never seen: {:?}", tally.missing());
+    }
+    enough
+}
+
+fn every_byte_of_traces() -> bool {
+    let since = Instant::now();
+    let tried = traces::each_byte();
+    match &tried {
+        Ok(count) => println!("every byte of short traces, and long ones: {count} judged"),
         Err(text) => println!("DIFFERENCE\n{text}"),
     }
     println!("  {:.1} s", since.elapsed().as_secs_f64());

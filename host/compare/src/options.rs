@@ -14,6 +14,7 @@ compare --captures N --seed S the same of captures, the port against the rules
 compare --short              the short cases alone
 compare --entries N --seed S N sequences of single entries, the port against the rules
 compare --wav N --seed S     N random WAVE files read and N written, and large ones, the port against the rules
+compare --traces N --seed S  N transfers that write a trace, and the judge of what they wrote and of what it is changed to, the port against the rules
 compare --case TEXT          one case (src/text.rs)
 compare --record FILE        writes the recorded list; --check FILE fails where it would be another; --replay FILE holds the port to it
 compare --differences        the smallest input of each intended difference, run
@@ -25,7 +26,7 @@ pub enum Run {
         short: bool,
     },
     Short,
-    /// random cases, those of strict mode, those under the guard, those of what does not wait, those of captures, sequences of entries, and WAVE files, by their seeds
+    /// random cases, those of strict mode, those under the guard, those of what does not wait, those of captures, sequences of entries, WAVE files, and traces, by their seeds
     Random {
         cases: Option<Seeds>,
         strict: Option<Seeds>,
@@ -34,6 +35,7 @@ pub enum Run {
         captures: Option<Seeds>,
         entries: Option<Seeds>,
         waves: Option<Seeds>,
+        traces: Option<Seeds>,
     },
     Case(Case),
     Record(String),
@@ -50,7 +52,7 @@ pub struct Options {
 }
 
 const WORDS: [&str; 5] = ["--short", "--differences", "--no-port", "--no-rust", "--no-short"];
-const WITH_VALUE: [&str; 12] = [
+const WITH_VALUE: [&str; 13] = [
     "--cases",
     "--strict",
     "--guard",
@@ -58,6 +60,7 @@ const WITH_VALUE: [&str; 12] = [
     "--captures",
     "--entries",
     "--wav",
+    "--traces",
     "--seed",
     "--case",
     "--record",
@@ -65,7 +68,8 @@ const WITH_VALUE: [&str; 12] = [
     "--replay",
 ];
 /// These go together; of all others one at a time.
-const SEEDED: [&str; 7] = ["--cases", "--strict", "--guard", "--pending", "--captures", "--entries", "--wav"];
+const SEEDED: [&str; 8] =
+    ["--cases", "--strict", "--guard", "--pending", "--captures", "--entries", "--wav", "--traces"];
 const OTHERS: [&str; 6] = ["--short", "--differences", "--case", "--record", "--check", "--replay"];
 
 /// The options given, each with its value, if it takes one.
@@ -118,7 +122,10 @@ impl Given {
         let runs: Vec<&str> = OTHERS.into_iter().chain(SEEDED).filter(|name| self.has(name)).collect();
         let file = |name| self.value(name).unwrap_or_default().to_string();
         if self.has("--seed") && !SEEDED.iter().any(|name| self.has(name)) {
-            return Err("--seed goes with --cases, --strict, --guard, --pending, --captures, --entries or --wav".into());
+            return Err(
+                "--seed goes with --cases, --strict, --guard, --pending, --captures, --entries, --wav or --traces"
+                    .into(),
+            );
         }
         Ok(match runs[..] {
             [] => Run::Gate { short: !self.has("--no-short") },
@@ -136,6 +143,7 @@ impl Given {
                 captures: self.seeds("--captures")?,
                 entries: self.seeds("--entries")?,
                 waves: self.seeds("--wav")?,
+                traces: self.seeds("--traces")?,
             },
             _ => return Err(format!("{}: one of these at a time", runs.join(", "))),
         })
@@ -153,6 +161,7 @@ pub fn options(args: impl IntoIterator<Item = String>, rust_at_hand: bool) -> Re
         Run::Random { captures: Some(_), .. }
         | Run::Random { entries: Some(_), .. }
         | Run::Random { waves: Some(_), .. }
+        | Run::Random { traces: Some(_), .. }
         | Run::Replay(_)
             if !with.port =>
         {

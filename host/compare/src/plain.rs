@@ -99,6 +99,13 @@ impl Entries for Plain {
     fn turn(&mut self, frames: &[u8], kind: u32, slot: u32, status: u32) -> u64 {
         number(e::turn(self.ring_mut(), frames.len(), Reading::from_words(kind, slot, status)))
     }
+    fn xfer_start_traced(&mut self, stream: u32, frames: &[u8], budget: u64, room: &[u8], message: &mut [u8]) -> u64 {
+        let (state, ring) = self.state();
+        number(e::xfer_start_traced(state, ring, stream, frames.len(), budget, room.len(), message))
+    }
+    fn turn_traced(&mut self, frames: &[u8], room: &mut [u8], kind: u32, slot: u32, status: u32) -> u64 {
+        number(e::turn_traced(self.ring_mut(), frames.len(), room, Reading::from_words(kind, slot, status)))
+    }
     fn capture_start(&mut self, stream: u32, periods: u64, recording: &[u8], budget: u64, message: &mut [u8]) -> u64 {
         let (state, ring) = self.state();
         number(e::capture_start(state, ring, stream, periods, recording.len(), budget, message))
@@ -147,6 +154,12 @@ impl Entries for Plain {
     }
     fn notification_in(&self, event: &[u8], version: u32, features: u64, result: &mut [u8]) -> u64 {
         told(versions::notification(event, version, features, result.len()), result)
+    }
+    fn trace_scan(trace: &[u8]) -> (u64, u64) {
+        e::trace_scan(trace)
+    }
+    fn judge(mode: u32, trace: &[u8]) -> (u64, u64) {
+        e::judge(mode, trace)
     }
 
     fn model_new(&mut self, tables: [&[u8]; 3]) -> u64 {

@@ -143,6 +143,17 @@ impl Entries for Port {
         let ((r, rn), (f, fl)) = (lend!(mut self.ring[LEAD..][..self.lent.ring]), lend!(frames));
         unsafe { snd_turn(r, rn, f, fl, kind, slot, status) }
     }
+    fn xfer_start_traced(&mut self, stream: u32, frames: &[u8], budget: u64, room: &[u8], message: &mut [u8]) -> u64 {
+        let (s, sn) = lend!(mut self.state[LEAD..][..self.lent.state]);
+        let (r, rn) = lend!(mut self.ring[LEAD..][..self.lent.ring]);
+        let ((f, fl), (t, tn), (m, mn)) = (lend!(frames), lend!(room), lend!(mut message));
+        unsafe { snd_pcm_xfer_start_traced(s, sn, r, rn, stream, f, fl, budget, t, tn, m, mn) }
+    }
+    fn turn_traced(&mut self, frames: &[u8], room: &mut [u8], kind: u32, slot: u32, status: u32) -> u64 {
+        let ((r, rn), (f, fl)) = (lend!(mut self.ring[LEAD..][..self.lent.ring]), lend!(frames));
+        let (t, tn) = lend!(mut room);
+        unsafe { snd_turn_traced(r, rn, f, fl, t, tn, kind, slot, status) }
+    }
     fn capture_start(&mut self, stream: u32, periods: u64, recording: &[u8], budget: u64, message: &mut [u8]) -> u64 {
         let (s, sn) = lend!(mut self.state[LEAD..][..self.lent.state]);
         let (r, rn) = lend!(mut self.ring[LEAD..][..self.lent.ring]);
@@ -173,6 +184,7 @@ impl Entries for Port {
             Asked::Stream => snd_ring_stream,
             Asked::Oldest => snd_ring_oldest,
             Asked::Kept => snd_ring_kept,
+            Asked::TraceLength => snd_trace_length,
             Asked::Carried(slot) => return unsafe { snd_ring_carried(r, rn, slot, o, on) },
         };
         unsafe { entry(r, rn, o, on) }
@@ -217,6 +229,14 @@ impl Entries for Port {
     fn notification_in(&self, event: &[u8], version: u32, features: u64, result: &mut [u8]) -> u64 {
         let ((v, vn), (o, on)) = (lend!(event), lend!(mut result));
         unsafe { snd_latest_notification_in(v, vn, version, features, o, on) }
+    }
+    fn trace_scan(trace: &[u8]) -> (u64, u64) {
+        let (t, tn) = lend!(trace);
+        unsafe { (snd_trace_scan(t, tn), snd_trace_scan_at(t, tn)) }
+    }
+    fn judge(mode: u32, trace: &[u8]) -> (u64, u64) {
+        let (t, tn) = lend!(trace);
+        unsafe { (snd_judge(mode, t, tn), snd_judge_at(mode, t, tn)) }
     }
 
     fn model_new(&mut self, tables: [&[u8]; 3]) -> u64 {

@@ -8,10 +8,11 @@ use crate::plain::Plain;
 use crate::port::{LEAD, PAST, Port};
 use crate::random::STATUSES;
 use crate::stages;
-use rules::entries::{Asked, GUARD, LIVES, RESULT_SIZE, RING_RESERVED, STATE_RESERVED, TOKENS};
+use rules::entries::{Asked, GUARD, LIVES, RESULT_SIZE, STATE_RESERVED, TOKENS};
 use rules::pending::{PLACES, TOKEN_SIZE, Token, WAITS};
 use rules::ring::Way;
 use rules::sound::{Call, Params};
+use rules::trace::room_for;
 use rules::{FIT, MESSAGE, PAGE, wire};
 
 const FILL: u8 = 0x3c;
@@ -55,6 +56,19 @@ pub enum What {
     },
     Turn {
         frames: u32,
+        kind: u32,
+        slot: u32,
+        status: u32,
+    },
+    StartTraced {
+        stream: u32,
+        frames: u32,
+        budget: u64,
+        room: u32,
+    },
+    TurnTraced {
+        frames: u32,
+        room: u32,
         kind: u32,
         slot: u32,
         status: u32,
@@ -120,7 +134,7 @@ struct Left {
     number: u64,
     message: Vec<u8>,
     result: Vec<u8>,
-    /// a page, a transfer's answer, a recording, or the places of what does not wait
+    /// a page, a transfer's answer, a recording, the room of a trace, or the places of what does not wait
     other: Vec<u8>,
 }
 
@@ -153,6 +167,13 @@ fn enter<E: Entries>(e: &mut E, op: &Op) -> Left {
         What::Start { stream, frames: len, budget } => e.xfer_start(*stream, &frames(*len), *budget, m),
         What::Offered { frames: len } => e.offered(&frames(*len), o),
         What::Turn { frames: len, kind, slot, status } => e.turn(&frames(*len), *kind, *slot, *status),
+        What::StartTraced { stream, frames: len, budget, room } => {
+            e.xfer_start_traced(*stream, &frames(*len), *budget, &frames(*room), m)
+        }
+        What::TurnTraced { frames: len, room, kind, slot, status } => {
+            other = vec![FILL; *room as usize];
+            e.turn_traced(&frames(*len), &mut other, *kind, *slot, *status)
+        }
         What::CaptureStart { stream, periods, recording, budget } => {
             e.capture_start(*stream, *periods, &frames(*recording), *budget, m)
         }
@@ -201,8 +222,8 @@ fn keeps(what: &What, left: &Left, open: bool) -> bool {
         What::New(_) | What::NewGuarded(_) | What::RingNew | What::ModelNew(_) => number != 0,
         What::Call(_) => number < 256 && number != 0,
         What::Feed { .. } | What::FeedWritten { .. } | What::FeedFailure => number == 10 || (number == 1 && !open),
-        What::Start { .. } | What::CaptureStart { .. } => number < 256,
-        What::Turn { .. } | What::CaptureTurn { .. } => number == 1 || number == 10,
+        What::Start { .. } | What::StartTraced { .. } | What::CaptureStart { .. } => number < 256,
+        What::Turn { .. } | What::TurnTraced { .. } | What::CaptureTurn { .. } => number == 1 || number == 10,
         What::Drain { kind, .. } | What::Mark { kind, .. } => number != 0 || *kind == 0,
         What::Submit { .. } => number < 256 && number != 0,
         // 2 frees the place too
@@ -219,8 +240,9 @@ fn writes(what: &What) -> [bool; 3] {
     match what {
         What::New(_) | What::NewGuarded(_) => [true, false, false],
         What::Call(_) | What::Feed { .. } | What::FeedWritten { .. } | What::FeedFailure => [true, false, false],
-        What::RingNew | What::Turn { .. } | What::CaptureTurn { .. } | What::Drain { .. } => [false, true, false],
-        What::Start { .. } | What::CaptureStart { .. } => [true, true, false],
+        What::RingNew | What::Turn { .. } | What::Drain { .. } => [false, true, false],
+        What::TurnTraced { .. } | What::CaptureTurn { .. } => [false, true, false],
+        What::Start { .. } | What::StartTraced { .. } | What::CaptureStart { .. } => [true, true, false],
         What::Submit { .. } | What::Mark { .. } | What::Finish(_) => [true, false, false],
         What::ModelNew(_) | What::ModelControl { .. } | What::ModelTransfer { .. } => [false, false, true],
         _ => [false; 3],
@@ -247,9 +269,8 @@ fn stores(what: &What, left: &Left, open: bool, before: &Port, after: &Port) -> 
 /// What both readings know of a damaged store.
 #[derive(Copy, Clone, Debug)]
 pub enum Damage {
-    /// bits of a reserved byte, counted from the first
+    /// bits of a state's reserved byte, counted from the first
     State(usize, u8),
-    Ring(usize, u8),
     /// a stream's state becomes this
     Life(usize, u8),
     /// the guard is there where it was not, or the other way
@@ -283,10 +304,6 @@ impl Pair {
                 let bits = if at == 0 { bits & !GUARD } else { bits };
                 port.state[LEAD + STATE_RESERVED + at] |= bits;
                 rules.sound.reserved[at] |= bits;
-            }
-            Damage::Ring(at, bits) => {
-                port.ring[LEAD + RING_RESERVED + at] |= bits;
-                rules.ring.reserved[at] |= bits;
             }
             Damage::Life(stream, life) => {
                 port.state[LEAD + LIVES + stream] = life;
@@ -534,7 +551,14 @@ fn feed(rng: &mut Rng, guide: &Plain) -> What {
 fn start(rng: &mut Rng, guide: &Plain) -> What {
     let set: Vec<u32> = guide.sound.params.keys().copied().collect();
     let stream = if set.is_empty() || rng.one_in(5) { rng.below(4) as u32 } else { rng.pick(&set) };
-    What::Start { stream, frames: rng.below(60) as u32, budget: rng.pick(&[0, 1, 5, 30, 30, u64::MAX]) }
+    let (frames, budget) = (rng.below(60) as u32, rng.pick(&[0, 1, 5, 30, 30, u64::MAX]));
+    if rng.one_in(2) {
+        return What::Start { stream, frames, budget };
+    }
+    let period = guide.sound.params.get(&stream).map_or(3, |params| params.period.max(1));
+    let need = room_for(frames.into(), period.into()) as u32;
+    let room = if rng.one_in(8) { need - 1 - rng.below(3) as u32 } else { need + rng.pick(&[0, 0, 1, 20]) };
+    What::StartTraced { stream, frames, budget, room }
 }
 
 /// Mostly of an input that has parameters, with room for all periods.
@@ -572,7 +596,12 @@ fn turn(rng: &mut Rng, guide: &Plain) -> What {
     if (guide.ring.way == Way::Capture) != rng.one_in(12) {
         return capture_turn(rng, guide);
     }
-    What::Turn { frames: lent(rng, guide), kind, slot, status }
+    let (frames, right) = (lent(rng, guide), guide.ring.room as u32);
+    let room = if rng.one_in(12) { rng.pick(&[0, 1, right + 1, right.saturating_sub(1)]) } else { right };
+    if room > 0 || rng.one_in(4) {
+        return What::TurnTraced { frames, room, kind, slot, status };
+    }
+    What::Turn { frames, kind, slot, status }
 }
 
 /// A good length mostly, and as many bytes.
@@ -609,6 +638,7 @@ fn asked(rng: &mut Rng) -> Asked {
         Asked::Stream,
         Asked::Oldest,
         Asked::Kept,
+        Asked::TraceLength,
     ];
     if rng.one_in(3) { Asked::Carried(slot) } else { rng.pick(&plain) }
 }
@@ -682,7 +712,13 @@ pub fn sequence(seed: u64, length: usize) -> Result<(), (Vec<Op>, String)> {
 
 /// The beginning of a driver's life, so that sequences are not all of an empty device.
 fn begun(rng: &mut Rng) -> Vec<Op> {
-    let life = rng.pick(&[stages::life, stages::guarded_life, stages::pending_life, stages::capture_life])();
+    let life = rng.pick(&[
+        stages::life,
+        stages::guarded_life,
+        stages::pending_life,
+        stages::capture_life,
+        stages::traced_life,
+    ])();
     let length = rng.below(life.len() as u64 + 1) as usize;
     life.into_iter().take(length).map(stages::whole).collect()
 }

@@ -1,5 +1,5 @@
 //! Every entry at every stage of a driver's life, without the guard and with it, with each lent slice in turn empty, one short, right and one
-//! long, with each reserved byte in turn not 0, and with the guard and a stream's state in turn damaged: the port against the rules.
+//! long, with each reserved byte of the state in turn not 0, and with the guard and a stream's state in turn damaged: the port against the rules.
 use crate::captures::direction_at;
 use crate::case::{Body, Kind};
 use crate::entries::Lent;
@@ -80,6 +80,37 @@ pub fn capture_life() -> Vec<What> {
     all.extend([start(14, 2), quiet.clone(), quiet]);
     all.extend([0, 1].map(|slot| What::Drain { kind: 1, slot, status: 0 }));
     all.push(What::Start { stream: 0, frames: 10, budget: 5 });
+    all
+}
+
+fn traced(room: u32, kind: u32, slot: u32, status: u32) -> What {
+    What::TurnTraced { frames: 10, room, kind, slot, status }
+}
+
+/// Set up, then transfers that write a trace: to Ok, to 2 with a slot owed, and one that a host left in the midst.
+pub fn traced_life() -> Vec<What> {
+    let start = |room| What::StartTraced { stream: 0, frames: 10, budget: 9, room };
+    let mut all = life()[..8].to_vec();
+    all.extend([start(80), traced(80, 0, 0, 0)]);
+    all.extend((0..3).map(|slot| traced(80, 1, slot, wire::STATUS_OK)));
+    all.extend([traced(80, 0, 0, 0), start(79), traced(79, 0, 0, 0), traced(79, 1, 0, 0x8003)]);
+    all.extend([What::Drain { kind: 1, slot: 1, status: 0 }, start(81), traced(81, 1, 0, wire::STATUS_OK)]);
+    all
+}
+
+/// Traced starts and turns of rooms around 79 and 80 bytes.
+fn traces() -> Vec<What> {
+    let mut all = vec![What::Read(Asked::TraceLength)];
+    for (stream, frames, budget, room) in
+        [(0, 10, 5, 79), (0, 10, 5, 78), (0, 10, 0, 0), (0, 0, 5, 19), (0, 0, 5, 18), (1, 10, 5, 0), (2, 10, 5, 99)]
+    {
+        all.push(What::StartTraced { stream, frames, budget, room });
+    }
+    for room in [0, 78, 79, 80, 81] {
+        all.push(traced(room, 0, 0, 0));
+        all.extend((0..3).map(|slot| traced(room, 1, slot, wire::STATUS_OK)));
+        all.push(What::TurnTraced { frames: 9, room, kind: 1, slot: 0, status: 0x8003 });
+    }
     all
 }
 
@@ -225,11 +256,10 @@ fn lengths(what: &What) -> Vec<Op> {
     all
 }
 
-/// Each reserved byte with one bit of it set, beside the guard with each; the guard, and states of the first stream.
+/// Each reserved byte of the state with one bit of it set, beside the guard with each; the guard, and states of the first stream.
 fn damages() -> Vec<Damage> {
     let bit = |at: usize| 1 << (at % 8);
-    let mut all: Vec<Damage> = (0..RESERVED).map(|at| Damage::Ring(at, bit(at))).collect();
-    all.extend((1..RESERVED).map(|at| Damage::State(at, bit(at))));
+    let mut all: Vec<Damage> = (1..RESERVED).map(|at| Damage::State(at, bit(at))).collect();
     all.extend((1..8).map(|at| Damage::State(0, bit(at))));
     all.extend([0, 1, 2, 3, 4, 5, 255].map(|life| Damage::Life(0, life)));
     all.push(Damage::Guard);
@@ -244,18 +274,19 @@ pub fn all() -> Result<u64, String> {
     let all = |_: usize| true;
     let lives = along(life(), "life", all)? + along(guarded_life(), "guarded_life", all)?;
     let captures = along(capture_life(), "capture_life", |at| at >= CAPTURES_FROM)?;
+    let lives = lives + along(traced_life(), "traced_life", |at| at >= CAPTURES_FROM)?;
     Ok(lives + captures + along(pending_life(), "pending_life", |at| PENDING_STAGES.contains(&at))?)
 }
 
 /// Of the third, where one token is out, where one is marked, where all are out, where all are marked, and where a transfer runs again.
 const PENDING_STAGES: [usize; 5] = [8, 10, 26, 42, 59];
 
-/// Of the one of captures, from the first of them on.
+/// Of those of captures and of traces, from the first of them on.
 const CAPTURES_FROM: usize = 8;
 
 /// Tries every entry at those stages of a life that are looked at.
 fn along(life: Vec<What>, name: &str, looked: impl Fn(usize) -> bool) -> Result<u64, String> {
-    let whats = [calls(), rings(), captures(), pendings(), others()].concat();
+    let whats = [calls(), rings(), traces(), captures(), pendings(), others()].concat();
     let mut count = 0;
     let mut pair = Pair::new();
     for (at, step) in life.into_iter().enumerate() {

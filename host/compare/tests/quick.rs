@@ -1,7 +1,8 @@
 //! The comparison in small, for `cargo test`; the gate's run is the program's own.
 use compare::run::{Counts, With, report, run};
 use compare::{
-    captures, guarded, judge::Intended, pending, random, raw, record, rust, short, shown, stages, text, versions, waves,
+    captures, guarded, judge::Intended, pending, random, raw, record, rust, short, shown, stages, text, traces,
+    versions, waves,
 };
 
 const WITH: With = With { rust: oracle::AT_HAND, port: true };
@@ -70,6 +71,16 @@ fn waves_agree() {
         assert_eq!(tried.err(), None, "compare --wav 1 --seed {seed}");
     }
     assert_eq!(kinds.missing(), []);
+}
+
+#[test]
+fn traces_agree() {
+    let mut tally = traces::Tally::default();
+    for seed in 0..1000 {
+        let tried = traces::tried(seed, &mut tally);
+        assert_eq!(tried.err(), None, "compare --traces 1 --seed {seed}");
+    }
+    assert_eq!(tally.missing(), Vec::<String>::new());
 }
 
 #[test]

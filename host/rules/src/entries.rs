@@ -6,13 +6,13 @@ use crate::event::{Event, latest_notification};
 use crate::model::Model;
 use crate::ring::{Reading, Ring, Turn};
 use crate::sound::{Call, Fed, Say, Sound, Value};
+use crate::trace::Fault;
 use crate::*;
 
 pub const STATE_SIZE: usize = 14703;
-pub const RING_SIZE: usize = 628;
-/// Where the reserved bytes of a state's and of a ring's store stand.
+pub const RING_SIZE: usize = 636;
+/// Where the reserved bytes of a state's store stand.
 pub const STATE_RESERVED: usize = 48;
-pub const RING_RESERVED: usize = 80;
 /// The bit of the first that is the guard, and where the streams' states stand.
 pub const GUARD: u8 = 1;
 pub const LIVES: usize = 14320;
@@ -126,6 +126,23 @@ pub fn xfer_start(
     Ok(said(say, &mut []))
 }
 
+/// The room's length is not among the first: it is "last before the first turn".
+pub fn xfer_start_traced(
+    state: Store<&mut Sound>,
+    ring: Store<&mut Ring>,
+    stream: u32,
+    frames_len: usize,
+    budget: u64,
+    room_len: usize,
+    message: &mut [u8],
+) -> Answer {
+    let stores = state.len >= STATE_SIZE && ring.len >= RING_SIZE;
+    lengths(stores && message.len() >= MESSAGE)?;
+    let (state, ring) = (state.known()?, ring.known()?);
+    let say = state.xfer_start_traced(ring, stream, frames_len as u64, budget, room_len as u64, message);
+    Ok(said(say, &mut []))
+}
+
 /// The recording's length is not among the first: it is "the last check before the first turn".
 pub fn capture_start(
     state: Store<&mut Sound>,
@@ -199,8 +216,12 @@ pub fn offered(ring: Store<&Ring>, frames_len: usize, result: &mut [u8]) -> Answ
 }
 
 pub fn turn(ring: Store<&mut Ring>, frames_len: usize, reading: Reading) -> Answer {
+    turn_traced(ring, frames_len, &mut [], reading)
+}
+
+pub fn turn_traced(ring: Store<&mut Ring>, frames_len: usize, room: &mut [u8], reading: Reading) -> Answer {
     lengths(ring.len >= RING_SIZE)?;
-    match ring.known()?.turn(frames_len as u64, reading) {
+    match ring.known()?.turn_traced(frames_len as u64, room, reading) {
         Turn::Going => Ok(GOING),
         Turn::Ended(said) => Ok(said.answer()),
     }
@@ -238,6 +259,7 @@ pub enum Asked {
     Carried(usize),
     Oldest,
     Kept,
+    TraceLength,
 }
 
 pub fn ring_read(ring: Store<&Ring>, asked: Asked, result: &mut [u8]) -> Answer {
@@ -253,6 +275,7 @@ pub fn ring_read(ring: Store<&Ring>, asked: Asked, result: &mut [u8]) -> Answer 
         Asked::TurnsRun => put(result, &[ring.turns]),
         Asked::Stream => put(result, &[ring.stream as u64]),
         Asked::Kept => put(result, &[ring.kept]),
+        Asked::TraceLength => put(result, &[ring.traced]),
         Asked::Oldest => put(result, &[ring.oldest().is_some() as u64, ring.oldest().unwrap_or(0)]),
         Asked::Carried(slot) => match ring.slots.get(slot) {
             None => return Err(INVALID_PARAM as u64),
@@ -286,6 +309,20 @@ pub fn wav_read(file: &[u8], result: &mut [u8]) -> Answer {
 pub fn wav_write(channels: u8, format: u8, rate: u8, frames: &[u8], file: &mut [u8]) -> Answer {
     wave::write(channels, format, rate, frames, file).map_err(|why| why.number() as u64)?;
     Ok(OK as u64)
+}
+
+/// What is said of a trace, and its offset: 0 where there is nothing against it.
+fn told(judged: Result<(), Fault>) -> (u64, u64) {
+    judged.map_or_else(|fault| (fault.number.into(), fault.at as u64), |()| (OK.into(), 0))
+}
+
+/// A trace is of any length; its offset is an answer of its own.
+pub fn trace_scan(trace: &[u8]) -> (u64, u64) {
+    told(trace::scan(trace).map(|_| ()))
+}
+
+pub fn judge(mode: u32, trace: &[u8]) -> (u64, u64) {
+    told(trace::judge_in(mode, trace))
 }
 
 pub fn model_control(model: Store<&mut Model>, request: &[u8], page: &mut [u8], result: &mut [u8]) -> Answer {

@@ -2,7 +2,8 @@
 //! it leaves open) and from nothing else. The port and the Rust driver are both held to it by `compare`.
 //! Of document 02 these requests are read here too: 2026-01, feeds that carry the length the device wrote; 2026-02, the guard
 //! over a stream's lifecycle; 2026-03, announcements from WAV; 2026-05, the device's status in 2 and 3;
-//! 2026-06, submissions that do not wait; 2026-08, VirtIO 1.3 beside 1.2; 2026-09, microphones.
+//! 2026-06, submissions that do not wait; 2026-08, VirtIO 1.3 beside 1.2; 2026-09, microphones;
+//! 2026-11, traces of transfers and their judge.
 //!
 //! Clarity before speed: tables are vectors, refusals are numbers.
 
@@ -15,6 +16,7 @@ pub mod pending;
 pub mod ring;
 pub mod sound;
 pub mod status;
+pub mod trace;
 pub mod versions;
 pub mod wave;
 pub mod wire;
@@ -43,13 +45,15 @@ pub const FULL: u8 = 15;
 pub const NOT_YET: u8 = 16;
 /// Of captures only: a written length under 8 or above period plus 8.
 pub const BAD_CAPTURE: u8 = 17;
+/// Of traces only: no tagged fields; fields that no run writes.
+pub const BAD_TRACE: u8 = 18;
+pub const NOT_A_RUN: u8 = 19;
 
 /// The answer page.
 pub const PAGE: usize = 4096;
 /// The least room for a control message, whatever the call sends.
 pub const MESSAGE: usize = 24;
-/// Bytes of a state and of a ring that are reserved: a store in which one is not 0 is inconsistent. The first of a state's has the guard
-/// in its lowest bit.
+/// Bytes of a state that are reserved: a store in which one is not 0 is inconsistent. The first of them has the guard in its lowest bit.
 pub const RESERVED: usize = 16;
 /// A page holds this many jacks, streams, channel maps.
 pub const FIT: [u32; 3] = [170, 127, 170];

@@ -1,7 +1,7 @@
 //! Turns of a transfer, of either way.
 
-use crate::status::{Status, Verdict};
-use crate::{BAD_LENGTH, BUSY, INVALID_PARAM, OUT_OF_TURNS, RESERVED, WRONG_TOKEN};
+use crate::status::Verdict;
+use crate::{BAD_LENGTH, BUSY, INVALID_PARAM, OUT_OF_TURNS, WRONG_TOKEN};
 
 pub const SLOTS: usize = 32;
 /// Descriptors of one submission, and the least room for one.
@@ -26,6 +26,10 @@ pub struct Ring {
     pub lent: u64,
     /// the accepted bytes of a recording
     pub kept: u64,
+    /// how long the room for a trace was at the start: 0 where the transfer writes none
+    pub room: u64,
+    /// the bytes of the trace so far
+    pub traced: u64,
     pub period: u64,
     pub budget: u64,
     pub turns: u64,
@@ -36,7 +40,6 @@ pub struct Ring {
     pub in_flight: u64,
     /// what each slot carries or carried: offset, length
     pub slots: [(u64, u64); SLOTS],
-    pub reserved: [u8; RESERVED],
 }
 
 /// What a turn saw.
@@ -86,6 +89,8 @@ impl Default for Ring {
             frames_len: 0,
             lent: 0,
             kept: 0,
+            room: 0,
+            traced: 0,
             period: 0,
             budget: 0,
             turns: 0,
@@ -94,7 +99,6 @@ impl Default for Ring {
             tail: 0,
             in_flight: 0,
             slots: [(0, 0); SLOTS],
-            reserved: [0; RESERVED],
         }
     }
 }
@@ -104,7 +108,6 @@ impl Ring {
         let slots = SLOTS as u64;
         let small = self.head < slots && self.tail < slots && self.in_flight <= slots / PER;
         small
-            && self.reserved == [0; RESERVED]
             && self.head == (self.tail + self.in_flight) % slots
             && self.next <= self.frames_len
             && self.kept <= self.lent
@@ -185,13 +188,7 @@ impl Ring {
     }
 
     pub fn turn(&mut self, frames_len: u64, reading: Reading) -> Turn {
-        if let Some(number) = self.bars(Way::Playback, frames_len) {
-            return Turn::ended(number);
-        }
-        match reading {
-            Reading::Quiet => self.ruled(None, |_| Ok(())),
-            Reading::Completed { slot, status } => self.ruled(Some(slot), |_| Status::read(status).judged()),
-        }
+        self.turn_traced(frames_len, &mut [], reading)
     }
 
     /// The rules of one turn of either way: "turn order, ring and budget are playback's, by one shared statement". The judgement of a

@@ -308,7 +308,7 @@ fn ruling_2_the_order_of_refusals() {
     let faults: [Fault; 13] = [
         (BAD_LENGTH, |desk| desk.message.truncate(23)),
         (INVALID_PARAM, |desk| desk.sound.reserved[3] = 1),
-        (INVALID_PARAM, |desk| desk.ring.reserved[3] = 1),
+        (INVALID_PARAM, |desk| desk.ring.tail = 32),
         (INVALID_PARAM, |desk| desk.ring.kept = 1),
         (INVALID_PARAM, |desk| _ = desk.sound.params.insert(1, Params { period: 5, ..PARAMS })),
         (BUSY, |desk| (desk.ring.head, desk.ring.in_flight) = (1, 1)),

@@ -98,7 +98,7 @@ const FIRST: [Fault; 12] = [
     ("message", |d| d.message.truncate(23), 10),
     ("result", |d| d.result.truncate(RESULT_SIZE - 1), 10),
     ("state", |d| d.sound.reserved[3] = 1, 1),
-    ("ring", |d| d.ring.reserved[3] = 1, 1),
+    ("ring", |d| d.ring.kept = 9, 1),
     ("format", |d| own_params(d, Params { format: 25, ..PARAMS }), 1),
     ("period", |d| own_params(d, Params { buffer: 13, ..PARAMS }), 1),
     ("exchange open", exchange, 8),
@@ -135,11 +135,11 @@ fn exchange(desk: &mut Desk) {
 
 /// A transfer ended with its slot in flight.
 fn owes(desk: &mut Desk) {
-    let reserved = desk.ring.reserved;
+    let kept = desk.ring.kept;
     desk.ring = Ring::default();
     assert_eq!(desk.ring.start(0, 8, 4, 1), Turn::Going);
     assert_eq!(desk.ring.turn(8, Reading::Quiet), Turn::ended(9));
-    desk.ring.reserved = reserved;
+    desk.ring.kept = kept;
 }
 
 /// As a new state is: no tables, no parameters.
