@@ -2,7 +2,7 @@
  * which makes a call and gives its answer; all that calls may change stands in `s`. A call's arguments may be evaluated more than once. */
 #include "snd.h"
 
-enum { JACKS = 3, STREAMS = 2, MAPS = 1, FRAMES = 40000, PERIOD = 48, RECORDED = 12 };
+enum { JACKS = 3, STREAMS = 2, MAPS = 1, FRAMES = 40000, PERIOD = 48, RECORDED = 12, TRACED = 150 };
 
 /* Everything that a call may change. */
 struct stores {
@@ -11,6 +11,7 @@ struct stores {
     uint8_t page[SND_PAGE_SIZE], model[SND_MODEL_SIZE], status[8], file[64];
     uint8_t places[SND_PLACES * (4 + PERIOD) + 5];
     uint8_t recording[RECORDED * PERIOD + 3];
+    uint8_t room[19 + 20 * 4 + 3]; /* for the trace of four periods */
 };
 
 static struct stores s;
@@ -25,6 +26,7 @@ static uint8_t frames[FRAMES];
 #define WAVE s.file, sizeof s.file
 #define PLACES s.places, sizeof s.places
 #define RECORDING s.recording, sizeof s.recording
+#define ROOM s.room, sizeof s.room
 
 /* Hands each request to the model device and feeds its answer, until the call says something else. */
 static uint64_t answered(uint64_t said) {
@@ -204,6 +206,49 @@ static void record(void) {
     CALL(snd_capture_turn, RING, RECORDING, 0, 0, 0, frames, 0); /* nothing runs */
 }
 
+/* What is said of the trace in so many bytes of the room. */
+static void judged(uint64_t length) {
+    CALL(snd_trace_scan, s.room, length);
+    CALL(snd_trace_scan_at, s.room, length);
+    CALL(snd_judge, 3, s.room, length);
+    CALL(snd_judge_at, 3, s.room, length);
+}
+
+/* A transfer of four periods that writes a trace, quiet in its first turn. */
+static void traced(uint64_t budget, uint32_t slot, uint32_t status) {
+    uint64_t length, said = CALL(snd_pcm_xfer_start_traced, STATE, RING, 0, frames, TRACED, budget, ROOM, MESSAGE);
+    for (uint32_t turn = 0; SND_NUMBER(said) == SND_GOING; turn++)
+        said = CALL(snd_turn_traced, RING, frames, TRACED, ROOM, turn > 0, turn > 2 ? slot : turn - 1, turn > 2 ? status : 0x8000);
+    CALL(snd_trace_length, RING, RESULT);
+    memcpy(&length, s.result, 8);
+    judged(length);
+    for (int i = 0; i < 4; i++) {
+        uint64_t oldest;
+        CALL(snd_ring_oldest, RING, RESULT);
+        memcpy(&oldest, s.result + 8, 8);
+        CALL(snd_drain_turn, RING, 1, oldest, 0x8000);
+    }
+}
+
+/* Traces of each end, and each way to be refused. The parameters are those of what does not wait. */
+static void traces(void) {
+    traced(0, 2, 0x8000);
+    traced(4, 2, 0x8000); /* OutOfTurns */
+    traced(9, 2, 0x8003); /* the device failed it */
+    traced(9, 9, 0x8000); /* another slot */
+    judged(15);                     /* it ends early */
+    judged(17);                     /* cut */
+    CALL(snd_judge, 2, s.room, 15); /* no mode */
+    CALL(snd_pcm_xfer_start_traced, STATE, RING, 0, frames, TRACED, 9, s.room, 19 + 20 * 4 - 1, MESSAGE); /* no room */
+    CALL(snd_pcm_xfer_start_traced, STATE, RING, 0, frames, 0, 9, ROOM, MESSAGE);
+    CALL(snd_turn, RING, frames, 0, 0, 0, 0);                   /* another room */
+    CALL(snd_turn_traced, RING, frames, 0, s.room, 9, 0, 0, 0); /* another room */
+    CALL(snd_turn_traced, RING, frames, 0, ROOM, 0, 0, 0);      /* done */
+    CALL(snd_turn_traced, RING, frames, 0, ROOM, 0, 0, 0);      /* nothing runs */
+    s.room[18] = 6;
+    judged(19); /* no run has this answer */
+}
+
 static void strict(void) {
     CALL(snd_new, STATE, JACKS, STREAMS, MAPS);
     answered_in(4, CALL(snd_jack_remap, STATE, RING, 0, 1, 2, MESSAGE, RESULT)); /* headers alone: no jacks, and Short for the streams */
@@ -291,6 +336,7 @@ static void session(void) {
     transfer(100, 7);
     transfer(5, ~0u);
     go_on();
+    traces();
     record();
     others();
     guarded();

@@ -49,7 +49,7 @@ static struct entry {
     const char *name;
     uint32_t calls, points, wrong;
     uint64_t first; /* where the interrupt came that led to the first wrong outcome */
-} entries[64], *entry;
+} entries[80], *entry;
 
 static struct stores before, calm; /* the stores before the call, and what it leaves undisturbed */
 static enum { UNDISTURBED, SWEEPING, SWEPT } stage;

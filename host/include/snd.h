@@ -1,15 +1,15 @@
 /* The driver's C entries. docs/BOUNDARY.md says what each answers and writes.
  *
  * Every entry answers one number: the answer's own in its low 32 bits, SND_NUMBER. 0 to 10 are
- * document 01's answers, 11 to 17 are document 02's; a request of n bytes to send is SND_SEND + n; a turn
+ * document 01's answers, 11 to 19 are document 02's; a request of n bytes to send is SND_SEND + n; a turn
  * that goes on is SND_GOING; an event that says nothing is SND_NOTHING. Of 2 and 3 the high 32 bits,
  * SND_STATUS, are the status by which the device refused, or SND_NO_STATUS; of every other answer 0.
  *
  * A slice is a pointer and a length; an empty one may have any pointer but NULL. Slices that are
  * written must not overlap any other. Any bytes at all are safe to pass: a store that is too short
  * is refused with 10, one that is inconsistent with 1, and a refusal leaves every lent byte as it
- * was, but for what the documents name: 2, 6 and 9 end a transfer, as 17 does a capture, which keeps
- * what it had accepted before; and a feed ends its exchange.
+ * was, but for what the documents name: 2, 6 and 9 end a transfer, which keeps its trace, as 17 does a
+ * capture, which keeps what it had accepted before; and a feed ends its exchange.
  * Numbers in results are least byte first.
  *
  * The caller's duties, which no entry can test: as many bytes as a length says are there, at most
@@ -32,7 +32,7 @@ extern "C" {
 /* The version of this header and of the archive beside it: docs/BOUNDARY.md says when it changes.
  * As one number it can be compared by #if. */
 #define SND_VERSION_MAJOR 0u
-#define SND_VERSION_MINOR 8u
+#define SND_VERSION_MINOR 9u
 #define SND_VERSION_PATCH 0u
 #define SND_VERSION (SND_VERSION_MAJOR * 1000000u + SND_VERSION_MINOR * 1000u + SND_VERSION_PATCH)
 
@@ -54,6 +54,8 @@ extern "C" {
 #define SND_FULL 15u
 #define SND_NOT_YET 16u
 #define SND_BAD_CAPTURE 17u
+#define SND_BAD_TRACE 18u
+#define SND_NOT_A_RUN 19u
 #define SND_SEND 256u
 #define SND_GOING 512u
 #define SND_NOTHING 513u
@@ -69,7 +71,7 @@ extern "C" {
 
 /* Sizes of the stores and buffers, the same as the entries below hand out. */
 #define SND_STATE_SIZE 14703u
-#define SND_RING_SIZE 628u
+#define SND_RING_SIZE 636u
 #define SND_MESSAGE_SIZE 24u
 #define SND_RESULT_SIZE 512u
 #define SND_PAGE_SIZE 4096u
@@ -165,6 +167,43 @@ uint64_t snd_offered(const uint8_t *ring, size_t ring_len, const uint8_t *frames
 uint64_t snd_turn(uint8_t *ring, size_t ring_len, const uint8_t *frames, size_t frames_len,
                   uint32_t kind, uint32_t slot, uint32_t status);
 uint64_t snd_drain_turn(uint8_t *ring, size_t ring_len, uint32_t kind, uint32_t slot, uint32_t status);
+
+/* A transfer that writes a trace: what was submitted, what came back, how it ended, as tagged fields.
+ * docs/TRACE.md has their form.
+ *
+ * The start takes of the room only its length, which is then that of every turn, and writes nothing
+ * there. It answers as snd_pcm_xfer_start, and after all that, 9 for a budget of 0 among it, 10: frames
+ * of 2^32 bytes or more, or a room under 19 + 20n bytes for n periods.
+ *
+ * A turn is as snd_turn, and writes its fields behind those of the turns before; the first one writes
+ * the start before its own. 10 frames or a room that are not as long as at the start; 1 no playback
+ * runs, or no traced start left this ring: its numbers do not fit the fields, or no room is left behind
+ * what is written; neither counts, and neither writes. snd_turn is the turn with an empty room: it is 10
+ * on a transfer that was started so, as this one with a room is on any other. No byte of the room behind
+ * the trace changes; a drain turn writes nothing.
+ *
+ * How long the trace is, also after the end: result, 8 bytes; 0 where no turn ran or none is written. */
+uint64_t snd_pcm_xfer_start_traced(uint8_t *state, size_t state_len, uint8_t *ring, size_t ring_len, uint32_t stream,
+                                   const uint8_t *frames, size_t frames_len, uint64_t budget,
+                                   const uint8_t *room, size_t room_len, uint8_t *message, size_t message_len);
+uint64_t snd_turn_traced(uint8_t *ring, size_t ring_len, const uint8_t *frames, size_t frames_len,
+                         uint8_t *room, size_t room_len, uint32_t kind, uint32_t slot, uint32_t status);
+uint64_t snd_trace_length(const uint8_t *ring, size_t ring_len, uint8_t *result, size_t result_len);
+
+/* A trace, anyone's, of any length. They use no store and write nothing.
+ *
+ * snd_trace_scan: 0, or 18 where it is empty, or a field of it has an unknown tag, a wrong length or is
+ * cut. snd_judge: 0 exactly where some readings and some budget make the turns write that very trace;
+ * 1 a mode that is none: the mode is how many descriptors a submission takes, 3; then 18, over the whole
+ * trace; then 19.
+ *
+ * The two that end in _at answer the offset of the other's refusal, and 0 where it has none, as it is:
+ * of 18 that of the field, 0 of an empty trace; of 19 that of the first byte through which no run's
+ * trace agrees, or the length where the trace only ends early. */
+uint64_t snd_trace_scan(const uint8_t *trace, size_t trace_len);
+uint64_t snd_trace_scan_at(const uint8_t *trace, size_t trace_len);
+uint64_t snd_judge(uint32_t mode, const uint8_t *trace, size_t trace_len);
+uint64_t snd_judge_at(uint32_t mode, const uint8_t *trace, size_t trace_len);
 
 /* A capture: a transfer that goes the other way, on a stream of direction 1. Its ring, turn order and
  * budget are a playback's, and drain turns and reads are the same; a playback's turn or offer on a

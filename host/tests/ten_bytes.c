@@ -1,6 +1,6 @@
 /*
  * A host in C: sets the driver up against the model device and plays an announcement of ten bytes in periods of four; then the device
- * refuses; then a microphone is recorded. Prints what it was sent, what it accepted and what it said; the test beside host/snd compares that with the text it expects.
+ * refuses; then a microphone is recorded; then an announcement that fails writes a trace, which is judged. Prints what it was sent, what it accepted and what it said; the test beside host/snd compares that with the text it expects.
  */
 #include <stdio.h>
 #include <stdlib.h>
@@ -164,6 +164,29 @@ static void record(void)
 	recorded(recording, sizeof recording, heard(recording, sizeof recording, "five", PERIOD + 9));
 }
 
+/* The same announcement, whose second period fails, writes a trace; with another answer at its end no run would. */
+static void traced(void)
+{
+	uint8_t room[19 + 20 * 3];
+	uint64_t answer;
+	size_t length;
+
+	answer = snd_pcm_xfer_start_traced(state, sizeof state, ring, sizeof ring, STREAM, frames, sizeof frames, BUDGET, room, sizeof room,
+					   message, sizeof message);
+	want("traced start", answer, SND_GOING);
+	answer = snd_turn_traced(ring, sizeof ring, frames, sizeof frames, room, sizeof room, 1, 0, 0x8000);
+	want("traced turn", answer, SND_GOING);
+	answer = snd_turn_traced(ring, sizeof ring, frames, sizeof frames, room, sizeof room, 1, 1, 0x8003);
+	printf("traced: -> %s\n", named(answer));
+	want("trace", snd_trace_length(ring, sizeof ring, result, sizeof result), SND_OK);
+	length = (size_t)number_at(0);
+	want("judge", snd_judge(3, room, length), SND_OK);
+	room[length - 1] = SND_OK;
+	printf("judged: %s at %llu of %zu bytes\n", named(snd_judge(3, room, length)), (unsigned long long)snd_judge_at(3, room, length), length);
+	want("scan", snd_trace_scan(room, length - 1), SND_BAD_TRACE);
+	printf("scanned: %llu\n", (unsigned long long)snd_trace_scan_at(room, length - 1));
+}
+
 int main(void)
 {
 	static const uint8_t event[8] = { 2, 16 };
@@ -190,5 +213,6 @@ int main(void)
 	refused(0);
 	printf("event: -> %s\n", named(snd_latest_notification(event, sizeof event, result, sizeof result)));
 	record();
+	traced();
 	return 0;
 }

@@ -54,6 +54,9 @@ other on one device that is set up once: a page for each, and a closing line.
   --wav FILE         write the same as a WAVE file, in whole frames: play it
   --log FILE         write one JSON object: the page's facts, every period
   --picture FILE     write a timeline of the transfer, an SVG
+  --trace FILE       write the trace of the transfer, of one announcement: what was
+                     submitted, what came back, how it ended; judge reads it. One
+                     that ran no turn has an empty trace
   -h, --help         this text
 
 --name=value is --name value, and -- ends the options. With several FILEs the

@@ -111,6 +111,9 @@ fn write_outputs(options: &Options, reports: &[Report], built: Built, status: u8
     if let Some(file) = &options.picture {
         write(file, picture::of(reports).as_bytes())?;
     }
+    if let (Some(file), Some(only)) = (&options.trace, reports.first()) {
+        write(file, &only.told.trace)?;
+    }
     Ok(())
 }
 

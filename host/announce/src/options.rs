@@ -90,6 +90,8 @@ pub struct Options {
     pub wav: Option<PathBuf>,
     pub log: Option<PathBuf>,
     pub picture: Option<PathBuf>,
+    /// Where to write the trace of the transfer.
+    pub trace: Option<PathBuf>,
 }
 
 impl Options {
@@ -123,6 +125,7 @@ impl Options {
             wav: None,
             log: None,
             picture: None,
+            trace: None,
         }
     }
 
@@ -148,6 +151,7 @@ impl Options {
             ("--wav", &self.wav),
             ("--log", &self.log),
             ("--picture", &self.picture),
+            ("--trace", &self.trace),
             ("--record", &self.record),
         ];
         all.into_iter()
@@ -205,6 +209,9 @@ pub fn parse(words: &[OsString]) -> Result<Asked, String> {
         }
         sizes::places(options.period)?;
     }
+    if options.trace.is_some() {
+        traced(&options)?;
+    }
     if options.join && options.sources.len() < 2 {
         return Err("--join joins two FILEs or more".into());
     }
@@ -213,6 +220,17 @@ pub fn parse(words: &[OsString]) -> Result<Asked, String> {
         options.sources.push(Source::Tone);
     }
     Ok(Asked::Run(Box::new(options)))
+}
+
+/// A trace is of one transfer.
+fn traced(options: &Options) -> Result<(), String> {
+    if options.go_on {
+        return Err("--trace goes with a transfer: what does not wait has no turns to write it".into());
+    }
+    if options.sources.len() > 1 && !options.join {
+        return Err("--trace writes the trace of one announcement: name one FILE, or join them with --join".into());
+    }
+    Ok(())
 }
 
 /// What a recording takes of the options for announcements, and what it has alone.
@@ -305,6 +323,7 @@ fn take<'w>(
         "--wav" => options.wav = Some(output(name, value()?)?),
         "--log" => options.log = Some(output(name, value()?)?),
         "--picture" => options.picture = Some(output(name, value()?)?),
+        "--trace" => options.trace = Some(output(name, value()?)?),
         _ => return Err(format!("unknown option {name}; see --help")),
     }
     Ok(())

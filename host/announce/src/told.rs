@@ -53,6 +53,8 @@ pub struct Told {
     pub owed: u64,
     pub drain_turns: u64,
     pub drain_allowed: u64,
+    /// What the transfer wrote, where a trace is asked for.
+    pub trace: Vec<u8>,
     /// The longest turn of the transfer.
     pub longest: Duration,
     /// The whole transfer.

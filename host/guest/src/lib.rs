@@ -3,8 +3,8 @@
 #![no_std]
 use snd::{
     Captured, Capturing, Config, F_CTLS, Features, Format, Formats, Model, Notification, Page, Params, Pending, Places,
-    Rate, Rates, Reading, Refusal, Ring, Sound, Started, Status, Step, StreamList, Submitted, Unfed, Value, Version,
-    latest_notification, latest_notification_in, wav,
+    Rate, Rates, Reading, Refusal, Ring, Sound, Started, Status, Step, StreamList, Submitted, Tracing, Unfed, Value,
+    Version, latest_notification, latest_notification_in, trace, wav,
 };
 
 unsafe extern "C" {
@@ -33,7 +33,8 @@ pub struct Console {
 #[unsafe(no_mangle)]
 pub extern "C" fn guest_main(console: &mut Console) -> u64 {
     [
-        calls, supported, feeds, lists, turns, transfer, capture, pending, reads, device, versions, waves, values,
+        calls, supported, feeds, lists, turns, transfer, traced, traces, capture, pending, reads, device, versions,
+        waves, values,
     ]
     .iter()
     .fold(0, |sum, part| part(console).wrapping_add(sum))
@@ -186,6 +187,46 @@ fn transfer(console: &mut Console) -> u64 {
     let kept = sum(transfer.frames()) ^ transfer.ring().turns_run().unwrap_or(0);
     let ended = transfer.end().map_or(0, |frames| sum(frames));
     offered ^ u64::from(turned) ^ u64::from(drained) ^ kept ^ ended
+}
+
+fn traced(console: &mut Console) -> u64 {
+    static FRAMES: [u8; 64] = [7; 64];
+    let Console {
+        sound,
+        ring,
+        number,
+        bytes,
+        length: end,
+        ..
+    } = console;
+    let reading = Reading::Completed {
+        slot: *number,
+        status: *number,
+    };
+    let room = bytes.get_mut(..*end).unwrap_or_default();
+    let by_hand = ring.turn_traced(&FRAMES, room, reading).is_ok();
+    let need = trace::room_len(*end, *number) as u64;
+    let mut traced = match sound.transfer_traced(ring, *number, &FRAMES, u64::MAX, room) {
+        Tracing::Runs(traced) => traced,
+        Tracing::SetUp(exchange, frames) => return length(sound.feed_failure(exchange)) ^ sum(frames),
+        Tracing::Refused(refusal, frames) => return u64::from(refusal.number()) ^ sum(frames),
+    };
+    let offered = traced.offered().is_ok_and(|offer| offer.is_some());
+    let turned = traced.turn(reading).is_ok();
+    let drained = traced.drain_turn(reading).is_ok();
+    let wrote = sum(traced.trace().unwrap_or_default());
+    let kept = sum(traced.frames()) ^ traced.ring().trace_length().unwrap_or(0) as u64;
+    let ended = traced.end().map_or(0, |frames| sum(frames));
+    let said = [by_hand, offered, turned, drained].map(u64::from);
+    sum(&said.map(|said| said as u8)) ^ wrote ^ kept ^ ended ^ need
+}
+
+fn traces(console: &mut Console) -> u64 {
+    let bytes = console.bytes.get(..console.length).unwrap_or_default();
+    let judged = [trace::judge(console.number, bytes), trace::scan(bytes)];
+    let said = judged.map(|said| said.map_or_else(|judged| refused(judged.number) ^ judged.at as u64, |()| 0));
+    let fields = trace::Fields::of(bytes).map(|(at, field)| at as u64 ^ u64::from(field.tag()));
+    fields.chain(said).fold(0, |sum, said| said.wrapping_add(sum))
 }
 
 fn capture(console: &mut Console) -> u64 {

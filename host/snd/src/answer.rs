@@ -94,7 +94,7 @@ macro_rules! table {
 
 table! {
     /// A bad id, number or period rule; a payload that is not one period; a feed with no exchange open; a turn with no transfer running; a drain turn while one runs; a
-    /// store that is inconsistent.
+    /// store that is inconsistent; a mode that is none.
     InvalidParam = 1,
     /// The device's status was not ok, which is the cause; or, with none, the stream has no parameters, or an event's code is unknown.
     IoError(cause: Cause) = 2,
@@ -130,6 +130,10 @@ table! {
     NotYet = 16,
     /// A capture's completion whose written length is under 8, the bytes of a status, or above a period and 8 ([`crate::Capture`]).
     BadCapture = 17,
+    /// No trace: it is empty, or a field of it has an unknown tag, a wrong length or is cut ([`crate::trace`]).
+    BadTrace = 18,
+    /// A trace whose fields are whole, and which no run of the turns writes ([`crate::trace::judge`]).
+    NotARun = 19,
 }
 
 impl Answer {
@@ -258,7 +262,7 @@ mod tests {
 
     #[test]
     fn a_number_outside_the_table_is_unknown() {
-        for number in [18, 255, 514, u64::MAX] {
+        for number in [20, 255, 514, u64::MAX] {
             assert_eq!(Said::of(number), Said::Refused(Refusal::Unknown));
         }
         assert_eq!(Said::done(512), Err(Refusal::Unknown));

@@ -114,6 +114,22 @@ entries! {
     /// One drain turn.
     fn snd_drain_turn(ring: &mut [u8], kind: u32, slot: u32, status: u32,);
 
+    /// The start of a transfer that writes a trace.
+    fn snd_pcm_xfer_start_traced(state: &mut [u8], ring: &mut [u8], stream: u32, frames: &[u8], budget: u64, room: &[u8],
+        message: &mut [u8],);
+    /// One turn of it.
+    fn snd_turn_traced(ring: &mut [u8], frames: &[u8], room: &mut [u8], kind: u32, slot: u32, status: u32,);
+    /// How long the trace is.
+    fn snd_trace_length(ring: &[u8], result: &mut [u8],);
+    /// Whether a trace is whole fields.
+    fn snd_trace_scan(trace: &[u8],);
+    /// The offset at which it is not.
+    fn snd_trace_scan_at(trace: &[u8],);
+    /// Whether a run writes a trace.
+    fn snd_judge(mode: u32, trace: &[u8],);
+    /// The offset at which none does.
+    fn snd_judge_at(mode: u32, trace: &[u8],);
+
     /// The start of a capture.
     fn snd_pcm_capture_start(state: &mut [u8], ring: &mut [u8], stream: u32, periods: u64, recording: &[u8], budget: u64,
         message: &mut [u8],);

@@ -39,6 +39,8 @@
 //!
 //! A transfer goes turn by turn, and keeps its frames until no device reads them: see [`Transfer`].
 //!
+//! A transfer may write a trace of what it did on the queue, and anyone's trace can be judged: see [`Traced`] and [`trace`].
+//!
 //! A capture goes turn by turn as well, and joins what a microphone heard into a recording: see [`Capture`].
 //!
 //! A console that has other work meanwhile submits period by period and goes on: see [`Places`].
@@ -76,6 +78,8 @@ mod sound;
 mod status;
 mod step;
 mod supported;
+pub mod trace;
+mod traced;
 mod transfer;
 mod version;
 pub mod wav;
@@ -92,13 +96,14 @@ pub use sound::Sound;
 pub use status::{Cause, Status};
 pub use step::{Exchange, Message, Page, Step, StreamList, Unfed, Value};
 pub use supported::{ChannelRange, Features, Formats, Rates};
+pub use traced::{Traced, Tracing};
 pub use transfer::{Frames, Started, Transfer};
 pub use version::{Config, F_CTLS, Notification, Version, latest_notification_in};
 
 /// The size of a state's store.
 pub const STATE_SIZE: usize = 14_703;
 /// The size of a ring's store.
-pub const RING_SIZE: usize = 628;
+pub const RING_SIZE: usize = 636;
 /// The size of a message buffer.
 pub const MESSAGE_SIZE: usize = 24;
 /// The size of a result.

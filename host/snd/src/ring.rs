@@ -193,6 +193,18 @@ impl<R: BorrowMut<[u8; RING_SIZE]>> Ring<R> {
         Turn::of(ffi::snd_turn(self.store_mut(), frames, kind, slot, status))
     }
 
+    /// One turn of a transfer that writes a trace: [`Ring::turn`], and its fields are written into the room behind those of the turns before; the
+    /// first turn writes the start before its own. Frames and room are as long as at the start, else [`Refusal::BadLength`];
+    /// [`Refusal::InvalidParam`] where no playback runs, or this store is none that a traced start left. A turn that is refused so is none
+    /// and writes nothing. No byte behind the trace changes.
+    ///
+    /// [`Ring::turn`] is the turn with an empty room: it is refused with `BadLength` on a transfer that was started with one, as this one is
+    /// with a room on any other.
+    pub fn turn_traced(&mut self, frames: &[u8], room: &mut [u8], reading: Reading) -> Result<Turn, Refusal> {
+        let (kind, slot, status) = reading.numbers();
+        Turn::of(ffi::snd_turn_traced(self.store_mut(), frames, room, kind, slot, status))
+    }
+
     /// One turn of a capture. `recording` is as long as at the start; an accepted payload is copied behind what was kept before, and no other
     /// byte of it changes.
     ///
@@ -277,6 +289,15 @@ impl<R: Borrow<[u8; RING_SIZE]>> Ring<R> {
     pub fn kept(&self) -> Result<usize, Refusal> {
         told(
             |result| ffi::snd_ring_kept(self.store(), result),
+            |result| size_at(result, 0),
+        )
+    }
+
+    /// How long the trace is that this transfer has written, or the last one wrote: the room's first bytes. 0 where no turn ran, or none is
+    /// written.
+    pub fn trace_length(&self) -> Result<usize, Refusal> {
+        told(
+            |result| ffi::snd_trace_length(self.store(), result),
             |result| size_at(result, 0),
         )
     }

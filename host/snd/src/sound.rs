@@ -6,7 +6,7 @@ use crate::pending::token;
 use crate::step::{Exchange, Page, Step, Unfed, Value, narrow, told};
 use crate::{
     Capture, Capturing, ChannelRange, Features, Formats, Frames, Params, Pending, PlaceStore, Places, Rates, Reading,
-    Refusal, Ring, Started, StreamList, Submitted, Transfer, ffi,
+    Refusal, Ring, Started, StreamList, Submitted, Traced, Tracing, Transfer, ffi,
 };
 use crate::{MESSAGE_SIZE, PAGE_SIZE, RESULT_SIZE, RING_SIZE, STATE_SIZE};
 use core::borrow::{Borrow, BorrowMut};
@@ -502,6 +502,41 @@ impl<S: BorrowMut<[u8; STATE_SIZE]>> Sound<S> {
         budget: u64,
     ) -> Result<Step<()>, Refusal> {
         self.begun(|state, message| ffi::snd_pcm_xfer_start(state, ring.store_mut(), stream, frames, budget, message))
+    }
+
+    /// Starts a transfer that takes the frames and writes a trace into the room: see [`Traced`]. Where it does not run the frames come back.
+    ///
+    /// Refused as [`Sound::transfer`] is, a budget of 0 among it, and after all that with [`Refusal::BadLength`] for frames of 2^32 bytes or more
+    /// and for a room under [`crate::trace::room_len`].
+    pub fn transfer_traced<'r, F: Frames, R: BorrowMut<[u8; RING_SIZE]>>(
+        &mut self,
+        ring: &'r mut Ring<R>,
+        stream: u32,
+        frames: F,
+        budget: u64,
+        room: &'r mut [u8],
+    ) -> Tracing<'r, F, R> {
+        match self.pcm_xfer_start_traced(ring, stream, frames.stable(), budget, room) {
+            Ok(Step::Done(())) => Tracing::Runs(Traced::new(Transfer::new(ring, frames), room)),
+            Ok(Step::Send(exchange)) => Tracing::SetUp(exchange, frames),
+            Err(refusal) => Tracing::Refused(refusal, frames),
+        }
+    }
+
+    /// Starts a transfer that writes a trace, of frames and with a room that you keep yourself: `Done` says that it runs, and
+    /// [`Ring::turn_traced`] is next. Of the room only the length is looked at, and nothing is written there; every turn is to be lent one of
+    /// the same length. For the rest as [`Sound::pcm_xfer_start`], and refused as [`Sound::transfer_traced`].
+    pub fn pcm_xfer_start_traced(
+        &mut self,
+        ring: &mut Ring<impl BorrowMut<[u8; RING_SIZE]>>,
+        stream: u32,
+        frames: &[u8],
+        budget: u64,
+        room: &[u8],
+    ) -> Result<Step<()>, Refusal> {
+        self.begun(|state, message| {
+            ffi::snd_pcm_xfer_start_traced(state, ring.store_mut(), stream, frames, budget, room, message)
+        })
     }
 
     /// The start of a transfer or a capture by `entry`, with a message buffer for it to fill.

@@ -170,6 +170,11 @@ impl<'r, F: Frames, R: BorrowMut<[u8; RING_SIZE]>> Transfer<'r, F, R> {
         self.ring.turn(bytes(&self.frames), reading)
     }
 
+    /// One turn that writes its fields into a room.
+    pub(crate) fn turn_in(&mut self, room: &mut [u8], reading: Reading) -> Result<Turn, Refusal> {
+        self.ring.turn_traced(bytes(&self.frames), room, reading)
+    }
+
     /// After a turn that was refused with 2, 6 or 9: frees the oldest slot in flight, see [`Ring::drain_turn`].
     pub fn drain_turn(&mut self, reading: Reading) -> Result<(), Refusal> {
         self.ring.drain_turn(reading)

@@ -20,6 +20,9 @@ set parameters: 0101/24 -> 0
 capture of an output: -> 1
 recorded: gate two----, kept 8 -> 0
 recorded: door two----, kept 4 -> 17
+traced: -> 2, the device said 0x8003
+judged: 19 at 58 of 59 bytes
+scanned: 55
 ";
 
 #[test]

@@ -1,4 +1,4 @@
-//! The audio loop, the strict feed, the refusal told, the announcement from a file, the loop that does not wait, the recording and the device of VirtIO 1.3 of docs/HOST.md run, and the page shows the texts that ran.
+//! The audio loop, the strict feed, the refusal told, the announcement from a file, the loop that does not wait, the recording, the transfer that writes a trace and the device of VirtIO 1.3 of docs/HOST.md run, and the page shows the texts that ran.
 #[path = "../examples/audio_loop.rs"]
 mod audio_loop;
 #[path = "../examples/go_on.rs"]
@@ -9,6 +9,8 @@ mod record;
 mod refused;
 #[path = "../examples/strict_mode.rs"]
 mod strict_mode;
+#[path = "../examples/traced.rs"]
+mod traced;
 #[path = "../examples/versions.rs"]
 mod versions;
 #[path = "../examples/wave_file.rs"]
@@ -45,6 +47,11 @@ fn a_console_records() {
 }
 
 #[test]
+fn a_transfer_writes_a_trace() {
+    assert_eq!(traced::main(), Ok(()));
+}
+
+#[test]
 fn a_device_is_read_by_its_version() {
     assert_eq!(versions::main(), Ok(()));
 }
@@ -59,6 +66,7 @@ fn the_page_shows_the_texts_that_ran() {
         include_str!("../examples/wave_file.rs"),
         include_str!("../examples/go_on.rs"),
         include_str!("../examples/record.rs"),
+        include_str!("../examples/traced.rs"),
         include_str!("../examples/versions.rs"),
     ];
     let blocks: Vec<_> = page.split("```").skip(1).step_by(2).collect();

@@ -48,6 +48,30 @@ fn a_recording_of_another_length_than_at_the_start_is_10() {
     }
 }
 
+/// An empty room too, which is that of a turn that writes nothing.
+#[test]
+fn a_room_of_another_length_than_at_the_start_is_10() {
+    for length in [0, 1, 179, 181, 360] {
+        let mut lent = Lent::tracing();
+        assert_eq!(lent.room.len(), 180);
+        lent.room.resize(length, 0);
+        let before = lent.clone();
+        assert_eq!((entry("snd_turn_traced").call)(&mut lent), 10, "{length}");
+        assert_eq!((entry("snd_turn").call)(&mut lent), 10);
+        assert!(lent == before, "a turn with a room of {length} changed a byte");
+    }
+    // a transfer that writes no trace takes none
+    let mut lent = Lent::good();
+    let before = lent.clone();
+    assert_eq!((entry("snd_turn_traced").call)(&mut lent), 10);
+    assert!(lent == before);
+    lent.room.clear();
+    let mut plain = lent.clone();
+    assert_eq!((entry("snd_turn_traced").call)(&mut lent), 512);
+    assert_eq!((entry("snd_turn").call)(&mut plain), 512);
+    assert!(lent == plain, "with an empty room it is the plain turn");
+}
+
 #[test]
 fn a_page_of_4097_bytes_is_10() {
     for name in ["snd_feed", "snd_feed_written", "snd_model_control"] {

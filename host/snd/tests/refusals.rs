@@ -102,8 +102,16 @@ fn invalid_param_1_for_a_reserved_byte() {
         assert_eq!(sound.pcm_stop(&Ring::new(), 0), Err(Refusal::InvalidParam));
         assert_eq!(sound.jacks(), Err(Refusal::InvalidParam));
         assert_eq!(sound.store(), &state);
+    }
+}
+
+/// No transfer had more good completions than turns.
+#[test]
+fn invalid_param_1_for_completions_that_no_turn_had() {
+    let good = Desk::with_transfer(b"frames", 9);
+    for at in 0..8 {
         let mut store = *good.ring.store();
-        store[80 + at] = 1 << (at % 8);
+        store[88 + at] = 1 << at;
         let mut ring = Ring::over(store);
         assert_eq!(ring.offered(b"frames"), Err(Refusal::InvalidParam));
         assert_eq!(ring.turn(b"frames", OK), Err(Refusal::InvalidParam));
@@ -469,6 +477,8 @@ fn answers_have_the_documents_numbers() {
         (15, "Full"),
         (16, "NotYet"),
         (17, "BadCapture"),
+        (18, "BadTrace"),
+        (19, "NotARun"),
     ];
     for (number, name) in names {
         let refusal = Refusal::of(u64::from(number) | 0x8002 << 32);
@@ -488,7 +498,7 @@ fn answers_have_the_documents_numbers() {
         );
     }
     assert_eq!((snd::Answer::Ok.number(), snd::Answer::Ok.name()), (0, "Ok"));
-    assert_eq!(Refusal::of(18), Refusal::Unknown);
+    assert_eq!(Refusal::of(20), Refusal::Unknown);
     assert_eq!(
         Refusal::of(0x8000_0000_0003).to_string(),
         "3 Unsupported: no status caused it"

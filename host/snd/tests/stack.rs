@@ -70,6 +70,8 @@ fn cases() -> Vec<Lent> {
     refused.state.fill(0xff);
     refused.ring.fill(0xff);
     refused.model.fill(0xff);
+    let mut ended = Lent::tracing();
+    ended.numbers = [0, 0x8003, 0, 1];
     let mut played = Lent::idle();
     played.request = [&[0; 4][..], &[7; 4096]].concat();
     let mut queried = Lent::idle();
@@ -80,6 +82,8 @@ fn cases() -> Vec<Lent> {
         Lent::asking(),
         Lent::pending(),
         Lent::capturing(),
+        Lent::tracing(),
+        ended,
         full,
         completed,
         refused,

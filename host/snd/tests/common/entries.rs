@@ -16,7 +16,7 @@ macro_rules! entries {
     };
 }
 
-/// The 58 entries, in the header's order.
+/// The 65 entries, in the header's order.
 pub const ENTRIES: &[Entry] = entries! {
     snd_state_size [] |_l| ();
     snd_ring_size [] |_l| ();
@@ -54,6 +54,15 @@ pub const ENTRIES: &[Entry] = entries! {
     snd_offered [Ring Frames Result] |l| (&l.ring, &l.frames, &mut l.result);
     snd_turn [Ring Frames] |l| (&mut l.ring, &l.frames, l.numbers[3], l.numbers[0], l.numbers[1]);
     snd_drain_turn [Ring] |l| (&mut l.ring, l.numbers[3], l.numbers[0], l.numbers[1]);
+    snd_pcm_xfer_start_traced [State Ring Message]
+        |l| (&mut l.state, &mut l.ring, l.numbers[0], &l.frames, l.budget, &l.room, &mut l.message);
+    snd_turn_traced [Ring Frames]
+        |l| (&mut l.ring, &l.frames, &mut l.room, l.numbers[3], l.numbers[0], l.numbers[1]);
+    snd_trace_length [Ring Result] |l| (&l.ring, &mut l.result);
+    snd_trace_scan [] |l| (&l.trace);
+    snd_trace_scan_at [] |l| (&l.trace);
+    snd_judge [] |l| (l.mode, &l.trace);
+    snd_judge_at [] |l| (l.mode, &l.trace);
     snd_pcm_capture_start [State Ring Message]
         |l| (&mut l.state, &mut l.ring, l.numbers[0], l.periods, &l.recording, l.budget, &mut l.message);
     snd_capture_offered [Ring Recording Result] |l| (&l.ring, &l.recording, &mut l.result);

@@ -18,6 +18,11 @@ pub struct Lent {
     /// As long as the frames, so that a turn of either kind finds the length of its start; room for seven periods and a byte.
     pub recording: Vec<u8>,
     pub periods: u64,
+    /// Room for the trace of the frames, and a byte more.
+    pub room: Vec<u8>,
+    /// A trace that is to be judged, and in which mode.
+    pub trace: Vec<u8>,
+    pub mode: u32,
     /// A captured period, whole, with its status.
     pub bytes: Vec<u8>,
     /// One period, and places that have room for it and a byte more; the last bytes belong to none.
@@ -119,6 +124,17 @@ impl Lent {
         lent
     }
 
+    /// Set up, with a transfer that writes a trace and has run a turn: slot 0 is in flight.
+    pub fn tracing() -> Self {
+        let mut lent = Self::idle();
+        assert_eq!(
+            (super::entries::entry("snd_pcm_xfer_start_traced").call)(&mut lent),
+            512
+        );
+        assert_eq!((super::entries::entry("snd_turn_traced").call)(&mut lent), 512);
+        lent
+    }
+
     /// The first request of set-up is out.
     pub fn asking() -> Self {
         let mut lent = Self::idle();
@@ -139,6 +155,9 @@ impl Lent {
             frames: FRAMES.to_vec(),
             recording: vec![0xa5; FRAMES.len()],
             periods: 7,
+            room: vec![0xa6; snd::trace::room_len(FRAMES.len(), PARAMS.period) + 1],
+            trace: super::trace(),
+            mode: snd::trace::DIRECT,
             bytes: super::captured(b"mike", 0x8000),
             payload: b"four".to_vec(),
             places: vec![0xa4; snd::PLACES * (4 + 4 + 1) + 7],

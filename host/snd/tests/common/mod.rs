@@ -105,6 +105,19 @@ pub fn captured(payload: &[u8], status: u32) -> Vec<u8> {
     [payload, &status.to_le_bytes(), &[0xee; 4]].concat()
 }
 
+/// The trace of docs/TRACE.md: ten bytes in periods of 4, each completed in the turn that submitted it.
+pub fn trace() -> Vec<u8> {
+    let submitted = |slot: u8, length: u8| [1, 9, 0, slot, 4 * slot, 0, 0, 0, length, 0, 0, 0];
+    let completed = |slot: u8| [2, 5, 0, slot, 0, 0x80, 0, 0];
+    let mut trace = vec![0, 12, 0, 0, 0, 0, 0, 10, 0, 0, 0, 4, 0, 0, 0];
+    for (slot, length) in [4, 4, 2].into_iter().enumerate() {
+        trace.extend(submitted(slot as u8, length));
+        trace.extend(completed(slot as u8));
+    }
+    trace.extend([3, 1, 0, 0]);
+    trace
+}
+
 /// The exchange of a call that has a request to send.
 pub fn sent<T>(step: Result<Step<T>, Refusal>) -> Exchange<T> {
     match step {
