@@ -77,6 +77,9 @@ use Rattle.console.proofs.traces.snd_trace_scan.Reads as trace-scan
 use Rattle.console.proofs.traces.snd_trace_scan_at.Reads as trace-scan-at
 use Rattle.console.proofs.traces.snd_judge.Reads as judge
 use Rattle.console.proofs.traces.snd_judge_at.Reads as judge-at
+use Rattle.console.proofs.compare.snd_entry_size.Reads as entry-size
+use Rattle.console.proofs.compare.snd_differences.Reads as differences
+use Rattle.console.proofs.compare.snd_compare.Reads as compare
 
 left-one : {x : Told} {a b : ℕ} {s t m n r u : List ℕ} → left a s m r ≡ x → left b t n u ≡ x → (a ≡ b) × (s ≡ t) × (m ≡ n) × (r ≡ u)
 left-one p q = let e = same p q in (ap (λ (y : Told). y .answer) e, ap (λ (y : Told). y .state) e, ap (λ (y : Told). y .message) e, ap (λ (y : Told). y .result) e)
@@ -333,3 +336,13 @@ judge-one κs a r₁ r₂ e₁ e₂ p q = same p q
 
 pub judge-at-one : (κs : _) (a : _) (r₁ r₂ : _) (e₁ e₂ : _) → judge-at.Post κs a r₁ e₁ → judge-at.Post κs a r₂ e₂ → r₁ ≡ r₂
 judge-at-one κs a r₁ r₂ e₁ e₂ p q = same p q
+
+pub entry-size-one : (κs : _) (a : _) (r₁ r₂ : _) (e₁ e₂ : _) → entry-size.Post κs a r₁ e₁ → entry-size.Post κs a r₂ e₂ → r₁ ≡ r₂
+entry-size-one κs a r₁ r₂ e₁ e₂ p q = same p q
+
+pub differences-one : (κs : _) (a : _) (r₁ r₂ : _) (e₁ e₂ : _) → differences.Post κs a r₁ e₁ → differences.Post κs a r₂ e₂ → r₁ ≡ r₂
+differences-one κs a r₁ r₂ e₁ e₂ p q = same p q
+
+-- lent: list
+pub compare-one : (κs : _) (a : _) (r₁ r₂ : _) (e₁ e₂ : _) → compare.Post κs a r₁ e₁ → compare.Post κs a r₂ e₂ → (r₁ ≡ r₂) × (now (e₁ .1 .1 .0) ≡ now (e₂ .1 .1 .0))
+compare-one κs a r₁ r₂ e₁ e₂ p q = made-one p q

@@ -32,6 +32,7 @@ use Rattle.ring_store.specs.Store.{trackAt, ringOf, ringBytes}
 use Rattle.state_store.specs.Store.{soundOf, stateAfter}
 use Rattle.state_store.specs.Calls.{Told, tooShort, callIn}
 use Rattle.state_store.specs.Tokens.{Submitted, submitted, nbIn}
+use Rattle.trace.specs.Listed.{comparedOf, listedOf, saysCompared}
 use Rattle.wav.specs.Wave.{waveOf, saysWave, wroteOf, saysWrote, fileOf, writtenBy}
 use Rattle.wav.specs.declared.reader.Wave.{Wave}
 use Rattle.wav.specs.declared.reader.ReadWave.{ReadWave}
@@ -147,3 +148,8 @@ unfoldable pub fileEntry : ℕ → ℕ → ℕ → List ℕ → List ℕ → Mad
 fileEntry channels format rate frames l =
     let x = wroteOf channels format rate (length frames) (length l) in
     made (saysWrote x .number) (writtenBy x (fileOf channels format rate frames) l)
+
+-- ---- two traces compared: the list at the front of the room, or the room as it was
+
+abbrev pub compareEntry : List ℕ → List ℕ → List ℕ → Made
+compareEntry a b list = made (saysCompared (comparedOf a b (length list)) .number) (listedOf a b list)

@@ -1,10 +1,10 @@
 -- The refusals of a turn and of a start, once for both directions and for a trace: what holds of each refusal and of the rest holds of the call. And what a capture's call does with them.
 -- Assumes nothing.
 use mathlib.Core.Path.{_≡_, refl, sym, ap, subst}
-use mathlib.Core.Bool.{Bool, true, false, not, _&&_, _||_, false≢true}
+use mathlib.Core.Bool.{Bool, true, false, not, _||_, false≢true}
 use Prim.Native.Nat.{ℕ, _+_, _*_, _≤_, _<_}
 use native.Mathlib.Omega.{arith}
-use lib.Dec.{ltb, leb, eqb}
+use lib.Dec.{eqb}
 use lib.ListN.{length}
 use borrow.Author.Tests.{leb-true, ltb-true, eqb-true}
 use Rattle.codes.specs.Says.{pick, guard}
@@ -21,7 +21,8 @@ use Rattle.turns.specs.RefusalLaws.{Untouched, refuses, turn-answers}
 use Rattle.turns.specs.Capture.{caughtOf, caughtTurn, captureCall, captureStart}
 use Rattle.turns.specs.CaptureLaws.{keeps-room}
 use Rattle.trace.specs.Writer.{inkOf, penFits, inked, writesNone, inkedBy, writingCall}
-use Rattle.ring_store.specs.Types.{Track, Going, Refused, Step, Reading, Catch}
+use Rattle.trace.specs.InkLaws.{none-ran, fits-facts}
+use Rattle.ring_store.specs.Types.{Track, Going, Step, Reading, Catch}
 
 runs-on : (capture : Bool) (t : Track) → runsAs capture t ≡ true → t .running ≡ true
 runs-on true t e = both (t .running) (t .capture) e .0
@@ -62,19 +63,10 @@ module _ (P : Step → Type 0) (t : Track) (refused : (r : Refusal) → P (refus
 
 -- ---- a turn that writes is the turn, or the same with the length of its trace
 
-pub or-true : (b : Bool) → (b || true) ≡ true
-or-true true = refl
-or-true false = refl
-
 inked-by : (P : Step → Type 0) (t : Track) (s : Step) (room : ℕ) (none : Bool) → P s → ((r : Refusal) → P (refusedOf r t)) → (t .written + length (inkOf t s) ≤ room → P (inked t s))
     → P (pick none s (guard (penFits t s room) (refusedOf InvalidParam t) (inked t s)))
 inked-by P t s room true p refused f = p
-inked-by P t s room false p refused f =
-    guarded-by P _ _ _
-    (λ e.
-    let a = both (ltb (t .total) 4294967296) (ltb (t .period) 4294967296 && leb (t .written + length (inkOf t s)) room) e in
-    f (leb-true _ _ (both (ltb (t .period) 4294967296) (leb (t .written + length (inkOf t s)) room) (a .1) .1)))
-    (λ _. refused _)
+inked-by P t s room false p refused f = guarded-by P _ _ _ (λ e. f (fits-facts t s room e .2)) (λ _. refused _)
 
 module _ (P : Step → Type 0) (t : Track) (refused : (r : Refusal) → P (refusedOf r t)) where
   pub writes : (len room : ℕ) (reading : Reading)
@@ -82,18 +74,13 @@ module _ (P : Step → Type 0) (t : Track) (refused : (r : Refusal) → P (refus
       P s × (t .written + length (inkOf t s) ≤ room → P (inked t s))) → P (writingCall t len room reading)
   unfolding writingCall
   writes len room reading f =
-      traced (λ s. P (inkedBy t s room)) t (λ r. subst P (passes-none (refusedOf r t) (or-true (eqb room 0))) (refused r)) len room reading
+      traced (λ s. P (inkedBy t s room)) t (λ r. subst P (passes-none (refusedOf r t) (none-ran (eqb room 0) true refl)) (refused r)) len room reading
       (λ c on e. let s = countedOf (turnOf (t .descriptors) t (comesTo playedOf reading) reading) in
       let g = f c on e in
       inked-by P t s room (writesNone room s) (g .0) refused (g .1))
     where
       passes-none : (s : Step) → writesNone room s ≡ true → s ≡ inkedBy t s room
       passes-none s e = sym (picks (writesNone room s) s (guard (penFits t s room) (refusedOf InvalidParam t) (inked t s)) e)
-
-pub writing-refused : (t : Track) (len room : ℕ) (reading : Reading) → Untouched t (writingCall t len room reading)
-writing-refused t len room reading =
-    let never : (x : Refusal) → countedOf (turnOf (t .descriptors) t (comesTo playedOf reading) reading) .said ≡ Refused x → ⊥ = plain _ (turn-answers (t .descriptors) t (comesTo playedOf reading) reading) in
-    writes (Untouched t) t (refuses t) len room reading (λ _ _ _. ((λ x e. absurd (never x e)), (λ _ x e. absurd (never x e))))
 
 -- ---- a refusal of a capture changes nothing
 

@@ -28,6 +28,7 @@ use Rattle.turns.specs.Calls.{tracedCall, drained, drainCall, begunIn, startCal
 use Rattle.turns.specs.Capture.{catchOf, caughtOf, captureCall, recordingAfter, captureStart}
 use Rattle.turns.specs.InPlace.{turnWords, drainWords}
 use Rattle.trace.specs.Writer.{writingCall, roomAfter}
+use Rattle.trace.specs.TracedLaws.{writing-refused}
 use Rattle.turns.specs.Script.{readingOf}
 use Rattle.ring_store.specs.Types.{Slot, Track, Sent, Nothing, Period, Said, Going, Done, Ended, Refused, Step, Reading, Quiet, Completed, Choice, Submit, Finish, Wait, Outcome, Catch}
 use Rattle.ring_store.specs.Store.{trackSize, slotSize, sidePlace, ringSize, trackRow, trackValues, sideRow, sideValues, trackAt, slotRow, slotAt, ringOf, ringBytes}
@@ -35,7 +36,7 @@ use Rattle.ring_store.specs.Calls.{newIn, turnIn, drainIn, startIn, Caug
 use Rattle.ring_store.specs.StoreLaws.{slots-long}
 use Rattle.ring_store.specs.RoundLaws.{SlotFits, SlotsFit, Fits, track-values, side-values, store-back}
 use Rattle.ring_store.specs.KeepLaws.{turnStep, drainStep, startStep, captureStartStep, tracedStartStep, leaves, turn-leaves, drain-leaves, start-leaves, capture-leaves, capture-start-leaves, traced-leaves, traced-start-leaves, carry-long, whole-consistent}
-use Rattle.ring_store.specs.AdmitLaws.{readied, traced, traced-started, writes, writing-refused, captured, capture-started, capture-refused, capture-start-refused, kept-within}
+use Rattle.ring_store.specs.AdmitLaws.{readied, traced, traced-started, writes, captured, capture-started, capture-refused, capture-start-refused, kept-within}
 
 abbrev pub TrackFits : Track → Type 0
 TrackFits t = Fit trackRow (trackValues t) × Fit sideRow (sideValues t)

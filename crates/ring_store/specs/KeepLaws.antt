@@ -1,7 +1,7 @@
 -- What calls leave: a store that holds a ring again, and after a refusal the very bytes that stood there.
 -- Assumes nothing.
 use mathlib.Core.Path.{_≡_, refl, sym, ap, _∙_, subst}
-use mathlib.Core.Bool.{Bool, true, false, _||_}
+use mathlib.Core.Bool.{Bool, true, false}
 use mathlib.Core.Logic.{_⊎_, inl, inr}
 use mathlib.Core.List.{List}
 use Prim.Native.Nat.{ℕ, _+_, _*_, _≤_}
@@ -30,12 +30,13 @@ use Rattle.turns.specs.CaptureLaws.{copy-nothing}
 use Rattle.turns.specs.RefusalLaws.{Untouched}
 use Rattle.turns.specs.InPlace.{turnWords, drainWords}
 use Rattle.trace.specs.Writer.{inkOf, writesNone, writingCall, roomAfter}
+use Rattle.trace.specs.InkLaws.{none-ran}
 use Rattle.turns.specs.Script.{readingOf}
 use Rattle.ring_store.specs.Types.{Slot, Track, Sent, Nothing, Period, Said, Going, Done, Ended, Refused, Step, Reading, Quiet, Completed, Choice, Submit, Finish, Wait, Outcome, Fine, Fails, Verdict, WrongSlot, Good, Bad, Catch}
 use Rattle.ring_store.specs.Store.{ringSize, trackAt, ringOf}
 use Rattle.ring_store.specs.Calls.{changed, newIn, turnIn, drainIn, startIn, Caught, caughtIn, captureStep, captureIn, captureStartIn, writingStep, turnTracedIn, startTracedIn}
 use Rattle.ring_store.specs.StoreLaws.{slots-long}
-use Rattle.ring_store.specs.AdmitLaws.{readied, traced, traced-started, or-true, writes, captured, capture-started, capture-refused}
+use Rattle.ring_store.specs.AdmitLaws.{readied, traced, traced-started, writes, captured, capture-started, capture-refused}
 use Rattle.ring_store.specs.RoundLaws.{wholeAt, whole-written}
 
 -- ---- each call is a step of the track that the store holds
@@ -314,7 +315,7 @@ module _ (s recording : List ℕ) (kind slot written : ℕ) (bytes : List ℕ) w
 
 room-barred : (t : Track) (x : Step) (room : List ℕ) → Telling (x .said) → Barred (saidWord (x .said)) → roomAfter t x room ≡ room
 room-barred t x room p b =
-    barred (x .said) p b (λ r e. picks (writesNone (length room) x) room (sets room (t .written) (inkOf t x)) (ap (λ (y : Said). eqb (length room) 0 || isRefused y) e ∙ or-true (eqb (length room) 0)))
+    barred (x .said) p b (λ r e. picks (writesNone (length room) x) room (sets room (t .written) (inkOf t x)) (none-ran (eqb (length room) 0) (isRefused (x .said)) (ap isRefused e)))
 
 module _ (s : List ℕ) (len : ℕ) (room : List ℕ) (kind slot status : ℕ) where
   writing-step-tells : Tells (writingStep s len (length room) kind slot status)

@@ -5,10 +5,14 @@ pub mod Fields
 pub mod Trace
 pub mod Judge
 pub mod Runs
+pub mod Compare
+pub mod Listed
+pub mod Gaps
 pub mod Private
 pub mod Writer
 -- theorems
 pub mod Judged
+pub mod Compared
 pub mod Written
 -- laws
 pub mod ListLaws
@@ -36,3 +40,7 @@ pub mod WriterLaws
 pub mod SufficeLaws
 pub mod WrittenLaws
 pub mod TracedLaws
+pub mod CompareLaws
+pub mod DifferLaws
+pub mod ListedLaws
+pub mod RoomLaws

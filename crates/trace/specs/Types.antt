@@ -27,3 +27,11 @@ pub use Rattle.trace.specs.declared.field.Moved.the-variants.{On, Off}
 pub use Rattle.trace.specs.declared.field.Judgement.{Judgement}
 pub use Rattle.trace.specs.declared.field.Judgement.the-variants.{Accepted, BadTrace, NotARun}
 pub use Rattle.trace.specs.declared.field.Judged.{Judged}
+pub use Rattle.trace.specs.declared.difference.Difference.{Difference}
+pub use Rattle.trace.specs.declared.difference.Difference.the-variants.{OnlyFirst, OnlySecond, Other}
+pub use Rattle.trace.specs.declared.difference.Contents.{Contents}
+pub use Rattle.trace.specs.declared.difference.Row.{Row}
+pub use Rattle.trace.specs.declared.difference.Gap.{Gap}
+pub use Rattle.trace.specs.declared.difference.Gap.the-variants.{Same, One, Two}
+pub use Rattle.trace.specs.declared.difference.Compared.{Compared}
+pub use Rattle.trace.specs.declared.difference.Compared.the-variants.{Listed, BadFirst, BadSecond, ListFull}

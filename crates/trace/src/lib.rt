@@ -1,5 +1,7 @@
-// A transfer's trace: its fields, the judge of a foreign one, the writer of our own.
+// A transfer's trace: its fields, the judge of a foreign one, the differences of two, the writer of our own.
 mod course;
+mod diff;
+mod difference;
 mod field;
 mod fields;
 mod pen;
@@ -7,6 +9,10 @@ mod rules;
 mod writer;
 
 pub use course::judge;
+pub use diff::ROW;
+pub use diff::compare;
+pub use diff::differences;
+pub use difference::Compared;
 pub use field::Judged;
 pub use field::Judgement;
 pub use fields::scan;
