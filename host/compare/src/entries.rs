@@ -54,6 +54,11 @@ pub trait Entries {
     /// What is said of a trace, and its offset: of no store.
     fn trace_scan(trace: &[u8]) -> (u64, u64);
     fn judge(mode: u32, trace: &[u8]) -> (u64, u64);
+    /// Of two traces: how many differences, and the list of them.
+    fn differences(first: &[u8], second: &[u8]) -> u64;
+    fn compare(first: &[u8], second: &[u8], list: &mut [u8]) -> u64;
+    /// The bytes of an entry of that list.
+    fn entry_size() -> u64;
 
     fn model_new(&mut self, tables: [&[u8]; 3]) -> u64;
     fn model_control(&mut self, request: &[u8], page: &mut [u8], result: &mut [u8]) -> u64;

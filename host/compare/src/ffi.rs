@@ -240,6 +240,16 @@ unsafe extern "C" {
     pub fn snd_trace_scan_at(trace: *const u8, trace_len: usize) -> u64;
     pub fn snd_judge(mode: u32, trace: *const u8, trace_len: usize) -> u64;
     pub fn snd_judge_at(mode: u32, trace: *const u8, trace_len: usize) -> u64;
+    pub fn snd_entry_size() -> u64;
+    pub fn snd_differences(first: *const u8, first_len: usize, second: *const u8, second_len: usize) -> u64;
+    pub fn snd_compare(
+        first: *const u8,
+        first_len: usize,
+        second: *const u8,
+        second_len: usize,
+        list: *mut u8,
+        list_len: usize,
+    ) -> u64;
     pub fn snd_pcm_capture_start(
         state: *mut u8,
         state_len: usize,

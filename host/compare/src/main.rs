@@ -171,8 +171,9 @@ fn from_seeds(option: &str, made: fn(u64) -> Case, with: With, seeds: Seeds) -> 
 
 /// The sizes handed out, and every entry at every stage.
 fn entries_by_stage() -> bool {
-    if Port::sizes() != Plain::sizes() {
-        println!("DIFFERENCE in the sizes handed out: port {:?}, rules {:?}", Port::sizes(), Plain::sizes());
+    let (port, rules) = ((Port::sizes(), Port::entry_size()), (Plain::sizes(), Plain::entry_size()));
+    if port != rules {
+        println!("DIFFERENCE in the sizes handed out: port {port:?}, rules {rules:?}");
         return false;
     }
     let since = Instant::now();
@@ -249,9 +250,10 @@ fn random_traces(seeds: Seeds) -> bool {
             return false;
         }
     }
-    let traces::Tally { transfers, turns, ends, judged } = &tally;
+    let traces::Tally { transfers, turns, ends, judged, compared } = &tally;
     println!("traces from seed {first}: {transfers} transfers that write one, {turns} turns, ended {ends:?}");
     println!("  {} judged: {judged:?}", judged.values().sum::<u64>());
+    println!("  {} compared: {compared:?}", compared.values().sum::<u64>());
     println!("  {:.1} s", since.elapsed().as_secs_f64());
     let enough = *transfers < ENOUGH || tally.missing().is_empty();
     if !enough {
@@ -264,7 +266,7 @@ fn every_byte_of_traces() -> bool {
     let since = Instant::now();
     let tried = traces::each_byte();
     match &tried {
-        Ok(count) => println!("every byte of short traces, and long ones: {count} judged"),
+        Ok(count) => println!("every byte of short traces, and long ones: {count} judged and compared"),
         Err(text) => println!("DIFFERENCE\n{text}"),
     }
     println!("  {:.1} s", since.elapsed().as_secs_f64());

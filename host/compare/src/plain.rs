@@ -161,6 +161,15 @@ impl Entries for Plain {
     fn judge(mode: u32, trace: &[u8]) -> (u64, u64) {
         e::judge(mode, trace)
     }
+    fn differences(first: &[u8], second: &[u8]) -> u64 {
+        e::differences(first, second)
+    }
+    fn compare(first: &[u8], second: &[u8], list: &mut [u8]) -> u64 {
+        number(e::compare(first, second, list))
+    }
+    fn entry_size() -> u64 {
+        rules::differences::ENTRY as u64
+    }
 
     fn model_new(&mut self, tables: [&[u8]; 3]) -> u64 {
         if self.lent.model < e::MODEL_SIZE {

@@ -238,6 +238,17 @@ impl Entries for Port {
         let (t, tn) = lend!(trace);
         unsafe { (snd_judge(mode, t, tn), snd_judge_at(mode, t, tn)) }
     }
+    fn differences(first: &[u8], second: &[u8]) -> u64 {
+        let ((a, an), (b, bn)) = (lend!(first), lend!(second));
+        unsafe { snd_differences(a, an, b, bn) }
+    }
+    fn compare(first: &[u8], second: &[u8], list: &mut [u8]) -> u64 {
+        let ((a, an), (b, bn), (l, ln)) = (lend!(first), lend!(second), lend!(mut list));
+        unsafe { snd_compare(a, an, b, bn, l, ln) }
+    }
+    fn entry_size() -> u64 {
+        unsafe { snd_entry_size() }
+    }
 
     fn model_new(&mut self, tables: [&[u8]; 3]) -> u64 {
         let (d, dn) = lend!(mut self.model[LEAD..][..self.lent.model]);

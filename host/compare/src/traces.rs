@@ -1,12 +1,14 @@
 //! Traces, the port against the rules. Transfers that write one: every answer, the whole room and the trace's length after each turn. Then what
 //! is said of traces, with its offset: of those, of the beginnings that a host may leave, and of what they become when bytes and fields are
-//! changed, cut, doubled, exchanged and put in.
+//! changed, cut, doubled, exchanged and put in. Then every two of them compared: the count, the answer and the whole list, in rooms of
+//! every length around what it needs.
 use crate::case::{Body, Kind, Rng};
 use crate::entries::Entries;
 use crate::plain::Plain;
 use crate::port::Port;
 use crate::random::STATUSES;
 use crate::text::hex;
+use rules::differences::{Difference, ENTRY, applied};
 use rules::entries::{Asked, GOING, RESULT_SIZE};
 use rules::sound::{Call, Params};
 use rules::trace::{Field, bytes, room_for, scan};
@@ -27,6 +29,7 @@ pub struct Tally {
     pub turns: u64,
     pub ends: BTreeMap<u64, u64>,
     pub judged: BTreeMap<u64, u64>,
+    pub compared: BTreeMap<u64, u64>,
 }
 
 impl Tally {
@@ -34,7 +37,9 @@ impl Tally {
     pub fn missing(&self) -> Vec<String> {
         let ends = [0, 2, 6, 9, 10].into_iter().filter(|n| !self.ends.contains_key(n)).map(|n| format!("end {n}"));
         let judged = [0, 1, 18, 19].into_iter().filter(|n| !self.judged.contains_key(n)).map(|n| format!("judged {n}"));
-        ends.chain(judged).collect()
+        let compared =
+            [0, 18, 20].into_iter().filter(|n| !self.compared.contains_key(n)).map(|n| format!("compared {n}"));
+        ends.chain(judged).chain(compared).collect()
     }
 }
 
@@ -189,6 +194,41 @@ pub fn judged(mode: u32, trace: &[u8], tally: &mut Tally) -> Result<(), String> 
     Ok(())
 }
 
+/// Two traces compared by both, in a room of this length. What is said, and the list where there is one.
+fn compared(first: &[u8], second: &[u8], room: usize, tally: &mut Tally) -> Result<(), String> {
+    let (mut ours, mut theirs) = (vec![FILL; room], vec![FILL; room]);
+    let port = (Port::differences(first, second), Port::compare(first, second, &mut ours));
+    let rules = (Plain::differences(first, second), Plain::compare(first, second, &mut theirs));
+    if port != rules || ours != theirs {
+        let told = |said: (u64, u64), list: &[u8]| format!("{} differences, {}, list {}", said.0, said.1, hex(list));
+        let (first, second) = (hex(first), hex(second));
+        let (port, rules) = (told(port, &ours), told(rules, &theirs));
+        return Err(format!("{first}\nand {second}\n  port  {port}\n  rules {rules}"));
+    }
+    *tally.compared.entry(rules.1).or_default() += 1;
+    if rules.1 == 0 { gives(first, second, &ours[..rules.0 as usize * ENTRY]) } else { Ok(()) }
+}
+
+/// "Applying the list to the first gives the second", by the port's own list.
+fn gives(first: &[u8], second: &[u8], list: &[u8]) -> Result<(), String> {
+    let list: Option<Vec<Difference>> = list.chunks(ENTRY).map(Difference::read).collect();
+    let fields = scan(first).map_err(|fault| format!("{fault:?} of a trace that was compared"))?;
+    match list {
+        Some(list) if bytes(&applied(&list, &fields)) == second => Ok(()),
+        list => Err(format!("{list:?}\n  applied to {}\n  does not give {}", hex(first), hex(second))),
+    }
+}
+
+/// Both ways, with room for all, for one fewer, for some, and for none.
+fn every_room(first: &[u8], second: &[u8], tally: &mut Tally) -> Result<(), String> {
+    let need = Plain::differences(first, second) as usize * ENTRY;
+    for room in [need, need + 1, need + 40, need.saturating_sub(1), need.saturating_sub(ENTRY), need / 2, 0] {
+        compared(first, second, room, tally)?;
+        compared(second, first, room, tally)?;
+    }
+    Ok(())
+}
+
 fn field(rng: &mut Rng) -> Field {
     let slot = rng.below(4) as u8;
     let number = |rng: &mut Rng| rng.pick(&[0, 0, 1, 2, 3, 4, 8, 12, 300, u32::MAX]);
@@ -251,6 +291,7 @@ pub fn tried(seed: u64, tally: &mut Tally) -> Result<(), String> {
         other = changed(&mut rng, &from);
         let mode = if rng.one_in(50) { rng.pick(&[0, 2, 4, 255, 259, u32::MAX]) } else { MODE };
         judged(mode, &other, tally)?;
+        every_room(&trace, &other, tally)?;
     }
     Ok(())
 }
@@ -270,15 +311,17 @@ pub fn each_byte() -> Result<u64, String> {
     for trace in traces.map(|fields| bytes(&fields)) {
         for at in 0..trace.len() {
             judged(MODE, &trace[..at], &mut tally)?;
+            every_room(&trace, &trace[..at], &mut tally)?;
             for byte in 0..=255 {
                 let mut other = trace.clone();
                 other[at] = byte;
                 judged(MODE, &other, &mut tally)?;
+                compared(&trace, &other, 4 * ENTRY, &mut tally)?;
             }
         }
     }
     long(&mut tally)?;
-    Ok(tally.judged.values().sum())
+    Ok(tally.judged.values().chain(tally.compared.values()).sum())
 }
 
 fn long(tally: &mut Tally) -> Result<(), String> {
@@ -298,6 +341,10 @@ fn long(tally: &mut Tally) -> Result<(), String> {
         }
         let last = wire::words(&[1, 2]);
         judged(MODE, &[bytes(&fields), last].concat(), tally)?;
+        let end = Field::End { answer: 6 };
+        every_room(&bytes(&fields), &bytes(&[&fields[..], &[end]].concat()), tally)?;
+        // one field fewer at the front: all others are compared with another
+        every_room(&bytes(&fields[..2000.min(fields.len())]), &bytes(&fields[1..2000.min(fields.len())]), tally)?;
     }
     Ok(())
 }

@@ -325,6 +325,16 @@ pub fn judge(mode: u32, trace: &[u8]) -> (u64, u64) {
     told(trace::judge_in(mode, trace))
 }
 
+/// How many differences there are; 0 where one of the two is no trace, which `trace_scan` tells.
+pub fn differences(first: &[u8], second: &[u8]) -> u64 {
+    differences::differences(first, second).map_or(0, |list| list.len() as u64)
+}
+
+pub fn compare(first: &[u8], second: &[u8], list: &mut [u8]) -> Answer {
+    differences::compare(first, second, list).map_err(|refused| refused.number() as u64)?;
+    Ok(OK as u64)
+}
+
 pub fn model_control(model: Store<&mut Model>, request: &[u8], page: &mut [u8], result: &mut [u8]) -> Answer {
     let lent = page.len() == PAGE && result.len() >= RESULT_SIZE;
     lengths(model.len >= MODEL_SIZE && lent)?;

@@ -3,11 +3,12 @@
 //! Of document 02 these requests are read here too: 2026-01, feeds that carry the length the device wrote; 2026-02, the guard
 //! over a stream's lifecycle; 2026-03, announcements from WAV; 2026-05, the device's status in 2 and 3;
 //! 2026-06, submissions that do not wait; 2026-08, VirtIO 1.3 beside 1.2; 2026-09, microphones;
-//! 2026-11, traces of transfers and their judge.
+//! 2026-11, traces of transfers and their judge; 2026-12, two of them compared.
 //!
 //! Clarity before speed: tables are vectors, refusals are numbers.
 
 pub mod capture;
+pub mod differences;
 pub mod entries;
 pub mod event;
 pub mod life;
@@ -48,6 +49,8 @@ pub const BAD_CAPTURE: u8 = 17;
 /// Of traces only: no tagged fields; fields that no run writes.
 pub const BAD_TRACE: u8 = 18;
 pub const NOT_A_RUN: u8 = 19;
+/// Of the list of two traces' differences: it does not fit.
+pub const LIST_FULL: u8 = 20;
 
 /// The answer page.
 pub const PAGE: usize = 4096;
