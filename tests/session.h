@@ -12,6 +12,7 @@ struct stores {
     uint8_t places[SND_PLACES * (4 + PERIOD) + 5];
     uint8_t recording[RECORDED * PERIOD + 3];
     uint8_t room[19 + 20 * 4 + 3]; /* for the trace of four periods */
+    uint8_t list[3 * SND_ENTRY_SIZE + 1];
 };
 
 static struct stores s;
@@ -27,6 +28,7 @@ static uint8_t frames[FRAMES];
 #define PLACES s.places, sizeof s.places
 #define RECORDING s.recording, sizeof s.recording
 #define ROOM s.room, sizeof s.room
+#define LIST s.list, sizeof s.list
 
 /* Hands each request to the model device and feeds its answer, until the call says something else. */
 static uint64_t answered(uint64_t said) {
@@ -249,6 +251,19 @@ static void traces(void) {
     judged(19); /* no run has this answer */
 }
 
+/* Two traces compared: every kind of difference, and each way to be refused. */
+static void compared(void) {
+    uint8_t first[] = {3, 1, 0, 0, 2, 5, 0, 1, 0, 0x80, 0, 0}, second[] = {3, 1, 0, 2, 3, 1, 0, 9};
+    CALL(snd_entry_size);
+    CALL(snd_differences, first, sizeof first, second, sizeof second);
+    CALL(snd_compare, first, sizeof first, second, sizeof second, LIST);
+    CALL(snd_compare, first, sizeof first, first, sizeof first, LIST);                             /* equal */
+    CALL(snd_compare, first, sizeof first, second, sizeof second, s.list, 3 * SND_ENTRY_SIZE - 1); /* ListFull */
+    CALL(snd_compare, first, sizeof first, second, 7, LIST);                                       /* the second is cut */
+    CALL(snd_compare, first, 11, second, sizeof second, LIST);                                     /* the first is */
+    CALL(snd_differences, first, 11, second, sizeof second);
+}
+
 static void strict(void) {
     CALL(snd_new, STATE, JACKS, STREAMS, MAPS);
     answered_in(4, CALL(snd_jack_remap, STATE, RING, 0, 1, 2, MESSAGE, RESULT)); /* headers alone: no jacks, and Short for the streams */
@@ -337,6 +352,7 @@ static void session(void) {
     transfer(5, ~0u);
     go_on();
     traces();
+    compared();
     record();
     others();
     guarded();

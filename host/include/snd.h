@@ -1,7 +1,7 @@
 /* The driver's C entries. docs/BOUNDARY.md says what each answers and writes.
  *
  * Every entry answers one number: the answer's own in its low 32 bits, SND_NUMBER. 0 to 10 are
- * document 01's answers, 11 to 19 are document 02's; a request of n bytes to send is SND_SEND + n; a turn
+ * document 01's answers, 11 to 20 are document 02's; a request of n bytes to send is SND_SEND + n; a turn
  * that goes on is SND_GOING; an event that says nothing is SND_NOTHING. Of 2 and 3 the high 32 bits,
  * SND_STATUS, are the status by which the device refused, or SND_NO_STATUS; of every other answer 0.
  *
@@ -32,7 +32,7 @@ extern "C" {
 /* The version of this header and of the archive beside it: docs/BOUNDARY.md says when it changes.
  * As one number it can be compared by #if. */
 #define SND_VERSION_MAJOR 0u
-#define SND_VERSION_MINOR 9u
+#define SND_VERSION_MINOR 10u
 #define SND_VERSION_PATCH 0u
 #define SND_VERSION (SND_VERSION_MAJOR * 1000000u + SND_VERSION_MINOR * 1000u + SND_VERSION_PATCH)
 
@@ -56,6 +56,7 @@ extern "C" {
 #define SND_BAD_CAPTURE 17u
 #define SND_BAD_TRACE 18u
 #define SND_NOT_A_RUN 19u
+#define SND_LIST_FULL 20u
 #define SND_SEND 256u
 #define SND_GOING 512u
 #define SND_NOTHING 513u
@@ -76,6 +77,7 @@ extern "C" {
 #define SND_RESULT_SIZE 512u
 #define SND_PAGE_SIZE 4096u
 #define SND_MODEL_SIZE 16427u
+#define SND_ENTRY_SIZE 34u
 /* Equal places of a store of submissions that do not wait. */
 #define SND_PLACES 16u
 
@@ -204,6 +206,20 @@ uint64_t snd_trace_scan(const uint8_t *trace, size_t trace_len);
 uint64_t snd_trace_scan_at(const uint8_t *trace, size_t trace_len);
 uint64_t snd_judge(uint32_t mode, const uint8_t *trace, size_t trace_len);
 uint64_t snd_judge_at(uint32_t mode, const uint8_t *trace, size_t trace_len);
+
+/* Two traces compared, field by field; they need be no runs. They use no store.
+ *
+ * snd_compare writes every difference, in order, as an entry of snd_entry_size bytes at the front of
+ * the list: position 8, kind 1 (0 only in the first, 1 only in the second, 2 the same tag with other
+ * contents), tag 1, three numbers of the first's field, 4 each, and three of the second's; zeros where
+ * there is none. What stands behind the entries stays. 18 the first is no whole fields, as
+ * snd_trace_scan says; 18 the second is none; 20 exactly where the differences outnumber the whole
+ * entries that the list has room for. A refusal leaves the list as it was. snd_differences answers how
+ * many there are, as it is, and 0 where a trace is refused. */
+uint64_t snd_entry_size(void);
+uint64_t snd_differences(const uint8_t *first, size_t first_len, const uint8_t *second, size_t second_len);
+uint64_t snd_compare(const uint8_t *first, size_t first_len, const uint8_t *second, size_t second_len,
+                     uint8_t *list, size_t list_len);
 
 /* A capture: a transfer that goes the other way, on a stream of direction 1. Its ring, turn order and
  * budget are a playback's, and drain turns and reads are the same; a playback's turn or offer on a

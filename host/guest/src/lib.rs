@@ -1,6 +1,7 @@
 //! Calls every call, feed, turn and read of the crate `snd`, and of its model device, on anything at all. A panic would call a function that is nowhere defined, so the test that builds
 //! this only has to look whether that function is asked for.
 #![no_std]
+use snd::trace::Difference;
 use snd::{
     Captured, Capturing, Config, F_CTLS, Features, Format, Formats, Model, Notification, Page, Params, Pending, Places,
     Rate, Rates, Reading, Refusal, Ring, Sound, Started, Status, Step, StreamList, Submitted, Tracing, Unfed, Value,
@@ -226,7 +227,21 @@ fn traces(console: &mut Console) -> u64 {
     let judged = [trace::judge(console.number, bytes), trace::scan(bytes)];
     let said = judged.map(|said| said.map_or_else(|judged| refused(judged.number) ^ judged.at as u64, |()| 0));
     let fields = trace::Fields::of(bytes).map(|(at, field)| at as u64 ^ u64::from(field.tag()));
-    fields.chain(said).fold(0, |sum, said| said.wrapping_add(sum))
+    let mut list = [0; 64];
+    let listed = match trace::compare(bytes, bytes, &mut list) {
+        Ok(entries) => entries.map(Difference::position).fold(0, u64::wrapping_add),
+        Err(unlisted) => refused(unlisted.number()),
+    };
+    let read = trace::Entries::of(bytes).filter(|one| one.first() == one.second());
+    let listed = [
+        listed,
+        read.count() as u64,
+        trace::differences(bytes, bytes).unwrap_or(0) as u64,
+    ];
+    fields
+        .chain(said)
+        .chain(listed)
+        .fold(0, |sum, said| said.wrapping_add(sum))
 }
 
 fn capture(console: &mut Console) -> u64 {

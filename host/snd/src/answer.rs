@@ -134,6 +134,8 @@ table! {
     BadTrace = 18,
     /// A trace whose fields are whole, and which no run of the turns writes ([`crate::trace::judge`]).
     NotARun = 19,
+    /// Two traces have more differences than the list has room for ([`crate::trace::compare`]).
+    ListFull = 20,
 }
 
 impl Answer {
@@ -262,7 +264,7 @@ mod tests {
 
     #[test]
     fn a_number_outside_the_table_is_unknown() {
-        for number in [20, 255, 514, u64::MAX] {
+        for number in [21, 255, 514, u64::MAX] {
             assert_eq!(Said::of(number), Said::Refused(Refusal::Unknown));
         }
         assert_eq!(Said::done(512), Err(Refusal::Unknown));

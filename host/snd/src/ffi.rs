@@ -129,6 +129,12 @@ entries! {
     fn snd_judge(mode: u32, trace: &[u8],);
     /// The offset at which none does.
     fn snd_judge_at(mode: u32, trace: &[u8],);
+    /// The size of an entry of a list of differences.
+    fn snd_entry_size();
+    /// How many differences two traces have.
+    fn snd_differences(first: &[u8], second: &[u8],);
+    /// Lists them.
+    fn snd_compare(first: &[u8], second: &[u8], list: &mut [u8],);
 
     /// The start of a capture.
     fn snd_pcm_capture_start(state: &mut [u8], ring: &mut [u8], stream: u32, periods: u64, recording: &[u8], budget: u64,

@@ -1,7 +1,7 @@
 //! Traces of transfers, our own and others': `docs/TRACE.md` has their form.
 //!
 //! A trace is bytes of any length, so nothing here has a store. [`judge`] says whether a run of the driver's turns writes a trace, and where
-//! not; [`scan`] whether it is whole fields at all; [`Fields`] shows what stands in it.
+//! not; [`scan`] whether it is whole fields at all; [`Fields`] shows what stands in it. [`compare`] lists every difference of two of them.
 //!
 //! ```
 //! use snd::Refusal;
@@ -20,7 +20,7 @@
 //! assert_eq!(trace::scan(&trace[..18]), Err(Judged { number: Refusal::BadTrace, at: 15 }));
 //! ```
 use crate::answer::Said;
-use crate::bytes::{run, u32_at};
+use crate::bytes::{run, u32_at, u64_at};
 use crate::{Refusal, ffi};
 use core::fmt;
 
@@ -234,6 +234,202 @@ impl Iterator for Fields<'_> {
         self.rest = self.rest.get(length..).unwrap_or_default();
         self.at = at.saturating_add(length);
         Some((at, field))
+    }
+}
+
+/// The size of an entry of a list of differences.
+pub const ENTRY_SIZE: usize = 34;
+
+/// Where two traces differ: by the number of a field, from 0. Shown as a program prints it, in one line, or in two where both have the field.
+#[derive(Clone, Copy, PartialEq, Eq, Debug)]
+pub enum Difference {
+    /// A field that only the first has.
+    OnlyFirst {
+        /// Its number.
+        position: u64,
+        /// What it is.
+        field: Field,
+    },
+    /// A field that only the second has.
+    OnlySecond {
+        /// Its number.
+        position: u64,
+        /// What it is.
+        field: Field,
+    },
+    /// The same tag with other contents.
+    Other {
+        /// The number of both.
+        position: u64,
+        /// What the first has.
+        first: Field,
+        /// What the second has.
+        second: Field,
+    },
+}
+
+impl Difference {
+    /// The number of the field, from 0.
+    #[must_use]
+    pub const fn position(self) -> u64 {
+        match self {
+            Self::OnlyFirst { position, .. } | Self::OnlySecond { position, .. } | Self::Other { position, .. } => {
+                position
+            }
+        }
+    }
+
+    /// What the first trace has there.
+    #[must_use]
+    pub const fn first(self) -> Option<Field> {
+        match self {
+            Self::OnlyFirst { field: first, .. } | Self::Other { first, .. } => Some(first),
+            Self::OnlySecond { .. } => None,
+        }
+    }
+
+    /// What the second trace has there.
+    #[must_use]
+    pub const fn second(self) -> Option<Field> {
+        match self {
+            Self::OnlySecond { field: second, .. } | Self::Other { second, .. } => Some(second),
+            Self::OnlyFirst { .. } => None,
+        }
+    }
+
+    /// An entry of a list; none where these bytes are no entry.
+    fn read(entry: &[u8]) -> Option<Self> {
+        let (position, [kind, tag]) = (u64_at(entry, 0), run(entry, 8));
+        let field = |at: usize| {
+            let numbers = [0, 4, 8].map(|number| u32_at(entry, at.saturating_add(number)));
+            Field::of(tag, numbers)
+        };
+        match kind {
+            0 => field(10).map(|field| Self::OnlyFirst { position, field }),
+            1 => field(22).map(|field| Self::OnlySecond { position, field }),
+            2 => field(10).zip(field(22)).map(|(first, second)| Self::Other {
+                position,
+                first,
+                second,
+            }),
+            _ => None,
+        }
+    }
+}
+
+impl fmt::Display for Difference {
+    fn fmt(&self, f: &mut fmt::Formatter<'_>) -> fmt::Result {
+        match *self {
+            Self::OnlyFirst { position, field } => write!(f, "{position} - {field}"),
+            Self::OnlySecond { position, field } => write!(f, "{position} + {field}"),
+            Self::Other {
+                position,
+                first,
+                second,
+            } => write!(f, "{position} < {first}\n{position} > {second}"),
+        }
+    }
+}
+
+/// The entries of a list, in order. It is of use without the traces, and ends before the first whole row that is no entry.
+#[derive(Clone, Debug)]
+pub struct Entries<'l> {
+    rows: &'l [u8],
+}
+
+impl<'l> Entries<'l> {
+    /// Of these bytes, as [`compare`] writes them: rows of [`ENTRY_SIZE`].
+    #[must_use]
+    pub const fn of(list: &'l [u8]) -> Self {
+        Self { rows: list }
+    }
+}
+
+impl Iterator for Entries<'_> {
+    type Item = Difference;
+
+    fn next(&mut self) -> Option<Difference> {
+        let (row, rest) = self.rows.split_at_checked(ENTRY_SIZE)?;
+        self.rows = rest;
+        Difference::read(row)
+    }
+}
+
+/// Why two traces are not listed.
+#[derive(Clone, Copy, PartialEq, Eq, Debug)]
+pub enum Unlisted {
+    /// The first is no trace, and where; it is judged first.
+    First(Judged),
+    /// The second is none.
+    Second(Judged),
+    /// The differences outnumber the whole entries that the list has room for: [`differences`] tells how many there are.
+    Full,
+}
+
+impl Unlisted {
+    /// The answer.
+    #[must_use]
+    pub const fn number(self) -> Refusal {
+        match self {
+            Self::First(judged) | Self::Second(judged) => judged.number,
+            Self::Full => Refusal::ListFull,
+        }
+    }
+}
+
+/// The number, which trace and where.
+impl fmt::Display for Unlisted {
+    fn fmt(&self, f: &mut fmt::Formatter<'_>) -> fmt::Result {
+        match self {
+            Self::First(judged) => write!(f, "{} first {}", judged.number.number(), judged.at),
+            Self::Second(judged) => write!(f, "{} second {}", judged.number.number(), judged.at),
+            Self::Full => write!(f, "{}", Refusal::ListFull.number()),
+        }
+    }
+}
+
+impl core::error::Error for Unlisted {}
+
+/// Both are whole fields, the first judged first.
+fn whole(first: &[u8], second: &[u8]) -> Result<(), Unlisted> {
+    scan(first).map_err(Unlisted::First)?;
+    scan(second).map_err(Unlisted::Second)
+}
+
+/// How many differences two traces have: 0 exactly when their bytes are equal.
+pub fn differences(first: &[u8], second: &[u8]) -> Result<usize, Unlisted> {
+    whole(first, second)?;
+    Ok(ffi::snd_differences(first, second) as usize)
+}
+
+/// Lists every difference of two traces at the front of `list`, in order; what stands behind the entries stays. They need be no runs. A refusal
+/// leaves the list as it was.
+///
+/// ```
+/// use snd::trace::{self, Difference, ENTRY_SIZE, Field, Unlisted};
+/// let (ended, failed) = ([3, 1, 0, 0], [3, 1, 0, 2]);
+/// let mut list = [0; 2 * ENTRY_SIZE];
+/// let mut entries = trace::compare(&ended, &failed, &mut list)?;
+/// let other = Difference::Other { position: 0, first: Field::End { answer: 0 }, second: Field::End { answer: 2 } };
+/// assert_eq!((entries.next(), entries.next()), (Some(other), None));
+/// assert_eq!(other.to_string(), "0 < end answer 0\n0 > end answer 2");
+///
+/// assert_eq!(trace::compare(&ended, &ended, &mut [])?.count(), 0);
+/// assert_eq!(trace::compare(&ended, &failed, &mut list[..33]).unwrap_err(), Unlisted::Full);
+/// # Ok::<(), Unlisted>(())
+/// ```
+pub fn compare<'l>(first: &[u8], second: &[u8], list: &'l mut [u8]) -> Result<Entries<'l>, Unlisted> {
+    match Said::done(ffi::snd_compare(first, second, list)) {
+        Ok(()) => {
+            let rows = differences(first, second)?.saturating_mul(ENTRY_SIZE);
+            Ok(Entries::of(list.get(..rows).unwrap_or_default()))
+        }
+        Err(Refusal::ListFull) => Err(Unlisted::Full),
+        Err(number) => Err(match whole(first, second) {
+            Err(unlisted) => unlisted,
+            // no answer of this entry
+            Ok(()) => Unlisted::First(Judged { number, at: 0 }),
+        }),
     }
 }
 

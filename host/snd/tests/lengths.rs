@@ -12,6 +12,7 @@ fn the_types_have_the_sizes_that_the_entries_hand_out() {
     assert_eq!(ffi::snd_result_size(), snd::RESULT_SIZE as u64);
     assert_eq!(ffi::snd_page_size(), snd::PAGE_SIZE as u64);
     assert_eq!(ffi::snd_model_size(), snd::MODEL_SIZE as u64);
+    assert_eq!(ffi::snd_entry_size(), snd::trace::ENTRY_SIZE as u64);
 }
 
 #[test]

@@ -479,6 +479,7 @@ fn answers_have_the_documents_numbers() {
         (17, "BadCapture"),
         (18, "BadTrace"),
         (19, "NotARun"),
+        (20, "ListFull"),
     ];
     for (number, name) in names {
         let refusal = Refusal::of(u64::from(number) | 0x8002 << 32);
@@ -498,7 +499,7 @@ fn answers_have_the_documents_numbers() {
         );
     }
     assert_eq!((snd::Answer::Ok.number(), snd::Answer::Ok.name()), (0, "Ok"));
-    assert_eq!(Refusal::of(20), Refusal::Unknown);
+    assert_eq!(Refusal::of(21), Refusal::Unknown);
     assert_eq!(
         Refusal::of(0x8000_0000_0003).to_string(),
         "3 Unsupported: no status caused it"

@@ -16,7 +16,7 @@ macro_rules! entries {
     };
 }
 
-/// The 65 entries, in the header's order.
+/// The 68 entries, in the header's order.
 pub const ENTRIES: &[Entry] = entries! {
     snd_state_size [] |_l| ();
     snd_ring_size [] |_l| ();
@@ -63,6 +63,9 @@ pub const ENTRIES: &[Entry] = entries! {
     snd_trace_scan_at [] |l| (&l.trace);
     snd_judge [] |l| (l.mode, &l.trace);
     snd_judge_at [] |l| (l.mode, &l.trace);
+    snd_entry_size [] |_l| ();
+    snd_differences [] |l| (&l.trace, &l.second);
+    snd_compare [] |l| (&l.trace, &l.second, &mut l.list);
     snd_pcm_capture_start [State Ring Message]
         |l| (&mut l.state, &mut l.ring, l.numbers[0], l.periods, &l.recording, l.budget, &mut l.message);
     snd_capture_offered [Ring Recording Result] |l| (&l.ring, &l.recording, &mut l.result);

@@ -23,6 +23,9 @@ pub struct Lent {
     /// A trace that is to be judged, and in which mode.
     pub trace: Vec<u8>,
     pub mode: u32,
+    /// One that it is compared with, and a list with room for their five differences and a byte more.
+    pub second: Vec<u8>,
+    pub list: Vec<u8>,
     /// A captured period, whole, with its status.
     pub bytes: Vec<u8>,
     /// One period, and places that have room for it and a byte more; the last bytes belong to none.
@@ -158,6 +161,8 @@ impl Lent {
             room: vec![0xa6; snd::trace::room_len(FRAMES.len(), PARAMS.period) + 1],
             trace: super::trace(),
             mode: snd::trace::DIRECT,
+            second: super::failed_trace(),
+            list: vec![0xa7; 5 * snd::trace::ENTRY_SIZE + 1],
             bytes: super::captured(b"mike", 0x8000),
             payload: b"four".to_vec(),
             places: vec![0xa4; snd::PLACES * (4 + 4 + 1) + 7],

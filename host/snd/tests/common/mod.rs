@@ -118,6 +118,14 @@ pub fn trace() -> Vec<u8> {
     trace
 }
 
+/// The second trace of docs/TRACE.md: of the same start, and its second period came back with 0x8003.
+pub fn failed_trace() -> Vec<u8> {
+    let mut trace = trace();
+    trace.truncate(51);
+    trace.extend([3, 0x80, 0, 0, 3, 1, 0, 2]);
+    trace
+}
+
 /// The exchange of a call that has a request to send.
 pub fn sent<T>(step: Result<Step<T>, Refusal>) -> Exchange<T> {
     match step {
