@@ -59,6 +59,7 @@ use Rattle.console.proofs.ring.snd_ring_free_descriptors.Reads as ring-
 use Rattle.console.proofs.ring.snd_ring_turns_run.Reads as ring-turns-run
 use Rattle.console.proofs.ring.snd_ring_stream.Reads as ring-stream
 use Rattle.console.proofs.ring.snd_ring_kept.Reads as ring-kept
+use Rattle.console.proofs.ring.snd_ring_accepted.Reads as ring-accepted
 use Rattle.console.proofs.ring.snd_trace_length.Reads as trace-length
 use Rattle.console.proofs.ring.snd_ring_carried.Reads as ring-carried
 use Rattle.console.proofs.ring.snd_ring_oldest.Reads as ring-oldest
@@ -274,6 +275,9 @@ trace-length-one κs a r₁ r₂ e₁ e₂ p q = shown-one p q
 
 pub ring-kept-one : (κs : _) (a : _) (r₁ r₂ : _) (e₁ e₂ : _) → ring-kept.Post κs a r₁ e₁ → ring-kept.Post κs a r₂ e₂ → (r₁ ≡ r₂) × (now (e₁ .1 .0) ≡ now (e₂ .1 .0))
 ring-kept-one κs a r₁ r₂ e₁ e₂ p q = shown-one p q
+
+pub ring-accepted-one : (κs : _) (a : _) (r₁ r₂ : _) (e₁ e₂ : _) → ring-accepted.Post κs a r₁ e₁ → ring-accepted.Post κs a r₂ e₂ → (r₁ ≡ r₂) × (now (e₁ .1 .0) ≡ now (e₂ .1 .0))
+ring-accepted-one κs a r₁ r₂ e₁ e₂ p q = shown-one p q
 
 pub capture-offered-one : (κs : _) (a : _) (r₁ r₂ : _) (e₁ e₂ : _) → capture-offered.Post κs a r₁ e₁ → capture-offered.Post κs a r₂ e₂ → (r₁ ≡ r₂) × (now (e₁ .1 .1 .0) ≡ now (e₂ .1 .1 .0))
 capture-offered-one κs a r₁ r₂ e₁ e₂ p q = shown-one p q

@@ -2,7 +2,7 @@
 // turn, and its reads.
 ghost use mathlib.Core.Path.{_≡_};
 ghost use lib.ListN.{length};
-ghost use Rattle.turns.specs.Reads.{runningOf, inFlightOf, freeOf, turnsOf, streamOf, keptRead, writtenRead, carriedOf};
+ghost use Rattle.turns.specs.Reads.{runningOf, inFlightOf, freeOf, turnsOf, streamOf, keptRead, writtenRead, acceptedRead, carriedOf};
 ghost use Rattle.ring_store.specs.Store.{trackAt, ringOf};
 ghost use Rattle.ring_store.specs.Calls.{newIn, turnIn, drainIn, caught, captureIn, turnTracedIn, offerIn, captureOfferIn, toldIn, oldestSays};
 ghost use Rattle.layout.specs.Lent.{made, shown};
@@ -116,6 +116,14 @@ pub extern "C" fn snd_ring_kept(ring: &[u8], result: &mut [u8]) -> u64
     ensures { λ r. ⌜ shown r (now (result .exit)) ≡ toldIn (now (ring .entry)) (now (result .entry)) (keptRead (trackAt (now (ring .entry)))) ⌝ }
 {
     ring_store::kept(ring, result)
+}
+
+// The good completions of the transfer that runs, or of the last one that ran.
+#[no_mangle]
+pub extern "C" fn snd_ring_accepted(ring: &[u8], result: &mut [u8]) -> u64
+    ensures { λ r. ⌜ shown r (now (result .exit)) ≡ toldIn (now (ring .entry)) (now (result .entry)) (acceptedRead (trackAt (now (ring .entry)))) ⌝ }
+{
+    ring_store::accepted(ring, result)
 }
 
 // The bytes of its room that hold the trace, of the transfer that runs or ran last.

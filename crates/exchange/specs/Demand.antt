@@ -14,6 +14,8 @@ use Rattle.turns.specs.Asked as asked
 use Rattle.layout.specs.All.{All}
 use Rattle.turns.specs.Asked.{starts, plays, NoFault, CompletesWithin, Whole, Accounted}
 use Rattle.turns.specs.Demand as turns
+use Rattle.turns.specs.Heard as heard
+use Rattle.turns.specs.Heard.{HeardOut}
 use Rattle.turns.specs.declared.ring.Said.the-variants.{Done}
 use Rattle.exchange.specs.State.{paramsOf}
 use Rattle.exchange.specs.Xfer.{startOf, xferOf}
@@ -69,6 +71,13 @@ module _ (s : Sound) (r : Ring) (stream budget m : ℕ) (frames : List ℕ) (scr
   accounted =
       begun-by s r stream budget m frames (λ x. let h = turnByTurn (length frames) budget x script in Accounted (periodOf s stream) frames (h .said) (h .at .track) (h .log))
       (turns.accounted r stream (periodOf s stream) budget frames script) began
+
+  -- 2026-13: "the accepted payloads are exactly the first k periods, the failing one is the next, and those still owed follow it without a gap; for WrongToken and
+  -- OutOfTurns the same without the failing one"
+  pub heard-out : length (r .slots) ≡ 32 → HeardOut (periodOf s stream) frames (playing s r stream budget m frames script)
+  heard-out size =
+      begun-by s r stream budget m frames (λ x. HeardOut (periodOf s stream) frames (turnByTurn (length frames) budget x script))
+      (λ e. heard.heard-out r stream (periodOf s stream) budget frames script e size) began
 
   -- "how long may the console sit inside one announcement?" There is an answer after at most budget turns
   pub always-answers : (playing s r stream budget m frames script .said ≡ Going → ⊥) × (length (playing s r stream budget m frames script .log) ≤ budget)

@@ -26,6 +26,7 @@ use Rattle.ring_store.proofs.reads.free_descriptors.Reads as free-descr
 use Rattle.ring_store.proofs.reads.turns_run.Reads as turns-run
 use Rattle.ring_store.proofs.reads.stream.Reads as stream
 use Rattle.ring_store.proofs.reads.kept.Reads as kept
+use Rattle.ring_store.proofs.reads.accepted.Reads as accepted
 use Rattle.ring_store.proofs.reads.trace_length.Reads as trace-length
 use Rattle.ring_store.proofs.reads.carried.Reads as carried
 use Rattle.ring_store.proofs.reads.oldest.Reads as oldest
@@ -93,6 +94,9 @@ stream-one κs a r₁ r₂ e₁ e₂ p q = tells p q
 
 pub kept-one : (κs : _) (a : _) (r₁ r₂ : _) (e₁ e₂ : _) → kept.Post κs a r₁ e₁ → kept.Post κs a r₂ e₂ → (r₁ ≡ r₂) × (now (e₁ .1 .0) ≡ now (e₂ .1 .0))
 kept-one κs a r₁ r₂ e₁ e₂ p q = tells p q
+
+pub accepted-one : (κs : _) (a : _) (r₁ r₂ : _) (e₁ e₂ : _) → accepted.Post κs a r₁ e₁ → accepted.Post κs a r₂ e₂ → (r₁ ≡ r₂) × (now (e₁ .1 .0) ≡ now (e₂ .1 .0))
+accepted-one κs a r₁ r₂ e₁ e₂ p q = tells p q
 
 pub trace-length-one : (κs : _) (a : _) (r₁ r₂ : _) (e₁ e₂ : _) → trace-length.Post κs a r₁ e₁ → trace-length.Post κs a r₂ e₂ → (r₁ ≡ r₂) × (now (e₁ .1 .0) ≡ now (e₂ .1 .0))
 trace-length-one κs a r₁ r₂ e₁ e₂ p q = tells p q

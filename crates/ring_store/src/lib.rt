@@ -15,6 +15,7 @@ pub use calls::start;
 pub use calls::start_traced;
 pub use calls::turn;
 pub use calls::turn_traced;
+pub use reads::accepted;
 pub use reads::capture_offered;
 pub use reads::carried;
 pub use reads::free_descriptors;

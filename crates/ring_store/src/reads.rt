@@ -7,7 +7,7 @@ ghost use lib.Dec.{ltb};
 ghost use Rattle.layout.specs.Lent.{shown};
 ghost use Rattle.codes.specs.Says.{says, guard};
 ghost use Rattle.codes.specs.Answers.{refusalWord};
-ghost use Rattle.turns.specs.Reads.{runningOf, inFlightOf, freeOf, turnsOf, streamOf, keptRead, writtenRead, carriedOf};
+ghost use Rattle.turns.specs.Reads.{runningOf, inFlightOf, freeOf, turnsOf, streamOf, keptRead, writtenRead, acceptedRead, carriedOf};
 ghost use Rattle.turns.specs.Consistent.{consistentOf};
 ghost use Rattle.ring_store.specs.Store.{trackAt, ringOf};
 ghost use Rattle.ring_store.specs.Calls.{roomyIn, toldIn, offerIn, saysRoom, captureOfferIn, oldestSays};
@@ -220,6 +220,15 @@ pub fn trace_length(ring: &[u8], result: &mut [u8]) -> u64
     let t = store::track(ring);
     let sound = turns::is_consistent(t);
     tell_one(ring, sound, t.written as u64, result)
+}
+
+// The good completions of the transfer that runs, or of the last one that ran.
+pub fn accepted(ring: &[u8], result: &mut [u8]) -> u64
+    ensures { λ r. ⌜ shown r (now (result .exit)) ≡ toldIn (now (ring .entry)) (now (result .entry)) (acceptedRead (trackAt (now (ring .entry)))) ⌝ }
+{
+    let t = store::track(ring);
+    let sound = turns::is_consistent(t);
+    tell_one(ring, sound, t.good, result)
 }
 
 // A slot of a consistent ring.

@@ -51,6 +51,7 @@ use Rattle.turns.proofs.ring.Ring.turns_run.Reads as turns-run
 use Rattle.turns.proofs.ring.Ring.stream.Reads as stream
 use Rattle.turns.proofs.ring.Ring.kept.Reads as kept
 use Rattle.turns.proofs.ring.Ring.trace_length.Reads as trace-length
+use Rattle.turns.proofs.ring.Ring.accepted.Reads as accepted
 use Rattle.turns.proofs.capture.Catch.from_words.Reads as catch-from-words
 use Rattle.turns.proofs.capture.capture_track.Reads as capture-track
 use Rattle.turns.proofs.capture.capture_turn.Reads as capture-turn
@@ -183,6 +184,9 @@ kept-one κs a r₁ r₂ e₁ e₂ p q = one saysNumber unNumber un-number p q
 
 pub trace-length-one : (κs : _) (a : _) (r₁ r₂ : _) (e₁ e₂ : _) → trace-length.Post κs a r₁ e₁ → trace-length.Post κs a r₂ e₂ → r₁ ≡ r₂
 trace-length-one κs a r₁ r₂ e₁ e₂ p q = one saysNumber unNumber un-number p q
+
+pub accepted-one : (κs : _) (a : _) (r₁ r₂ : _) (e₁ e₂ : _) → accepted.Post κs a r₁ e₁ → accepted.Post κs a r₂ e₂ → r₁ ≡ r₂
+accepted-one κs a r₁ r₂ e₁ e₂ p q = one saysNumber unNumber un-number p q
 
 pub stream-one : (κs : _) (a : _) (r₁ r₂ : _) (e₁ e₂ : _) → stream.Post κs a r₁ e₁ → stream.Post κs a r₂ e₂ → r₁ ≡ r₂
 stream-one κs a r₁ r₂ e₁ e₂ p q = one saysNumber unNumber un-number p q

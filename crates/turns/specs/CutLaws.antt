@@ -5,10 +5,10 @@ use native.Mathlib.Omega.{arith}
 use native.Mathlib.Nat.{zero-add, zero-min, min-zero, suc-min-suc}
 use native.Mathlib.Decide.{decLt}
 use mathlib.Core.Path.{_≡_, refl, ap, sym, _∙_}
-use mathlib.Core.List.{List, [], _∷_, map}
+use mathlib.Core.List.{List, [], _∷_, _++_, map}
 use lib.Dec.{ltb}
 use lib.ListN.{length, getD, take, drop, length-take, length-drop, length-map, take-append-drop}
-use lib.Seq.{drop-drop}
+use lib.Seq.{drop-drop, take-nil, take-add}
 use borrow.Author.Tests.{lt-ltb, le-ltb}
 use Rattle.codes.specs.Says.{pick}
 use Rattle.turns.specs.Cut.{cutBy, cut, join, spanOf, payload}
@@ -96,6 +96,19 @@ module _ {A : Type 0} where
   joined zero p (x ∷ xs) h b = absurd (omega arith)
   joined (suc f) p xs h b = joined-by f p xs h b (joined f p (drop p xs) h) (decLt 0 (length xs))
 
+  -- the first periods joined are the first bytes
+  pub first-joined : (f p k : ℕ) (xs : List A) → 0 < p → length xs ≤ f → join (take k (cutBy f p xs)) ≡ take (k * p) xs
+  unfolding cutBy
+  first-joined f p zero xs h b = let z : 0 ≡ 0 * p = omega arith in ap (λ (n : ℕ). take n xs) z
+  first-joined zero p (suc k) [] h b = sym (take-nil (suc k * p))
+  first-joined zero p (suc k) (x ∷ xs) h b = absurd (omega arith)
+  first-joined (suc f) p (suc k) [] h b = sym (take-nil (suc k * p))
+  first-joined (suc f) p (suc k) (x ∷ xs) h b =
+      let more : p + k * p ≡ suc k * p = omega arith in
+      ap (λ (l : List A). take p (x ∷ xs) ++ l) (first-joined f p k (drop p (x ∷ xs)) h (omega (arith, length-drop p (x ∷ xs))))
+      ∙ sym (take-add p (k * p) (x ∷ xs))
+      ∙ ap (λ (n : ℕ). take n (x ∷ xs)) more
+
   cut-some : (f p : ℕ) (xs : List A) → 0 < length (cutBy f p xs) → Dec (0 < length xs) → 0 < length xs
   cut-some f p xs h (yes y) = y
   cut-some f p xs h (no n) = absurd (omega (arith, ap length (cut-none f p xs (omega arith))))
@@ -149,6 +162,9 @@ module _ (period : ℕ) (frames : List ℕ) where
 
   pub cut-joined : 0 < period → join (cut period frames) ≡ frames
   cut-joined some = joined (length frames) period frames some (omega arith)
+
+  pub cut-first : 0 < period → (k : ℕ) → join (take k (cut period frames)) ≡ take (k * period) frames
+  cut-first some k = first-joined (length frames) period k frames some (omega arith)
 
   pub cut-whole : (i : ℕ) → suc i < length (cut period frames) → length (getD (cut period frames) i []) ≡ period
   cut-whole = whole (length frames) period frames

@@ -90,7 +90,7 @@ module _ (r : Ring) (stream period budget : ℕ) (frames : List ℕ) (script : L
   -- in flight is what was submitted and not completed, and their slots carry just these periods
   pub owed-exactly : length (r .slots) ≡ 32
       → let h = plays r stream period budget frames script in (length (sends (h .log)) ≡ length (frees (h .log)) + h .at .track .inflight) × Carried period frames h
-  owed-exactly size = (accounted .owed, plays-carried r stream period budget frames script began size)
+  owed-exactly size = (accounted .owed, plays-carried r stream period budget frames script began size budget)
 
   -- "At most 10 are in flight": after k turns, for every k, and at every reading
   pub ten-at-most : (k : ℕ) → let h = turnByTurn (length frames) k (starts r stream period budget frames .ring) script in (h .at .track .inflight ≤ 10) × All AtMostTen (h .log)

@@ -67,14 +67,14 @@ module _ (r : Ring) (stream period budget : ℕ) (frames : List ℕ) (script : L
   from : Begins (r .track) stream (length frames) period budget (startCall (r .track) stream (length frames) period budget)
   from = begins (r .track) stream (length frames) period budget began
 
-  some : 0 < period
+  pub some : 0 < period
   some = from .runs .consistent .paced .some refl
 
   abbrev least : ℕ
   least = r .track .descriptors
 
   -- the loop of k turns is the run of the rules from the beginning of the transfer
-  as-run : (k : ℕ) → seen (λ (x : Ring). x .track) (turnByTurn (length frames) k (starts r stream period budget frames .ring) script) ≡ run played least k (begun (r .track) stream (length frames) period budget) script
+  pub as-run : (k : ℕ) → seen (λ (x : Ring). x .track) (turnByTurn (length frames) k (starts r stream period budget frames .ring) script) ≡ run played least k (begun (r .track) stream (length frames) period budget) script
   as-run k =
       link least (length frames) k (starts r stream period budget frames .ring) script (ap (λ (t : Track). t .descriptors) (from .track)) (subst (Runs (length frames)) (sym (from .track)) (from .runs))
       ∙ ap (λ (t : Track). run played least k t script) (from .track)
@@ -98,13 +98,13 @@ module _ (r : Ring) (stream period budget : ℕ) (frames : List ℕ) (script : L
   pub plays-ten : (k : ℕ) → let h = turnByTurn (length frames) k (starts r stream period budget frames .ring) script in (h .at .track .inflight ≤ 10) × All AtMostTen (h .log)
   plays-ten k = (few _ (plays-ends k .consistent .placed), subst (λ (o : Ran Track). All AtMostTen (o .log)) (sym (as-run k)) (run-ten played least (length frames) k _ script (omega arith) (from .runs)))
 
-  pub plays-carried : length (r .slots) ≡ 32 → Carried period frames (plays r stream period budget frames script)
-  plays-carried size i past to =
-      let h = plays r stream period budget frames script in
-      let a = plays-accounted budget in
-      let most = plays-ten budget .0 in
+  pub plays-carried : length (r .slots) ≡ 32 → (k : ℕ) → Carried period frames (turnByTurn (length frames) k (starts r stream period budget frames .ring) script)
+  plays-carried size k i past to =
+      let h = turnByTurn (length frames) k (starts r stream period budget frames .ring) script in
+      let a = plays-accounted k in
+      let most = plays-ten k .0 in
       let sized : length (starts r stream period budget frames .ring .slots) ≡ 32 = ap (λ (x : Sent). length (carry (r .slots) x)) (from .sent) ∙ size in
-      ap (λ (l : List _). getD l (i % 32) blankSlot) (host-carries (length frames) budget (starts r stream period budget frames .ring) script)
+      ap (λ (l : List _). getD l (i % 32) blankSlot) (host-carries (length frames) k (starts r stream period budget frames .ring) script)
       ∙ simp zero-add at (carries-at 0 (λ j. j * period) (λ j. spanOf period (length frames) (j * period)) (starts r stream period budget frames .ring .slots) i (sends (h .log)) (λ j b. simp zero-add (a .order j b)) sized to (omega (arith, a .owed)))
 
 -- ---- a transfer over a script

@@ -18,6 +18,7 @@ pub mod Demand
 pub mod CaptureDemand
 pub mod Joining
 pub mod Drained
+pub mod Heard
 pub mod AnyHost
 pub mod Worked
 -- laws
@@ -37,6 +38,7 @@ pub mod RunLaws
 pub mod OwedLaws
 pub mod RefusalLaws
 pub mod DemandLaws
+pub mod HeardLaws
 pub mod PremiseLaws
 pub mod CaptureLaws
 pub mod TakenLaws

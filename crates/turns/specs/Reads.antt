@@ -53,6 +53,10 @@ keptRead t = readOf t (t .kept ∷ [])
 abbrev pub writtenRead : Track → Says
 writtenRead t = readOf t (t .written ∷ [])
 
+-- 2026-13: the good completions of the transfer that runs or ran last
+abbrev pub acceptedRead : Track → Says
+acceptedRead t = readOf t (t .good ∷ [])
+
 -- a slot of 32 or more gets 1
 abbrev pub carriedOf : Ring → ℕ → Says
 carriedOf r slot =

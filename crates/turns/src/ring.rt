@@ -2,7 +2,7 @@
 ghost use mathlib.Core.Path.{_≡_};
 ghost use mathlib.Core.List.{[], _∷_};
 ghost use Rattle.turns.specs.Ring.{direct, newRing, goesOn};
-ghost use Rattle.turns.specs.Reads.{saysNumber, readOf, runningOf, inFlightOf, freeOf, turnsOf, streamOf, keptRead, writtenRead, saysCarried, carriedOf, saysOldest, oldestOf};
+ghost use Rattle.turns.specs.Reads.{saysNumber, readOf, runningOf, inFlightOf, freeOf, turnsOf, streamOf, keptRead, writtenRead, acceptedRead, saysCarried, carriedOf, saysOldest, oldestOf};
 use crate::consistent::is_consistent;
 use codes::Refusal;
 
@@ -226,6 +226,14 @@ impl Ring {
     {
         let t = self.track;
         number(t, t.written as u64)
+    }
+
+    // The good completions of the transfer that runs, or of the last one that ran.
+    pub fn accepted(self) -> RingNumber
+        ensures { λ r. ⌜ saysNumber r ≡ acceptedRead (self .track) ⌝ }
+    {
+        let t = self.track;
+        number(t, t.good)
     }
 
     pub fn carried(self, slot: usize) -> Carried
