@@ -259,6 +259,7 @@ pub enum Asked {
     Carried(usize),
     Oldest,
     Kept,
+    Accepted,
     TraceLength,
 }
 
@@ -275,6 +276,7 @@ pub fn ring_read(ring: Store<&Ring>, asked: Asked, result: &mut [u8]) -> Answer 
         Asked::TurnsRun => put(result, &[ring.turns]),
         Asked::Stream => put(result, &[ring.stream as u64]),
         Asked::Kept => put(result, &[ring.kept]),
+        Asked::Accepted => put(result, &[ring.good]),
         Asked::TraceLength => put(result, &[ring.traced]),
         Asked::Oldest => put(result, &[ring.oldest().is_some() as u64, ring.oldest().unwrap_or(0)]),
         Asked::Carried(slot) => match ring.slots.get(slot) {

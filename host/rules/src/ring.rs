@@ -33,6 +33,8 @@ pub struct Ring {
     pub period: u64,
     pub budget: u64,
     pub turns: u64,
+    /// the good completions of this transfer, or of the last that ran
+    pub good: u64,
     /// the offset of the next period
     pub next: u64,
     pub head: u64,
@@ -94,6 +96,7 @@ impl Default for Ring {
             period: 0,
             budget: 0,
             turns: 0,
+            good: 0,
             next: 0,
             head: 0,
             tail: 0,
@@ -111,6 +114,7 @@ impl Ring {
             && self.head == (self.tail + self.in_flight) % slots
             && self.next <= self.frames_len
             && self.kept <= self.lent
+            && self.good <= self.turns
             && (!self.running || (self.period > 0 && self.turns < self.budget))
     }
 
@@ -192,7 +196,7 @@ impl Ring {
     }
 
     /// The rules of one turn of either way: "turn order, ring and budget are playback's, by one shared statement". The judgement of a
-    /// completion is the way's own; it comes when the slot is the oldest, which is freed whatever it says.
+    /// completion is the way's own; it comes when the slot is the oldest, which is freed whatever it says. One that it takes is counted.
     pub(crate) fn ruled(
         &mut self,
         completed: Option<u32>,
@@ -217,6 +221,7 @@ impl Ring {
             if let Err(refused) = judge(self) {
                 return self.end(refused);
             }
+            self.good += 1;
         }
         if self.turns == self.budget {
             return self.end(OUT_OF_TURNS);
