@@ -198,6 +198,7 @@ static void record(void) {
         heard(i, i % 3 == 1 ? 8 + i : PERIOD + 8, 0x8000);
     CALL(snd_capture_turn, RING, RECORDING, 0, 0, 0, frames, 0); /* done */
     CALL(snd_ring_kept, RING, RESULT);
+    CALL(snd_ring_accepted, RING, RESULT);
     begun(99);
     heard(0, PERIOD + 9, 0x8000); /* BadCapture */
     begun(99);

@@ -32,7 +32,7 @@ extern "C" {
 /* The version of this header and of the archive beside it: docs/BOUNDARY.md says when it changes.
  * As one number it can be compared by #if. */
 #define SND_VERSION_MAJOR 0u
-#define SND_VERSION_MINOR 10u
+#define SND_VERSION_MINOR 11u
 #define SND_VERSION_PATCH 0u
 #define SND_VERSION (SND_VERSION_MAJOR * 1000000u + SND_VERSION_MINOR * 1000u + SND_VERSION_PATCH)
 
@@ -251,7 +251,10 @@ uint64_t snd_capture_turn(uint8_t *ring, size_t ring_len, uint8_t *recording, si
                           uint32_t kind, uint32_t slot, uint32_t written, const uint8_t *bytes, size_t bytes_len);
 
 /* Reads of the ring. Result: a number, 8; of a slot its offset 8 and length 8; of the oldest there 8, slot 8.
- * Kept are the bytes that a capture has accepted: the recording's first. */
+ * Kept are the bytes that a capture has accepted: the recording's first. Accepted are the good completions,
+ * k, of the transfer or capture that runs or ran last: the completions of its oldest slots with ok, of a
+ * capture also with a good length. So k of a playback that failed is how much was spoken, also after drain
+ * turns: its first k periods, of 2 the next is the one that failed, and those in flight at its end follow. */
 uint64_t snd_ring_running(const uint8_t *ring, size_t ring_len, uint8_t *result, size_t result_len);
 uint64_t snd_ring_in_flight(const uint8_t *ring, size_t ring_len, uint8_t *result, size_t result_len);
 uint64_t snd_ring_free_descriptors(const uint8_t *ring, size_t ring_len, uint8_t *result, size_t result_len);
@@ -260,6 +263,7 @@ uint64_t snd_ring_stream(const uint8_t *ring, size_t ring_len, uint8_t *result, 
 uint64_t snd_ring_carried(const uint8_t *ring, size_t ring_len, size_t slot, uint8_t *result, size_t result_len);
 uint64_t snd_ring_oldest(const uint8_t *ring, size_t ring_len, uint8_t *result, size_t result_len);
 uint64_t snd_ring_kept(const uint8_t *ring, size_t ring_len, uint8_t *result, size_t result_len);
+uint64_t snd_ring_accepted(const uint8_t *ring, size_t ring_len, uint8_t *result, size_t result_len);
 
 /* Submissions that do not wait: a period goes out, and the console goes on.
  *

@@ -36,6 +36,8 @@ pub struct Seen {
     pub places: u64,
     /// what stands in the recording after a capture: the Rust has none
     pub recorded: u64,
+    /// how many good completions the ring tells, after a start and after each turn or drain turn: the Rust tells none
+    pub accepted: Vec<u64>,
     pub model: Option<ModelSeen>,
     /// bytes written that are not the call's own, numbers that disagree: always none
     pub stray: Vec<String>,
@@ -44,7 +46,7 @@ pub struct Seen {
 impl Seen {
     pub fn new(end: End, values: Vec<u64>) -> Self {
         let (requests, heard, log, sent, in_flight, stray) = Default::default();
-        let (pending, held, places, recorded) = Default::default();
+        let (pending, held, places, recorded, accepted) = Default::default();
         Seen {
             end,
             high: 0,
@@ -61,18 +63,19 @@ impl Seen {
             held,
             places,
             recorded,
+            accepted,
             model: None,
             stray,
         }
     }
 
     /// Without the status: "equality with the Rust then reads after mapping all to IoError, or Unsupported for remap". And without what it
-    /// does not have of what does not wait: marks, and places.
+    /// does not have of what does not wait: marks, and places. And without what it does not tell: how much was accepted.
     pub fn forgetting(&self) -> Cow<'_, Self> {
-        if self.high == 0 && self.held.is_empty() && self.places == 0 {
+        if self.high == 0 && self.held.is_empty() && self.places == 0 && self.accepted.is_empty() {
             return Cow::Borrowed(self);
         }
-        Cow::Owned(Seen { high: 0, held: vec![], places: 0, ..self.clone() })
+        Cow::Owned(Seen { high: 0, held: vec![], places: 0, accepted: vec![], ..self.clone() })
     }
 }
 

@@ -290,6 +290,7 @@ unsafe extern "C" {
     pub fn snd_ring_carried(ring: *const u8, ring_len: usize, slot: usize, result: *mut u8, result_len: usize) -> u64;
     pub fn snd_ring_oldest(ring: *const u8, ring_len: usize, result: *mut u8, result_len: usize) -> u64;
     pub fn snd_ring_kept(ring: *const u8, ring_len: usize, result: *mut u8, result_len: usize) -> u64;
+    pub fn snd_ring_accepted(ring: *const u8, ring_len: usize, result: *mut u8, result_len: usize) -> u64;
     pub fn snd_pcm_xfer_nb(
         state: *mut u8,
         state_len: usize,

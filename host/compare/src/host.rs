@@ -7,8 +7,8 @@ use oracle::{Control, End, Inside};
 use rules::entries::{Asked, GOING, NOTHING, RESULT_SIZE, SEND};
 use rules::pending::{PLACES, TOKENS};
 use rules::sound::Call;
-use rules::wire::{u32_at, u64_at};
-use rules::{BAD_CAPTURE, BAD_LENGTH, BAD_STATE, FULL, MESSAGE, NOT_YET, PAGE};
+use rules::wire::{STATUS_OK, u32_at, u64_at};
+use rules::{BAD_CAPTURE, BAD_LENGTH, BAD_STATE, FULL, IO_ERROR, MESSAGE, NOT_YET, OUT_OF_TURNS, PAGE};
 
 /// What lent buffers hold before a call, and bytes lent beyond what is asked for.
 const FILL: u8 = 0xc3;
@@ -22,6 +22,9 @@ pub struct Host<E> {
     /// those of what does not wait, and where in them each token's bytes stand
     places: Vec<u8>,
     out: [(usize, usize); TOKENS],
+    /// good completions of the transfer that runs or ran last, as this host saw them, and as the ring told them in this step
+    good: u64,
+    accepted: Vec<u64>,
     stray: Vec<String>,
 }
 
@@ -88,7 +91,7 @@ impl<E: Entries> Host<E> {
         }
         let (page, model) = (vec![0; PAGE], case.model.is_some());
         let (places, out, stray) = (vec![], [(0, 0); TOKENS], vec![]);
-        Host { entries, page, model, strict: case.strict, places, out, stray }
+        Host { entries, page, model, strict: case.strict, places, out, good: 0, accepted: vec![], stray }
     }
 
     fn note(&mut self, fine: bool, what: &str) {
@@ -163,6 +166,34 @@ impl<E: Entries> Host<E> {
         (0..count).map(|i| ((oldest + i) % 32) as u16).collect()
     }
 
+    /// What the ring tells of good completions is what was seen of them.
+    fn heard(&mut self) {
+        let [told, _] = self.read(Asked::Accepted);
+        self.note(told == self.good, "the ring tells another number of good completions");
+        self.accepted.push(told);
+    }
+
+    /// A start was answered: one that goes on counts anew, and a refused one keeps the count of the last transfer.
+    fn began(&mut self, number: u64) -> bool {
+        if number == GOING {
+            self.good = 0;
+        }
+        self.heard();
+        number == GOING
+    }
+
+    /// "The accepted payloads are exactly the first k periods, the failing one is the next, and those still owed follow it without a gap."
+    fn followed(&mut self, number: u64, sent: &[(u16, u64, u64)]) {
+        let failing = [IO_ERROR, BAD_CAPTURE].map(u32::from).contains(&(number as u32));
+        let mut owed = vec![];
+        for slot in self.in_flight() {
+            let [offset, length] = self.read(Asked::Carried(slot as usize));
+            owed.push((slot, offset, length));
+        }
+        let from = self.good as usize + usize::from(failing);
+        self.note(sent.get(from..) == Some(&owed[..]), "what is owed does not follow what was accepted");
+    }
+
     /// One turn: submit what is offered, look, tell. The turn's number.
     fn turn(&mut self, stream: u32, script: &mut Scripted) -> Option<u64> {
         let frames = script.frames.clone();
@@ -187,16 +218,21 @@ impl<E: Entries> Host<E> {
             script.reading(&flight, self.model.then_some(&mut self.entries as &mut dyn Device))
         };
         let (kind, (slot, status)) = read.map_or((0, (77, 0xdead)), |read| (1, read));
-        Some(self.entries.turn(&frames, kind, slot, status))
+        let number = self.entries.turn(&frames, kind, slot, status);
+        let oldest = flight.first().map(|slot| u32::from(*slot));
+        self.good += u64::from(oldest.is_some() && read == oldest.map(|slot| (slot, STATUS_OK)));
+        self.heard();
+        Some(number)
     }
 
     fn transfer(&mut self, stream: u32, budget: u64, script: &mut Scripted) -> Seen {
         let mut lent = Slices::new();
         let number = self.entries.xfer_start(stream, &script.frames, budget, &mut lent.message);
         let Some((mut number, _)) = self.exchange(number, lent, script) else {
+            self.heard();
             return Seen::new(End::Waits, vec![]);
         };
-        let began = number == GOING;
+        let began = self.began(number);
         while number == GOING {
             let running = self.read(Asked::Running)[0] == 1 && self.read(Asked::Stream)[0] == stream as u64;
             self.note(running, "the ring does not say that this transfer runs");
@@ -209,6 +245,7 @@ impl<E: Entries> Host<E> {
         if began {
             let stopped = self.read(Asked::Running)[0] == 0;
             self.note(stopped, "the ring says that an ended transfer runs");
+            self.followed(number, &script.sent());
             seen.turns = self.read(Asked::TurnsRun)[0];
         }
         seen
@@ -241,6 +278,11 @@ impl<E: Entries> Host<E> {
         let (before, kept) = (recording.to_vec(), self.read(Asked::Kept)[0] as usize);
         let number = self.entries.capture_turn(recording, kind, slot, heard.written, &bytes);
         script.read(read.map(|(slot, _)| (slot, heard.written)), number != u64::from(BAD_LENGTH));
+        // the oldest came back, and was refused with neither 17 nor 2
+        let taken = number == GOING || number == u64::from(OUT_OF_TURNS);
+        let oldest = flight.first().map(|slot| u32::from(*slot));
+        self.good += u64::from(taken && oldest.is_some() && oldest == read.map(|(slot, _)| slot));
+        self.heard();
         let now = self.read(Asked::Kept)[0] as usize;
         let joined = kept <= now && now <= recording.len();
         self.note(joined, "less is kept than before, or more than the recording");
@@ -259,9 +301,10 @@ impl<E: Entries> Host<E> {
         let (mut lent, mut recording) = (Slices::new(), recording.bytes());
         let number = self.entries.capture_start(*stream, *periods, &recording, *budget, &mut lent.message);
         let Some((mut number, _)) = self.exchange(number, lent, script) else {
+            self.heard();
             return Seen::new(End::Waits, vec![]);
         };
-        let (began, mut refused) = (number == GOING, 0);
+        let (began, mut refused) = (self.began(number), 0);
         let mut script_of_turns = heard.iter().copied().chain(std::iter::repeat(Heard::QUIET)).zip(0u64..);
         while number == GOING {
             let running = self.read(Asked::Running)[0] == 1 && self.read(Asked::Stream)[0] == u64::from(*stream);
@@ -279,6 +322,9 @@ impl<E: Entries> Host<E> {
         }
         let stopped = self.read(Asked::Running)[0] == 0;
         self.note(stopped, "the ring says that an ended capture runs");
+        let sent = script.sent().into_iter().zip(0..);
+        let sent: Vec<_> = sent.map(|((slot, _, length), at): (_, u64)| (slot, at * length, length)).collect();
+        self.followed(number, &sent);
         let mut seen = ended(number, vec![self.read(Asked::Kept)[0], refused]);
         seen.turns = self.read(Asked::TurnsRun)[0];
         seen.recorded = digest(DIGEST, &recording);
@@ -292,6 +338,7 @@ impl<E: Entries> Host<E> {
             let read = resolve(*reading, &self.in_flight());
             let (kind, (slot, status)) = read.map_or((0, (0, 0)), |read| (1, read));
             values.push(self.entries.drain_turn(kind, slot, status));
+            self.heard();
         }
         Seen::new(End::Number(0), values)
     }
@@ -478,6 +525,7 @@ impl<E: Entries> Driver for Host<E> {
             seen.places = digest(DIGEST, &self.places);
         }
         script.tell(&mut seen);
+        seen.accepted = std::mem::take(&mut self.accepted);
         seen.stray = std::mem::take(&mut self.stray);
         Some(seen)
     }

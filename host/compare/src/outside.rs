@@ -123,6 +123,11 @@ impl Scripted {
         self.log.last_mut().expect("a turn began").sent = Some(slot);
     }
 
+    /// Slot, offset and length of each submission so far. A capture's have no offset here: they are whole periods.
+    pub fn sent(&self) -> Vec<(u16, u64, u64)> {
+        self.sent.iter().map(|sent| (sent.slot, sent.offset, sent.length)).collect()
+    }
+
     /// The stream id, and so many bytes to write.
     pub fn submit_writable(&mut self, slot: u16, stream: &[u8], length: u64) {
         self.sent.push(Sent { slot, offset: 0, length, digest: digest(DIGEST, stream) });

@@ -184,6 +184,7 @@ impl Entries for Port {
             Asked::Stream => snd_ring_stream,
             Asked::Oldest => snd_ring_oldest,
             Asked::Kept => snd_ring_kept,
+            Asked::Accepted => snd_ring_accepted,
             Asked::TraceLength => snd_trace_length,
             Asked::Carried(slot) => return unsafe { snd_ring_carried(r, rn, slot, o, on) },
         };

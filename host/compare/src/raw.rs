@@ -638,6 +638,7 @@ fn asked(rng: &mut Rng) -> Asked {
         Asked::Stream,
         Asked::Oldest,
         Asked::Kept,
+        Asked::Accepted,
         Asked::TraceLength,
     ];
     if rng.one_in(3) { Asked::Carried(slot) } else { rng.pick(&plain) }

@@ -52,7 +52,9 @@ pub struct Trial {
 
 fn differ(who: &str, step: &Step, seen: &Seen, rules: &Seen) -> String {
     let mut text = format!("step `{}`\n", step_text(step));
-    let told = |seen: &Seen| format!("{} high half {:x}", crate::record::seen_text(seen), seen.high);
+    let told = |seen: &Seen| {
+        format!("{} high half {:x} accepted {:?}", crate::record::seen_text(seen), seen.high, seen.accepted)
+    };
     text += &format!("  {who:6} {}\n  rules  {}", told(seen), told(rules));
     seen.stray.iter().for_each(|stray| text += &format!("\n  {who}: {stray}"));
     text

@@ -198,6 +198,7 @@ fn rings() -> Vec<What> {
     {
         all.push(What::Read(asked));
     }
+    all.push(What::Read(Asked::Accepted));
     for (stream, budget) in [(0, 0), (0, 1), (0, 1 << 32), (0, u64::MAX), (1, 5), (2, 5)] {
         all.push(What::Start { stream, frames: 10, budget });
     }

@@ -64,9 +64,12 @@ struct Both {
     rules: (Plain, Vec<u8>),
 }
 
-fn length<E: Entries>(e: &E) -> (u64, u64) {
-    let mut result = [0; RESULT_SIZE];
-    (e.ring_read(Asked::TraceLength, &mut result), u64_at(&result, 0))
+/// How long the trace is, and how much was accepted.
+fn told<E: Entries>(e: &E) -> [(u64, u64); 2] {
+    [Asked::TraceLength, Asked::Accepted].map(|asked| {
+        let mut result = [0; RESULT_SIZE];
+        (e.ring_read(asked, &mut result), u64_at(&result, 0))
+    })
 }
 
 impl Both {
@@ -74,18 +77,18 @@ impl Both {
         Both { port: (ready(period), vec![FILL; room]), rules: (ready(period), vec![FILL; room]) }
     }
 
-    /// The same answer, room and length after an entry that both made.
+    /// The same answer, room, length and number of good completions after an entry that both made.
     fn agree(&self, what: &str, port: u64, rules: u64) -> Result<u64, String> {
-        let lengths = (length(&self.port.0), length(&self.rules.0));
-        if port != rules || lengths.0 != lengths.1 || self.port.1 != self.rules.1 {
-            let shown = |room: &[u8], length: (u64, u64)| {
+        let reads = (told(&self.port.0), told(&self.rules.0));
+        if port != rules || reads.0 != reads.1 || self.port.1 != self.rules.1 {
+            let shown = |room: &[u8], [length, accepted]: [(u64, u64); 2]| {
                 let end = room.iter().rposition(|byte| *byte != FILL).map_or(0, |at| at + 1);
-                format!("trace of {length:?} bytes, room {}", hex(&room[..end]))
+                format!("trace of {length:?} bytes, accepted {accepted:?}, room {}", hex(&room[..end]))
             };
             return Err(format!(
                 "{what}\n  port  {port:#x} {}\n  rules {rules:#x} {}",
-                shown(&self.port.1, lengths.0),
-                shown(&self.rules.1, lengths.1)
+                shown(&self.port.1, reads.0),
+                shown(&self.rules.1, reads.1)
             ));
         }
         Ok(rules)

@@ -308,13 +308,19 @@ fn pending(console: &mut Console) -> u64 {
 
 fn reads(console: &mut Console) -> u64 {
     let Console {
-        sound, ring, number, ..
+        sound,
+        ring,
+        number,
+        length,
+        ..
     } = console;
     let counts = [sound.jacks(), sound.streams(), sound.chmaps()];
     let reads = [
         ring.in_flight(),
         ring.free_descriptors(),
         ring.turns_run(),
+        ring.accepted(),
+        ring.spoken_bytes(*number, *length).map(|bytes| bytes as u64),
         ring.stream().map(u64::from),
     ];
     let carried = ring

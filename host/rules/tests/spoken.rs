@@ -209,8 +209,7 @@ fn ruling_7_more_good_ones_than_turns_is_inconsistent() {
 fn ruling_6_captures() {
     let mut recording = [0; 12];
     let wrote = |length: usize, status: u32| [vec![7; length], wire::words(&[status, 0])].concat();
-    for (status, written, answer) in
-        [(0x8003, 12, IO_ERROR), (STATUS_OK, 7, BAD_CAPTURE), (STATUS_OK, 13, BAD_CAPTURE)]
+    for (status, written, answer) in [(0x8003, 12, IO_ERROR), (STATUS_OK, 7, BAD_CAPTURE), (STATUS_OK, 13, BAD_CAPTURE)]
     {
         let mut ring = Ring::default();
         assert_eq!(ring.capture_start(0, 3, PERIOD, 12, 9), Turn::Going);

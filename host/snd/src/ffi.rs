@@ -160,6 +160,8 @@ entries! {
     fn snd_ring_oldest(ring: &[u8], result: &mut [u8],);
     /// How many bytes of the recording a capture has kept.
     fn snd_ring_kept(ring: &[u8], result: &mut [u8],);
+    /// How many good completions the transfer has had.
+    fn snd_ring_accepted(ring: &[u8], result: &mut [u8],);
 
     /// A submission that does not wait.
     fn snd_pcm_xfer_nb(state: &mut [u8], ring: &[u8], stream: u32, payload: &[u8], places: &mut [u8],

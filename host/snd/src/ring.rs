@@ -293,6 +293,45 @@ impl<R: Borrow<[u8; RING_SIZE]>> Ring<R> {
         )
     }
 
+    /// How many periods the device has accepted of the transfer or capture that runs, or of the last that ran: its completions, each of the
+    /// oldest slot, with ok, and of a capture with a good length. Drain turns and a start that is refused leave it as it is.
+    ///
+    /// So this is how much of a playback was spoken before it failed: the frames' first periods, as many. Of [`Refusal::IoError`] the next
+    /// is the one that failed; those that were in flight at the end follow without a gap. [`Ring::spoken_bytes`] has it in bytes.
+    ///
+    /// ```
+    /// # use snd::{Format, Model, Page, Params, PcmInfo, Rate, Reading, Refusal, Ring, STATUS_OK, Sound, Status, Step, Turn};
+    /// # let mut device = Model::new(&[], &[PcmInfo::output(1, 2).to_bytes()], &[])?;
+    /// # let (mut sound, mut ring, mut page) = (Sound::new(0, 1, 0), Ring::new(), Page::new());
+    /// # let to = Params { buffer: 8, period: 4, features: 0, channels: 2, format: Format::S16, rate: Rate::Hz48000 };
+    /// # let mut step = sound.pcm_set_params(&ring, 0, to)?;
+    /// # while let Step::Send(exchange) = step {
+    /// #     device.control(exchange.bytes(), &mut page)?;
+    /// #     step = sound.feed(exchange, &page)?;
+    /// # }
+    /// // periods of 4, 4 and 2 bytes; the second fails while the third is out
+    /// let frames = b"ten bytes.";
+    /// let (good, failed) = (Reading::Completed { slot: 0, status: STATUS_OK }, Reading::Completed { slot: 1, status: 0x8003 });
+    /// assert_eq!(sound.pcm_xfer_start(&mut ring, 0, frames, 9)?, Step::Done(()));
+    /// assert_eq!(ring.turn(frames, Reading::Quiet)?, Turn::Going);
+    /// assert_eq!(ring.turn(frames, good)?, Turn::Going);
+    /// assert_eq!(ring.turn(frames, failed), Err(Refusal::IoError(Some(Status::IoError))));
+    /// assert_eq!((ring.accepted()?, ring.spoken_bytes(4, frames.len())?), (1, 4));
+    /// assert_eq!(ring.carried(2)?.offset, 8); // what is owed follows the one that failed
+    /// ring.drain_turn(Reading::Completed { slot: 2, status: STATUS_OK })?;
+    /// assert_eq!(ring.accepted()?, 1);
+    /// # Ok::<(), Refusal>(())
+    /// ```
+    pub fn accepted(&self) -> Result<u64, Refusal> {
+        self.read(ffi::snd_ring_accepted)
+    }
+
+    /// How many bytes of so many frames, in periods of this size, were spoken: those of the periods that were accepted.
+    pub fn spoken_bytes(&self, period: u32, frames_len: usize) -> Result<usize, Refusal> {
+        let whole = self.accepted()?.saturating_mul(period.into());
+        Ok(usize::try_from(whole).map_or(frames_len, |whole| whole.min(frames_len)))
+    }
+
     /// How long the trace is that this transfer has written, or the last one wrote: the room's first bytes. 0 where no turn ran, or none is
     /// written.
     pub fn trace_length(&self) -> Result<usize, Refusal> {

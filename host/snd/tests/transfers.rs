@@ -102,6 +102,52 @@ fn calls_are_busy_while_a_transfer_is_there_or_owes() {
     assert!(desk.sound.pcm_stop(&ring, 0).is_ok());
 }
 
+/// Every end of a transfer of four periods, at every place: the accepted payloads are its first, the failing one is the next, and what is owed follows.
+#[test]
+fn what_was_heard_before_a_failure() {
+    let (mut desk, mut ring, frames) = (Desk::with_params(), Ring::new(), b"feeder one four");
+    let failed = |slot| Reading::Completed { slot, status: 0x8003 };
+    for good in 0..=4u32 {
+        for (budget, last, failing) in [
+            (99, failed(good), 1),
+            (99, completed(good + 1), 0),
+            (5 + good, Reading::Quiet, 0),
+        ] {
+            let mut transfer = runs(&mut desk, &mut ring, frames, budget.into());
+            // four go out before the first comes back
+            for _ in 0..4 {
+                assert_eq!(transfer.turn(Reading::Quiet), Ok(Turn::Going));
+            }
+            for slot in 0..good {
+                assert_eq!(
+                    (transfer.ring().accepted(), transfer.turn(completed(slot))),
+                    (Ok(slot.into()), Ok(Turn::Going))
+                );
+            }
+            let said = transfer.turn(last);
+            assert_eq!(said.is_ok(), good == 4, "{last:?}");
+            let spoken = (4 * good as usize).min(frames.len());
+            for owed in (good + failing).min(4)..4 {
+                assert_eq!(transfer.ring().oldest(), Ok(Some(owed)));
+                assert_eq!(transfer.ring().carried(owed).unwrap().offset, 4 * owed as usize);
+                assert_eq!(transfer.drain_turn(failed(owed)), Ok(()));
+                assert_eq!(transfer.ring().accepted(), Ok(good.into()));
+            }
+            assert_eq!(transfer.ring().spoken_bytes(4, frames.len()), Ok(spoken));
+            assert_eq!(transfer.end().unwrap(), frames);
+            // one that runs no turn keeps the count of the last that did
+            let refused = desk.sound.transfer(&mut ring, 0, frames, 0);
+            assert!(matches!(refused, Started::Refused(Refusal::OutOfTurns, _)));
+            drop(refused);
+            assert_eq!(ring.accepted(), Ok(good.into()));
+        }
+    }
+    let mut bad = *ring.store();
+    bad.fill(0xff);
+    assert_eq!(Ring::over(bad).accepted(), Err(Refusal::InvalidParam));
+    assert_eq!(Ring::over(bad).spoken_bytes(4, 8), Err(Refusal::InvalidParam));
+}
+
 #[test]
 fn what_came_of_a_start_is_shown_in_short() {
     let (mut desk, mut ring) = (Desk::with_params(), Ring::new());

@@ -16,7 +16,7 @@ macro_rules! entries {
     };
 }
 
-/// The 68 entries, in the header's order.
+/// The 69 entries, in the header's order.
 pub const ENTRIES: &[Entry] = entries! {
     snd_state_size [] |_l| ();
     snd_ring_size [] |_l| ();
@@ -79,6 +79,7 @@ pub const ENTRIES: &[Entry] = entries! {
     snd_ring_carried [Ring Result] |l| (&l.ring, l.numbers[0] as usize, &mut l.result);
     snd_ring_oldest [Ring Result] |l| (&l.ring, &mut l.result);
     snd_ring_kept [Ring Result] |l| (&l.ring, &mut l.result);
+    snd_ring_accepted [Ring Result] |l| (&l.ring, &mut l.result);
     snd_pcm_xfer_nb [State Ring Message Result]
         |l| (&mut l.state, &l.ring, l.numbers[0], &l.payload, &mut l.places, &mut l.message, &mut l.result);
     snd_pcm_xfer_mark [State] |l| (&mut l.state, l.numbers[3], l.numbers[0], l.numbers[1]);
