@@ -4,7 +4,7 @@ use crate::json::{self, Object};
 use crate::recording;
 use crate::report::Report;
 use crate::told::{Control, Fault, GoingOn, Jacks, Period, Virtio, What, When};
-use page::Built;
+use page::{Built, Spoken};
 use snd::Answer;
 
 /// The form of the log; a change that a reader would notice counts it up.
@@ -168,6 +168,19 @@ fn device(to: &mut Object, report: &Report) {
             to.seconds("second", Some(report.recording.form.second(gap.offset)));
         }),
     }
+    match report.page(Built::default()).spoken() {
+        None => to.null("spoken"),
+        Some(spoken) => to.object("spoken", |to| heard(to, &spoken)),
+    }
+}
+
+/// How much was spoken at an end that is not Ok, and whether the device's own account says the same.
+fn heard(to: &mut Object, spoken: &Spoken) {
+    to.number("periods", spoken.periods);
+    to.number("of", spoken.of);
+    to.number("bytes", spoken.bytes as u64);
+    to.seconds("seconds", Some(spoken.seconds));
+    to.truth("same", spoken.same);
 }
 
 fn after(to: &mut Object, report: &Report) {

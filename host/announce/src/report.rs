@@ -58,6 +58,7 @@ impl<'r> Report<'r> {
             },
             submitted: told.periods.len() as u64,
             accepted: account.accepted,
+            spoken: told.spoken,
             faults: &told.faults,
             owed: told.owed,
             drain: Drain {

@@ -50,6 +50,8 @@ pub struct Told {
     pub periods: Vec<Period>,
     /// In the order in which they came.
     pub faults: Vec<Fault>,
+    /// Periods that were accepted by the driver's own count; none where they did not wait.
+    pub spoken: Option<u64>,
     pub owed: u64,
     pub drain_turns: u64,
     pub drain_allowed: u64,

@@ -58,6 +58,8 @@ pub struct Told {
     pub owed: u64,
     pub submitted: u64,
     pub accepted: Part,
+    /// Periods that were accepted by the driver's own count.
+    pub spoken: Option<u64>,
     /// The most turns from one completion to the next, or from the start to the first.
     pub apart: u64,
     quiet: u64,
@@ -116,6 +118,7 @@ impl Told {
             owed: 0,
             submitted: 0,
             accepted: NOTHING,
+            spoken: None,
             apart: 0,
             quiet: 0,
             completions: 0,
@@ -217,6 +220,7 @@ impl Told {
             turns: self.turns,
             submitted: self.submitted,
             accepted: self.accepted,
+            spoken: self.spoken,
             faults: self.faults.listed(),
             owed: self.owed,
             drain: self.drain,

@@ -8,6 +8,7 @@ mod capture;
 mod faults;
 mod frames;
 mod page;
+mod spoken;
 
 pub use account::{Gap, Part, Same, Why, gaps};
 pub use capture::{CapturePage, Heard, Recorded};
@@ -17,3 +18,4 @@ pub use page::{
     ARCHIVE, Answered, Built, Drain, GoingOn, InFile, Jacks, Joined, Page, Stream, Times, Together, Turns, Virtio,
     at_most,
 };
+pub use spoken::Spoken;

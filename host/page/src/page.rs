@@ -2,6 +2,7 @@
 use crate::account::{Gap, Part, Same};
 use crate::faults::{Fault, Refused};
 use crate::frames::{sample, second, warnings};
+use crate::spoken::spoken;
 use core::fmt;
 use core::time::Duration;
 use sha256::Sum;
@@ -39,6 +40,8 @@ pub struct Page<'p> {
     pub submitted: u64,
     /// What was accepted when the transfer answered.
     pub accepted: Part,
+    /// How many periods were accepted of a transfer by the driver's own count, 0 where none ran; none where periods did not wait.
+    pub spoken: Option<u64>,
     /// What the device did wrong, in order.
     pub faults: &'p [Fault],
     /// Slots in flight when the transfer answered.
@@ -342,7 +345,8 @@ fn device(lines: &mut Lines, page: &Page) -> fmt::Result {
     for gap in page.gaps {
         lines.line("gap", gap)?;
     }
-    broke_off(lines, page)
+    broke_off(lines, page)?;
+    spoken(lines, page)
 }
 
 /// The answer, and how long it took.
