@@ -47,6 +47,7 @@ use Rattle.console.proofs.nonblocking.snd_pcm_xfer_ok.Reads as pcm-xfer
 use Rattle.console.proofs.nonblocking.snd_pending_count.Reads as pending-count
 use Rattle.console.proofs.nonblocking.snd_pending_token.Reads as pending-token
 use Rattle.console.proofs.ring.snd_ring_new.Reads as ring-new
+use Rattle.console.proofs.ring.snd_ring_new_indirect.Reads as ring-new-indirect
 use Rattle.console.proofs.ring.snd_offered.Reads as offered
 use Rattle.console.proofs.ring.snd_turn.Reads as turn
 use Rattle.console.proofs.ring.snd_turn_traced.Reads as turn-traced
@@ -233,6 +234,9 @@ pending-token-one κs a r₁ r₂ e₁ e₂ p q = shown-one p q
 -- lent: ring
 pub ring-new-one : (κs : _) (a : _) (r₁ r₂ : _) (e₁ e₂ : _) → ring-new.Post κs a r₁ e₁ → ring-new.Post κs a r₂ e₂ → (r₁ ≡ r₂) × (now (e₁ .0) ≡ now (e₂ .0))
 ring-new-one κs a r₁ r₂ e₁ e₂ p q = made-one p q
+
+pub ring-new-indirect-one : (κs : _) (a : _) (r₁ r₂ : _) (e₁ e₂ : _) → ring-new-indirect.Post κs a r₁ e₁ → ring-new-indirect.Post κs a r₂ e₂ → (r₁ ≡ r₂) × (now (e₁ .0) ≡ now (e₂ .0))
+ring-new-indirect-one κs a r₁ r₂ e₁ e₂ p q = made-one p q
 
 -- lent: result
 pub offered-one : (κs : _) (a : _) (r₁ r₂ : _) (e₁ e₂ : _) → offered.Post κs a r₁ e₁ → offered.Post κs a r₂ e₂ → (r₁ ≡ r₂) × (now (e₁ .1 .1 .0) ≡ now (e₂ .1 .1 .0))

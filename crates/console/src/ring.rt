@@ -2,6 +2,7 @@
 // turn, and its reads.
 ghost use mathlib.Core.Path.{_≡_};
 ghost use lib.ListN.{length};
+ghost use Rattle.turns.specs.Ring.{direct, indirect};
 ghost use Rattle.turns.specs.Reads.{runningOf, inFlightOf, freeOf, turnsOf, streamOf, keptRead, writtenRead, acceptedRead, carriedOf};
 ghost use Rattle.ring_store.specs.Store.{trackAt, ringOf};
 ghost use Rattle.ring_store.specs.Calls.{newIn, turnIn, drainIn, caught, captureIn, turnTracedIn, offerIn, captureOfferIn, toldIn, oldestSays};
@@ -9,9 +10,17 @@ ghost use Rattle.layout.specs.Lent.{made, shown};
 
 #[no_mangle]
 pub extern "C" fn snd_ring_new(ring: &mut [u8]) -> u64
-    ensures { λ r. ⌜ made r (now (ring .exit)) ≡ newIn (now (ring .entry)) ⌝ }
+    ensures { λ r. ⌜ made r (now (ring .exit)) ≡ newIn direct (now (ring .entry)) ⌝ }
 {
     ring_store::new(ring)
+}
+
+// A ring for a queue whose descriptors are indirect, as negotiated.
+#[no_mangle]
+pub extern "C" fn snd_ring_new_indirect(ring: &mut [u8]) -> u64
+    ensures { λ r. ⌜ made r (now (ring .exit)) ≡ newIn indirect (now (ring .entry)) ⌝ }
+{
+    ring_store::new_indirect(ring)
 }
 
 // What the next turn submits: submit it to the device, poll, then call `snd_turn`.

@@ -5,17 +5,19 @@ use mathlib.Core.Bool.{Bool, true, false, not, _&&_, false≢true}
 use mathlib.Core.List.{List, []}
 use mathlib.Core.Logic.{_⊎_, inl, inr}
 use Prim.Native.Nat.{ℕ, _+_, _*_, _%_, _≤_, _<_}
-use native.Mathlib.Nat.{zero-mul}
+use native.Mathlib.Nat.{zero-mul, mul-zero}
 use native.Mathlib.Omega.{arith}
 use lib.Dec.{leb, ltb, eqb}
 use lib.ListN.{length}
 use borrow.Author.Tests.{eqb-true, leb-true}
 use Rattle.layout.specs.Lent.{messageSize}
+use Rattle.codes.specs.Says.{pick}
 use Rattle.codes.specs.SaysLaws.{guarded-by}
 use Rattle.pending.specs.Table.{newPending, pendingAt, noneIn, countIn, lowestIn, waits, markOf, finishOf}
-use Rattle.pending.specs.TableLaws.{waits-pending}
+use Rattle.pending.specs.TableLaws.{bound-is, waits-pending}
 use Rattle.pending.specs.CallLaws.{mark-by, finish-by}
 use Rattle.pending.specs.Count.{none-then, AboveFree, other, completes-above, finishes-above, few-pending}
+use Rattle.turns.specs.Ring.{indirect}
 use Rattle.turns.specs.Calls as calls
 use Rattle.turns.specs.Calls.{idleOf, tracedCall, drainCall, startCall}
 use Rattle.turns.specs.Capture.{captureCall}
@@ -30,7 +32,8 @@ use Rattle.exchange.specs.Exchange.{callOf}
 use Rattle.exchange.specs.Feed.{planOf, pageOf}
 use Rattle.exchange.specs.Xfer.{refusedStep, setUpStep, doneStep, startOf, startTracedOf, xferOf, captureOf}
 use Rattle.exchange.specs.XferLaws.{xfer-by, start-as-by, start-by, script-by, traced-by, capture-by}
-use Rattle.exchange.specs.Submit.{nbOf, markStep, markBy, finishStep}
+use Rattle.exchange.specs.Submit.{placesOf, nbOf, markStep, markBy, finishStep}
+use Rattle.exchange.specs.SubmitLaws.{few-places}
 use Rattle.exchange.specs.Submitted.{nb-ends, effect-pending}
 use Rattle.exchange.specs.Reached.{Reached, fresh, called, fed, started, scripted, turned, traced, penned, captured, received, drained, submitted, marked, finished, begun, listened, logged, ran, renewed, reached-kept}
 use Rattle.exchange.specs.Types.{Track, Ring, Reading, Pending, Judged, Core, Effect, Sound, XferStep, NbStep, NbEnd}
@@ -41,7 +44,7 @@ Exclusive p t = (noneIn p ≡ true) ⊎ (idleOf t ≡ true)
 
 -- the ring was never started by itself, beside the state
 abbrev pub ByCalls : {s : Sound} {r : Ring} → Reached s r → Type 0
-ByCalls (fresh guard jacks streams maps) = Unit {0}
+ByCalls (fresh descriptors mode guard jacks streams maps) = Unit {0}
 ByCalls (called call n h) = ByCalls h
 ByCalls (fed f h) = ByCalls h
 ByCalls (started stream len budget n h) = ByCalls h
@@ -59,7 +62,7 @@ ByCalls (begun stream len period budget h) = ⊥
 ByCalls (listened stream periods period lent budget h) = ⊥
 ByCalls (logged stream len period budget room h) = ⊥
 ByCalls (ran stream period budget frames script h) = ⊥
-ByCalls (renewed h) = ByCalls h
+ByCalls (renewed descriptors mode h) = ByCalls h
 
 -- ---- turns of a ring where nothing runs and nothing is in flight leave it
 
@@ -160,7 +163,7 @@ module _ (s : Sound) (r : Ring) (h : Exclusive (s .pending) (r .track)) where
 
 -- THE THEOREM. "A blocking transfer while any is pending is Busy, as is a submission while a transfer's slots are owed"
 pub exclusive : {s : Sound} {r : Ring} (h : Reached s r) → ByCalls h → Exclusive (s .pending) (r .track)
-exclusive (fresh guard jacks streams maps) b = inl refl
+exclusive (fresh descriptors mode guard jacks streams maps) b = inl refl
 exclusive (called {s} {r} call n h) b = effect-exclusive s r (exclusive h b) (callOf s (r .track) call n .effect) (callOf s (r .track) call n .core) []
 exclusive (fed {s} {r} f h) b = effect-exclusive s r (exclusive h b) (planOf s f .effect) (planOf s f .core) (pageOf f)
 exclusive (started {s} {r} stream len budget n h) b = start-exclusive s r (exclusive h b) stream len budget n
@@ -178,51 +181,85 @@ exclusive (begun stream len period budget h) b = absurd b
 exclusive (listened stream periods period lent budget h) b = absurd b
 exclusive (logged stream len period budget room h) b = absurd b
 exclusive (ran stream period budget frames script h) b = absurd b
-exclusive (renewed h) b = inr refl
+exclusive (renewed descriptors mode h) b = inr refl
 
--- ---- tokens past the 16 places stay free
+-- ---- tokens past the places stay free, where every submission was handed a ring with so many
 
-above-by : (s : Sound) (reading : Reading) → AboveFree 16 (s .pending) → AboveFree 16 (markBy s reading .sound .pending)
-above-by s Quiet a = a
-above-by s (Completed slot status) a = completes-above 16 (s .pending) a slot status
+abbrev pub Placed : {s : Sound} {r : Ring} → ℕ → Reached s r → Type 0
+Placed n (fresh descriptors mode guard jacks streams maps) = Unit {0}
+Placed n (called call k h) = Placed n h
+Placed n (fed f h) = Placed n h
+Placed n (started stream len budget k h) = Placed n h
+Placed n (scripted stream frames budget script k h) = Placed n h
+Placed n (turned len room reading h) = Placed n h
+Placed n (traced stream len budget room k h) = Placed n h
+Placed n (penned written h) = Placed n h
+Placed n (captured stream periods lent budget k h) = Placed n h
+Placed n (received len c h) = Placed n h
+Placed n (drained reading h) = Placed n h
+Placed n (submitted {r} stream k len m h) = (placesOf (r .track .descriptors) ≡ n) × Placed n h
+Placed n (marked reading h) = Placed n h
+Placed n (finished token h) = Placed n h
+Placed n (begun stream len period budget h) = Placed n h
+Placed n (listened stream periods period lent budget h) = Placed n h
+Placed n (logged stream len period budget room h) = Placed n h
+Placed n (ran stream period budget frames script h) = Placed n h
+Placed n (renewed descriptors mode h) = Placed n h
 
-abbrev Above : Sound → Type 0
-Above s = AboveFree 16 (s .pending)
+module _ (places : ℕ) where
+  abbrev Above : Sound → Type 0
+  Above s = AboveFree places (s .pending)
 
-pub above : {s : Sound} {r : Ring} → Reached s r → AboveFree 16 (s .pending)
-unfolding markStep finishStep
-above (fresh guard jacks streams maps) = λ k _. none-then newPending refl k
-above (called {s} {r} call n h) = subst (AboveFree 16) (sym (effect-pending (callOf s (r .track) call n .effect) (callOf s (r .track) call n .core) s [])) (above h)
-above (fed {s} f h) = subst (AboveFree 16) (sym (effect-pending (planOf s f .effect) (planOf s f .core) s (pageOf f))) (above h)
-above (started {s} {r} stream len budget n h) = start-by (λ (x : XferStep). Above (x .sound)) s r stream len budget n (λ _. above h) (λ _ _ _. above h) (above h)
-above (scripted {s} {r} stream frames budget script n h) = script-by (λ (x : XferStep). Above (x .sound)) s r stream (length frames) budget n (λ _. above h) (λ _ _ _. above h) script (above h)
-above (turned len room reading h) = above h
-above (traced {s} {r} stream len budget room n h) = traced-by (λ (x : XferStep). Above (x .sound)) s r stream len budget room n (λ _. above h) (λ _ _ _. above h) (λ _. above h)
-above (penned written h) = above h
-above (captured {s} {r} stream periods lent budget n h) = capture-by (λ (x : XferStep). Above (x .sound)) s r stream periods lent budget n (λ _. above h) (λ _ _ _. above h) (λ _. above h)
-above (received len c h) = above h
-above (drained reading h) = above h
-above (submitted {s} {r} stream n len m h) =
-    nb-ends (λ (u : NbStep). Above (u .sound)) s r stream n len m (λ _. above h) (λ _ _ _. above h) (λ g. other 16 (s .pending) (above h) (lowestIn (s .pending) 16) waits (g .free))
-above (marked {s} reading h) = guarded-by (λ (u : NbEnd). Above (u .sound)) _ _ _ (λ _. above-by s reading (above h)) (λ _. above h)
-above (finished {s} token h) = guarded-by (λ (u : NbEnd). Above (u .sound)) _ _ _ (λ _. finishes-above 16 (s .pending) (above h) token) (λ _. above h)
-above (begun stream len period budget h) = above h
-above (listened stream periods period lent budget h) = above h
-above (logged stream len period budget room h) = above h
-above (ran stream period budget frames script h) = above h
-above (renewed h) = above h
+  above-by : (s : Sound) (reading : Reading) → Above s → Above (markBy s reading .sound)
+  above-by s Quiet a = a
+  above-by s (Completed slot status) a = completes-above places (s .pending) a slot status
 
--- no more than 16 are pending
-pub few-tokens : {s : Sound} {r : Ring} → Reached s r → countIn (s .pending) ≤ 16
-few-tokens {s} h = few-pending (s .pending) 16 (reached-kept h .0 .pending) (above h)
+  pub above : {s : Sound} {r : Ring} (h : Reached s r) → Placed places h → AboveFree places (s .pending)
+  unfolding markStep finishStep
+  above (fresh descriptors mode guard jacks streams maps) p = λ k _. none-then newPending refl k
+  above (called {s} {r} call n h) p = subst (AboveFree places) (sym (effect-pending (callOf s (r .track) call n .effect) (callOf s (r .track) call n .core) s [])) (above h p)
+  above (fed {s} f h) p = subst (AboveFree places) (sym (effect-pending (planOf s f .effect) (planOf s f .core) s (pageOf f))) (above h p)
+  above (started {s} {r} stream len budget n h) p = start-by (λ (x : XferStep). Above (x .sound)) s r stream len budget n (λ _. above h p) (λ _ _ _. above h p) (above h p)
+  above (scripted {s} {r} stream frames budget script n h) p = script-by (λ (x : XferStep). Above (x .sound)) s r stream (length frames) budget n (λ _. above h p) (λ _ _ _. above h p) script (above h p)
+  above (turned len room reading h) p = above h p
+  above (traced {s} {r} stream len budget room n h) p = traced-by (λ (x : XferStep). Above (x .sound)) s r stream len budget room n (λ _. above h p) (λ _ _ _. above h p) (λ _. above h p)
+  above (penned written h) p = above h p
+  above (captured {s} {r} stream periods lent budget n h) p = capture-by (λ (x : XferStep). Above (x .sound)) s r stream periods lent budget n (λ _. above h p) (λ _ _ _. above h p) (λ _. above h p)
+  above (received len c h) p = above h p
+  above (drained reading h) p = above h p
+  above (submitted {s} {r} stream n len m h) p =
+      nb-ends (λ (u : NbStep). Above (u .sound)) s r stream n len m (λ _. above h (p .1)) (λ _ _ _. above h (p .1))
+      (λ g. other places (s .pending) (above h (p .1)) (lowestIn (s .pending) (placesOf (r .track .descriptors))) waits (omega (arith, g .free, p .0)))
+  above (marked {s} reading h) p = guarded-by (λ (u : NbEnd). Above (u .sound)) _ _ _ (λ _. above-by s reading (above h p)) (λ _. above h p)
+  above (finished {s} token h) p = guarded-by (λ (u : NbEnd). Above (u .sound)) _ _ _ (λ _. finishes-above places (s .pending) (above h p) token) (λ _. above h p)
+  above (begun stream len period budget h) p = above h p
+  above (listened stream periods period lent budget h) p = above h p
+  above (logged stream len period budget room h) p = above h p
+  above (ran stream period budget frames script h) p = above h p
+  above (renewed descriptors mode h) p = above h p
 
--- "A submission is .. two descriptors": with those of the slots in flight there are never more than 32
-descriptors-by : (p : Pending) (u : Track) → Exclusive p u → Consistent u → countIn p ≤ 16 → u .inflight * u .descriptors + 2 * countIn p ≤ 32
-descriptors-by p u x c few =
+  -- no more than so many are pending
+  pub few-tokens : {s : Sound} {r : Ring} (h : Reached s r) → places ≤ 32 → Placed places h → countIn (s .pending) ≤ places
+  few-tokens {s} h small p =
+      let b = bound-is places small in
+      subst (λ (n : ℕ). countIn (s .pending) ≤ n) b (few-pending (s .pending) places (reached-kept h .0 .pending) (subst (λ (n : ℕ). AboveFree n (s .pending)) (sym b) (above h p)))
+
+-- "A submission is .. two descriptors", and one where they are indirect (2026-14)
+unfoldable pub takenOf : ℕ → ℕ
+takenOf descriptors = pick (eqb descriptors indirect) 1 2
+
+taken-by : (b : Bool) (n : ℕ) → n ≤ pick b 32 16 → pick b 1 2 * n ≤ 32
+taken-by true n h = omega arith
+taken-by false n h = omega arith
+
+-- with those of the slots in flight there are never more than 32, where every submission was handed a ring of one mode
+descriptors-by : (d : ℕ) (p : Pending) (u : Track) → Exclusive p u → Consistent u → countIn p ≤ placesOf d → u .inflight * u .descriptors + takenOf d * countIn p ≤ 32
+unfolding placesOf takenOf
+descriptors-by d p u x c few =
     elim x [
-      | inl e ↦ (let z : countIn p ≡ 0 = eqb-true _ _ e in let m = c .placed .room in omega arith)
-      | inr i ↦ (let z : u .inflight * u .descriptors ≡ 0 = ap (λ (n : ℕ). n * u .descriptors) (none-held u i) ∙ zero-mul (u .descriptors) in omega arith)
+      | inl e ↦ (let z : countIn p ≡ 0 = eqb-true _ _ e in let y : takenOf d * countIn p ≡ 0 = ap (λ (n : ℕ). takenOf d * n) z ∙ mul-zero (takenOf d) in let m = c .placed .room in omega (arith, y, m))
+      | inr i ↦ (let z : u .inflight * u .descriptors ≡ 0 = ap (λ (n : ℕ). n * u .descriptors) (none-held u i) ∙ zero-mul (u .descriptors) in omega (arith, z, taken-by (eqb d indirect) (countIn p) few))
     ]
 
-pub descriptors : {s : Sound} {r : Ring} (h : Reached s r) → ByCalls h → r .track .inflight * r .track .descriptors + 2 * countIn (s .pending) ≤ 32
-descriptors {s} {r} h b = descriptors-by (s .pending) (r .track) (exclusive h b) (reached-kept h .1) (few-tokens h)
+pub descriptors : {s : Sound} {r : Ring} (h : Reached s r) → ByCalls h → (d : ℕ) → Placed (placesOf d) h → r .track .inflight * r .track .descriptors + takenOf d * countIn (s .pending) ≤ 32
+descriptors {s} {r} h b d p = descriptors-by d (s .pending) (r .track) (exclusive h b) (reached-kept h .1) (few-tokens (placesOf d) h (few-places d) p)

@@ -4,6 +4,7 @@
 use mathlib.Core.Path.{_≡_, refl, sym, ap, ap₂, _∙_, subst}
 use mathlib.Core.Bool.{Bool, true, false, _&&_, false≢true}
 use mathlib.Core.List.{List, [], _∷_, _++_, append-nil}
+use mathlib.Core.Logic.{inl}
 use Prim.Native.Nat.{ℕ, _-_, _≤_, _<_}
 use native.Mathlib.Omega.{arith}
 use lib.Dec.{ltb, leb, eqb}
@@ -86,7 +87,7 @@ abbrev pub okOf : Sound → Feed → ℕ → List ℕ
 okOf s f i = okIn (planOf s f .say) (outTo i (s .core .stage))
 
 unfoldable pub oksOf : {s : Sound} {r : Ring} → Reached s r → ℕ → List ℕ
-oksOf (fresh guard jacks streams maps) i = []
+oksOf (fresh descriptors mode guard jacks streams maps) i = []
 oksOf (called call n h) i = oksOf h i
 oksOf (fed {s} f h) i = oksOf h i ++ okOf s f i
 oksOf (started stream len budget n h) i = oksOf h i
@@ -104,7 +105,7 @@ oksOf (restarted stream len period budget h) i = oksOf h i
 oksOf (listened stream periods period lent budget h) i = oksOf h i
 oksOf (logged stream len period budget room h) i = oksOf h i
 oksOf (ran stream period budget frames script h) i = oksOf h i
-oksOf (renewed h) i = oksOf h i
+oksOf (renewed descriptors mode h) i = oksOf h i
 
 -- ---- a test that was made under the guard
 
@@ -279,7 +280,7 @@ module _ (s : Sound) (page : List ℕ) (i l : ℕ) {ks : List ℕ} (h : Walk l k
 -- ---- THE GUARD NEVER CHANGES: it is the one that the state was made with
 
 unfoldable pub guardOf : {s : Sound} {r : Ring} → Reached s r → Bool
-guardOf (fresh guard jacks streams maps) = guard
+guardOf (fresh descriptors mode guard jacks streams maps) = guard
 guardOf (called call n h) = guardOf h
 guardOf (fed f h) = guardOf h
 guardOf (started stream len budget n h) = guardOf h
@@ -297,7 +298,7 @@ guardOf (restarted stream len period budget h) = guardOf h
 guardOf (listened stream periods period lent budget h) = guardOf h
 guardOf (logged stream len period budget room h) = guardOf h
 guardOf (ran stream period budget frames script h) = guardOf h
-guardOf (renewed h) = guardOf h
+guardOf (renewed descriptors mode h) = guardOf h
 
 called-guard : (s : Sound) (t : Track) (call : Call) (n : ℕ) → stepOf (callOf s t call n) s [] .sound .core .guard ≡ s .core .guard
 called-guard s t call n = let p = callOf s t call n in ap (λ (c : Core). c .guard) (after-core (p .effect) (p .core) s []) ∙ called-stays s t call n .guard
@@ -307,7 +308,7 @@ fed-guard s f = let p = planOf s f in ap (λ (c : Core). c .guard) (after-core (
 
 pub guard-stays : {s : Sound} {r : Ring} (h : Reached s r) → s .core .guard ≡ guardOf h
 unfolding guardOf
-guard-stays (fresh guard jacks streams maps) = refl
+guard-stays (fresh descriptors mode guard jacks streams maps) = refl
 guard-stays (called {s} {r} call n h) = called-guard s (r .track) call n ∙ guard-stays h
 guard-stays (fed {s} f h) = fed-guard s f ∙ guard-stays h
 guard-stays (started {s} {r} stream len budget n h) =
@@ -329,7 +330,7 @@ guard-stays (restarted stream len period budget h) = guard-stays h
 guard-stays (listened stream periods period lent budget h) = guard-stays h
 guard-stays (logged stream len period budget room h) = guard-stays h
 guard-stays (ran stream period budget frames script h) = guard-stays h
-guard-stays (renewed h) = guard-stays h
+guard-stays (renewed descriptors mode h) = guard-stays h
 
 -- ---- A COMMAND THAT WAS SENT WAS PERMITTED, to a stream that there is; at a call and at a feed, in any state
 
@@ -349,7 +350,7 @@ abbrev Waiting : Sound → Type 0
 Waiting x = x .core .guard ≡ true → Waits (x .lives) (x .core .stage)
 
 reached-waits : {s : Sound} {r : Ring} → Reached s r → Waiting s
-reached-waits (fresh guard jacks streams maps) on = λ i k e. empty e
+reached-waits (fresh descriptors mode guard jacks streams maps) on = λ i k e. empty e
 reached-waits (called {s} {r} call n h) on =
     let c = callOf s (r .track) call n .core in
     let was : s .core .guard ≡ true = sym (called-guard s (r .track) call n) ∙ on in
@@ -377,12 +378,12 @@ reached-waits (restarted stream len period budget h) on = reached-waits h on
 reached-waits (listened stream periods period lent budget h) on = reached-waits h on
 reached-waits (logged stream len period budget room h) on = reached-waits h on
 reached-waits (ran stream period budget frames script h) on = reached-waits h on
-reached-waits (renewed h) on = reached-waits h on
+reached-waits (renewed descriptors mode h) on = reached-waits h on
 
 -- from "set parameters" each ok command to a stream was permitted where the stream was, and the last of them is where it is
 pub lifecycle : {s : Sound} {r : Ring} (h : Reached s r) (i : ℕ) → s .core .guard ≡ true → Walk 0 (oksOf h i) (lifeOf s i)
 unfolding oksOf
-lifecycle (fresh guard jacks streams maps) i on = subst (λ (m : ℕ). Walk 0 [] m) (sym (zero-life 127 i)) here
+lifecycle (fresh descriptors mode guard jacks streams maps) i on = subst (λ (m : ℕ). Walk 0 [] m) (sym (zero-life 127 i)) here
 lifecycle (called {s} {r} call n h) i on =
     subst (λ (x : Sound). Walk 0 (oksOf h i) (lifeOf x i)) (sym (called-as s (r .track) call n)) (lifecycle h i (sym (called-guard s (r .track) call n) ∙ on))
 lifecycle (fed {s} f h) i on =
@@ -408,7 +409,7 @@ lifecycle (restarted stream len period budget h) i on = lifecycle h i on
 lifecycle (listened stream periods period lent budget h) i on = lifecycle h i on
 lifecycle (logged stream len period budget room h) i on = lifecycle h i on
 lifecycle (ran stream period budget frames script h) i on = lifecycle h i on
-lifecycle (renewed h) i on = lifecycle h i on
+lifecycle (renewed descriptors mode h) i on = lifecycle h i on
 
 -- ---- WITHOUT THE GUARD no effect moves a stream: "Guard off, all reads as before"
 
@@ -439,7 +440,7 @@ prepared = fedOf (stepOf (callOf parametersSet (newTrack direct) (Command Prepar
 
 pub reached-prepared : Reached prepared (newRing direct)
 unfolding after
-reached-prepared = fed ok (called (Command Prepare 1) 24 (fed ok (fed (failed 24) (fed ok (fed (failed 24) (called first 24 (fresh true 0 2 0)))))))
+reached-prepared = fed ok (called (Command Prepare 1) 24 (fed ok (fed (failed 24) (fed ok (fed (failed 24) (called first 24 (fresh direct (inl refl) true 0 2 0)))))))
 
 pub prepared-walk : oksOf reached-prepared 1 ≡ 0 ∷ 1 ∷ []
 unfolding reached-prepared oksOf after callOf feedOf failOf beginOf answerOf afterJacks afterStreams afterMaps afterSent ownSet ownCommand consistentOf placedOf pacedOf guard judged numAt bytesAt un permitsOf

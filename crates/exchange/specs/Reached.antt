@@ -3,6 +3,7 @@
 use mathlib.Core.Path.{_≡_, refl}
 use mathlib.Core.Bool.{Bool, true, false, false≢true}
 use mathlib.Core.List.{List, [], _∷_}
+use mathlib.Core.Logic.{inl}
 use Prim.Native.Nat.{ℕ}
 use native.Mathlib.Omega.{arith}
 use lib.ListN.{length, replicate}
@@ -21,6 +22,7 @@ use Rattle.turns.specs.ConsistentLaws.{Consistent, consistent-facts, consistent
 use Rattle.turns.specs.StaysConsistentLaws.{traced-keeps, drain-keeps, start-keeps, traced-start-keeps, new-passes}
 use Rattle.turns.specs.DemandLaws.{script-keeps}
 use Rattle.turns.specs.Ring.{direct, newTrack, newRing}
+use Rattle.turns.specs.Private.{Mode}
 use Rattle.pending.specs.Table.{noneIn}
 use Rattle.exchange.specs.State.{newSound, paramsOf, lifeOf}
 use Rattle.core.specs.Consistent.{consistentOf}
@@ -41,7 +43,7 @@ abbrev pub pennedIn : ℕ → Ring → Ring
 pennedIn written r = record { track = writtenIn written (r .track); slots = r .slots }
 
 pub data Reached : Sound → Ring → Type 0 where
-  fresh : (guard : Bool) (jacks streams maps : ℕ) → Reached (newSound guard jacks streams maps) (newRing direct)
+  fresh : (descriptors : ℕ) → Mode descriptors → (guard : Bool) (jacks streams maps : ℕ) → Reached (newSound guard jacks streams maps) (newRing descriptors)
   called : {s : Sound} {r : Ring} (call : Call) (n : ℕ) → Reached s r → Reached (stepOf (callOf s (r .track) call n) s [] .sound) r
   fed : {s : Sound} {r : Ring} (f : Feed) → Reached s r → Reached (fedOf s f .sound) r
   started : {s : Sound} {r : Ring} (stream len budget n : ℕ) → Reached s r → Reached (startOf s r stream len budget n .sound) (startOf s r stream len budget n .ring)
@@ -57,12 +59,12 @@ pub data Reached : Sound → Ring → Type 0 where
   submitted : {s : Sound} {r : Ring} (stream n len m : ℕ) → Reached s r → Reached (nbOf s r stream n len m .sound) r
   marked : {s : Sound} {r : Ring} (reading : Reading) → Reached s r → Reached (markStep s reading .sound) r
   finished : {s : Sound} {r : Ring} (token : ℕ) → Reached s r → Reached (finishStep s token .sound) r
-  -- the ring by itself: `start`, `capture_start`, `traced_start` and `transfer` of turns, and a new one beside a state that was kept
+  -- the ring by itself: `start`, `capture_start`, `traced_start` and `transfer` of turns, and a new one, of either mode, beside a state that was kept
   begun : {s : Sound} {r : Ring} (stream len period budget : ℕ) → Reached s r → Reached s (startedOf r (startCall (r .track) stream len period budget) .ring)
   listened : {s : Sound} {r : Ring} (stream periods period lent budget : ℕ) → Reached s r → Reached s (startedOf r (captureStart (r .track) stream periods period lent budget) .ring)
   logged : {s : Sound} {r : Ring} (stream len period budget room : ℕ) → Reached s r → Reached s (startedOf r (startTraced (r .track) stream len period budget room) .ring)
   ran : {s : Sound} {r : Ring} (stream period budget : ℕ) (frames script : List ℕ) → Reached s r → Reached s (transferOf r stream (length frames) period budget script .ring)
-  renewed : {s : Sound} {r : Ring} → Reached s r → Reached s (newRing direct)
+  renewed : {s : Sound} {r : Ring} (descriptors : ℕ) → Mode descriptors → Reached s r → Reached s (newRing descriptors)
 
 module _ (s : Sound) (r : Ring) (stream budget n : ℕ) (c : Consistent (r .track)) where
   start-ring : (len : ℕ) → Consistent (startOf s r stream len budget n .ring .track)
@@ -93,7 +95,7 @@ penned-keeps r written c =
 
 -- what calls left has the invariant
 pub reached-kept : {s : Sound} {r : Ring} → Reached s r → Kept s × Consistent (r .track)
-reached-kept (fresh guard jacks streams maps) = (new-kept guard jacks streams maps, consistent-facts (newTrack direct) new-passes)
+reached-kept (fresh descriptors mode guard jacks streams maps) = (new-kept guard jacks streams maps, consistent-facts (newTrack descriptors) (new-passes descriptors mode))
 reached-kept (called {s} {r} call n h) = let k = reached-kept h in (call-kept s (r .track) call n (k .0), k .1)
 reached-kept (fed {s} f h) = let k = reached-kept h in (feed-kept s f (k .0), k .1)
 reached-kept (started {s} {r} stream len budget n h) = let k = reached-kept h in (start-kept s r stream len budget n (k .0), start-ring s r stream budget n (k .1) len)
@@ -111,7 +113,7 @@ reached-kept (begun {r} stream len period budget h) = let k = reached-kept h in 
 reached-kept (listened {r} stream periods period lent budget h) = let k = reached-kept h in (k .0, capture-start-keeps (r .track) stream periods period lent budget (k .1))
 reached-kept (logged {r} stream len period budget room h) = let k = reached-kept h in (k .0, traced-start-keeps (r .track) stream len period budget room (k .1))
 reached-kept (ran {r} stream period budget frames script h) = let k = reached-kept h in (k .0, script-keeps r stream period budget frames script (k .1))
-reached-kept (renewed h) = (reached-kept h .0, consistent-facts (newTrack direct) new-passes)
+reached-kept (renewed descriptors mode h) = (reached-kept h .0, consistent-facts (newTrack descriptors) (new-passes descriptors mode))
 
 -- so demand 3 speaks of every state and ring that calls left
 pub reached-playable : {s : Sound} {r : Ring} (stream : ℕ) → Reached s r → (paramsOf s stream .known ≡ 0 → ⊥) → (s .core .guard ≡ true → takesOf (lifeOf s stream) ≡ true) → s .core .stage ≡ Idle → r .track .running ≡ false
@@ -136,7 +138,7 @@ parametersSet = after asked (failed 24 ∷ ok ∷ failed 24 ∷ ok ∷ [])
 
 unfoldable pub reached-set : Reached parametersSet (newRing direct)
 unfolding after
-reached-set = fed ok (fed (failed 24) (fed ok (fed (failed 24) (called first 24 (fresh false 0 2 0)))))
+reached-set = fed ok (fed (failed 24) (fed ok (fed (failed 24) (called first 24 (fresh direct (inl refl) false 0 2 0)))))
 
 pub premises-met : Playable parametersSet (newRing direct) 1
 unfolding after callOf feedOf failOf beginOf answerOf afterJacks afterStreams afterMaps afterSent ownSet consistentOf placedOf pacedOf guard judged numAt bytesAt un

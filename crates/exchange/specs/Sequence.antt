@@ -28,7 +28,8 @@ use Rattle.core.specs.Plan.{ownSet, beginOf, afterJacks, afterStreams, afterMap
 use Rattle.exchange.specs.Exchange.{callOf, feedOf, failOf}
 use Rattle.exchange.specs.Feed.{planOf, pageOf}
 use Rattle.exchange.specs.XferLaws.{start-by, script-by, traced-by, capture-by}
-use Rattle.exchange.specs.Submit.{nbOf, nbStore, markBy, markStep, finishStep}
+use Rattle.exchange.specs.Submit.{placesOf, nbOf, nbStore, markBy, markStep, finishStep}
+use Rattle.exchange.specs.SubmitLaws.{few-places}
 use Rattle.exchange.specs.Submitted.{Given, nb-ends, effect-pending}
 use Rattle.exchange.specs.Ends.{after}
 use Rattle.exchange.specs.Reached.{Reached, fresh, called, fed, started, scripted, turned, traced, penned, captured, received, drained, submitted, marked, finished, begun, listened, logged, ran, renewed, reached-kept, parametersSet, reached-set}
@@ -43,7 +44,7 @@ nbEntry (Token k) = took k
 nbEntry (Refused x) = neither
 
 unfoldable pub heldBy : {s : Sound} {r : Ring} → Reached s r → ℕ → Bool
-heldBy (fresh guard jacks streams maps) k = false
+heldBy (fresh descriptors mode guard jacks streams maps) k = false
 heldBy (called call n h) k = heldBy h k
 heldBy (fed f h) k = heldBy h k
 heldBy (started stream len budget n h) k = heldBy h k
@@ -61,16 +62,16 @@ heldBy (begun stream len period budget h) k = heldBy h k
 heldBy (listened stream periods period lent budget h) k = heldBy h k
 heldBy (logged stream len period budget room h) k = heldBy h k
 heldBy (ran stream period budget frames script h) k = heldBy h k
-heldBy (renewed h) k = heldBy h k
+heldBy (renewed descriptors mode h) k = heldBy h k
 
 module _ (s : Sound) (k : ℕ) (b : Bool) (size : length (s .pending .tokens) ≡ 32) (e : pendingAt (s .pending) k ≡ b) where
   submits-held : (r : Ring) (stream n len m : ℕ) → pendingAt (nbOf s r stream n len m .sound .pending) k ≡ noted (nbEntry (nbOf s r stream n len m .reply)) k b
   submits-held r stream n len m =
       nb-ends (λ (u : NbStep). pendingAt (u .sound .pending) k ≡ noted (nbEntry (u .reply)) k b) s r stream n len m (λ _. e) (λ _ _ _. e)
       (λ g.
-      let j = lowestIn (s .pending) 16 in
+      let j = lowestIn (s .pending) (placesOf (r .track .descriptors)) in
       let f = g .free in
-      put-notes (s .pending) j k waits true (omega (arith, f, size)) refl (eqb j k) refl ∙ ap (pick (eqb j k) true) e)
+      put-notes (s .pending) j k waits true (omega (arith, f, few-places (r .track .descriptors), size)) refl (eqb j k) refl ∙ ap (pick (eqb j k) true) e)
 
   marks-held : (reading : Reading) → pendingAt (markBy s reading .sound .pending) k ≡ b
   marks-held Quiet = e
@@ -89,7 +90,7 @@ module _ (s : Sound) (k : ℕ) (b : Bool) (size : length (s .pending .tokens) �
 -- THE THEOREM, of every token
 pub pending-exactly : {s : Sound} {r : Ring} (h : Reached s r) (k : ℕ) → pendingAt (s .pending) k ≡ heldBy h k
 unfolding heldBy
-pending-exactly (fresh guard jacks streams maps) k = none-then newPending refl k
+pending-exactly (fresh descriptors mode guard jacks streams maps) k = none-then newPending refl k
 pending-exactly (called {s} {r} call n h) k = ap (λ (p : Pending). pendingAt p k) (effect-pending (callOf s (r .track) call n .effect) (callOf s (r .track) call n .core) s []) ∙ pending-exactly h k
 pending-exactly (fed {s} f h) k = ap (λ (p : Pending). pendingAt p k) (effect-pending (planOf s f .effect) (planOf s f .core) s (pageOf f)) ∙ pending-exactly h k
 pending-exactly (started {s} {r} stream len budget n h) k =
@@ -111,18 +112,18 @@ pending-exactly (begun stream len period budget h) k = pending-exactly h k
 pending-exactly (listened stream periods period lent budget h) k = pending-exactly h k
 pending-exactly (logged stream len period budget room h) k = pending-exactly h k
 pending-exactly (ran stream period budget frames script h) k = pending-exactly h k
-pending-exactly (renewed h) k = pending-exactly h k
+pending-exactly (renewed descriptors mode h) k = pending-exactly h k
 
--- ---- THE BYTES. A sequence with one lent store, whose length stays and which nothing but the submissions writes
+-- ---- THE BYTES. A sequence with one lent store of so many places, whose length stays and which nothing but the submissions writes. Rings of one mode, which tells the places
 
-pub data Lending : Sound → Ring → List ℕ → Type 0 where
-  opens : {s : Sound} {r : Ring} (store : List ℕ) → noneIn (s .pending) ≡ true → Lending s r store
-  submits : {s : Sound} {r : Ring} {store : List ℕ} (stream m : ℕ) (payload : List ℕ) → Lending s r store
-      → Lending (nbOf s r stream (length payload) (length store) m .sound) r (nbStore (nbOf s r stream (length payload) (length store) m .reply) stream payload store)
-  marks : {s : Sound} {r : Ring} {store : List ℕ} (reading : Reading) → Lending s r store → Lending (markStep s reading .sound) r store
-  finishes : {s : Sound} {r : Ring} {store : List ℕ} (token : ℕ) → Lending s r store → Lending (finishStep s token .sound) r store
+pub data Lending (places : ℕ) : Sound → Ring → List ℕ → Type 0 where
+  opens : {s : Sound} {r : Ring} (store : List ℕ) → noneIn (s .pending) ≡ true → Lending places s r store
+  submits : {s : Sound} {r : Ring} {store : List ℕ} (stream m : ℕ) (payload : List ℕ) → placesOf (r .track .descriptors) ≡ places → Lending places s r store
+      → Lending places (nbOf s r stream (length payload) (length store) m .sound) r (nbStore places (nbOf s r stream (length payload) (length store) m .reply) stream payload store)
+  marks : {s : Sound} {r : Ring} {store : List ℕ} (reading : Reading) → Lending places s r store → Lending places (markStep s reading .sound) r store
+  finishes : {s : Sound} {r : Ring} {store : List ℕ} (token : ℕ) → Lending places s r store → Lending places (finishStep s token .sound) r store
   -- any other call, feed, start or turn: it leaves the table (effect-pending) and is not lent the store
-  others : {s u : Sound} {r q : Ring} {store : List ℕ} → u .pending ≡ s .pending → Lending s r store → Lending u q store
+  others : {s u : Sound} {r q : Ring} {store : List ℕ} → u .pending ≡ s .pending → Lending places s r store → Lending places u q store
 
 -- what was submitted last under a token
 abbrev pub lastBy : NbReply → ℕ → List ℕ → ℕ → List ℕ → List ℕ
@@ -130,61 +131,64 @@ lastBy (Send n) stream payload k l = l
 lastBy (Token j) stream payload k l = pick (eqb j k) (messageOf stream payload) l
 lastBy (Refused x) stream payload k l = l
 
-unfoldable pub lastOf : {s : Sound} {r : Ring} {store : List ℕ} → Lending s r store → ℕ → List ℕ
+unfoldable pub lastOf : {places : ℕ} {s : Sound} {r : Ring} {store : List ℕ} → Lending places s r store → ℕ → List ℕ
 lastOf (opens store none) k = []
-lastOf (submits {s} {r} {store} stream m payload h) k = lastBy (nbOf s r stream (length payload) (length store) m .reply) stream payload k (lastOf h k)
+lastOf (submits {s} {r} {store} stream m payload e h) k = lastBy (nbOf s r stream (length payload) (length store) m .reply) stream payload k (lastOf h k)
 lastOf (marks reading h) k = lastOf h k
 lastOf (finishes token h) k = lastOf h k
 lastOf (others e h) k = lastOf h k
 
 -- a token's place begins with its message
-pub record Holds (store : List ℕ) (k : ℕ) (message : List ℕ) : Type 0 where
-  pub place : k < 16
-  pub fits : length message ≤ sizeOf (length store) 16
-  pub bytes : bytesAt (placeOf (length store) 16 k) (length message) store ≡ message
+pub record Holds (places : ℕ) (store : List ℕ) (k : ℕ) (message : List ℕ) : Type 0 where
+  pub place : k < places
+  pub fits : length message ≤ sizeOf (length store) places
+  pub bytes : bytesAt (placeOf (length store) places k) (length message) store ≡ message
 
-module _ (s : Sound) (k : ℕ) (store l : List ℕ) (h : pendingAt (s .pending) k ≡ true → Holds store k l) where
-  module _ (stream : ℕ) (payload : List ℕ) (r : Ring) (g : Given s r stream (length payload) (length store)) where
+module _ (s : Sound) (k : ℕ) (store l : List ℕ) (r : Ring) (h : pendingAt (s .pending) k ≡ true → Holds (placesOf (r .track .descriptors)) store k l) where
+  abbrev places : ℕ
+  places = placesOf (r .track .descriptors)
+
+  module _ (stream : ℕ) (payload : List ℕ) (g : Given s r stream (length payload) (length store)) where
     abbrev j : ℕ
-    j = lowestIn (s .pending) 16
+    j = lowestIn (s .pending) places
 
     abbrev new : List ℕ
-    new = placedIn store 16 j stream payload
+    new = placedIn store places j stream payload
 
     same : length new ≡ length store
-    same = placed-length store 16 j stream payload
+    same = placed-length store places j stream payload
 
-    fit : 4 + length payload ≤ sizeOf (length store) 16
+    fit : 4 + length payload ≤ sizeOf (length store) places
     fit = let z = g .room in omega arith
 
-    given-by : (b : Bool) → eqb j k ≡ b → pendingAt (put (s .pending) j waits) k ≡ true → Holds new k (pick b (messageOf stream payload) l)
+    given-by : (b : Bool) → eqb j k ≡ b → pendingAt (put (s .pending) j waits) k ≡ true → Holds places new k (pick b (messageOf stream payload) l)
     given-by true q p =
         let z : j ≡ k = eqb-true j k q in
         let n = length-message stream payload in
         record {
-          place = subst (λ (i : ℕ). i < 16) z (g .free);
-          fits = subst (λ (i : ℕ). length (messageOf stream payload) ≤ sizeOf i 16) (sym same) (subst (λ (i : ℕ). i ≤ sizeOf (length store) 16) (sym n) fit);
+          place = subst (λ (i : ℕ). i < places) z (g .free);
+          fits = subst (λ (i : ℕ). length (messageOf stream payload) ≤ sizeOf i places) (sym same) (subst (λ (i : ℕ). i ≤ sizeOf (length store) places) (sym n) fit);
           bytes =
-              (λ i. bytesAt (placeOf (same i) 16 (sym z i)) (n i) new)
-              ∙ placed-there store 16 j stream payload (g .free) fit;
+              (λ i. bytesAt (placeOf (same i) places (sym z i)) (n i) new)
+              ∙ placed-there store places j stream payload (g .free) fit;
         }
     given-by false q p =
         let d : k ≡ j → ⊥ = λ z. eqb-false j k q (sym z) in
         let o = h (sym (ap (λ (t : PendingToken). not (eqb (t .state) 0)) (put-other (s .pending) j k waits d)) ∙ p) in
         record {
           place = o .place;
-          fits = subst (λ (i : ℕ). length l ≤ sizeOf i 16) (sym same) (o .fits);
+          fits = subst (λ (i : ℕ). length l ≤ sizeOf i places) (sym same) (o .fits);
           bytes =
-              (λ i. bytesAt (placeOf (same i) 16 k) (length l) new)
-              ∙ places-apart store 16 j stream payload k (length l) d (o .fits) fit
+              (λ i. bytesAt (placeOf (same i) places k) (length l) new)
+              ∙ places-apart store places j stream payload k (length l) d (o .fits) fit
               ∙ o .bytes;
         }
 
-  nb-holds : (r : Ring) (stream m : ℕ) (payload : List ℕ)
-      → let u = nbOf s r stream (length payload) (length store) m in pendingAt (u .sound .pending) k ≡ true → Holds (nbStore (u .reply) stream payload store) k (lastBy (u .reply) stream payload k l)
-  nb-holds r stream m payload =
-      nb-ends (λ (u : NbStep). pendingAt (u .sound .pending) k ≡ true → Holds (nbStore (u .reply) stream payload store) k (lastBy (u .reply) stream payload k l)) s r stream (length payload) (length store) m
-      (λ _. h) (λ _ _ _. h) (λ g. given-by stream payload r g (eqb (lowestIn (s .pending) 16) k) refl)
+  nb-holds : (stream m : ℕ) (payload : List ℕ)
+      → let u = nbOf s r stream (length payload) (length store) m in pendingAt (u .sound .pending) k ≡ true → Holds places (nbStore places (u .reply) stream payload store) k (lastBy (u .reply) stream payload k l)
+  nb-holds stream m payload =
+      nb-ends (λ (u : NbStep). pendingAt (u .sound .pending) k ≡ true → Holds places (nbStore places (u .reply) stream payload store) k (lastBy (u .reply) stream payload k l)) s r stream (length payload) (length store) m
+      (λ _. h) (λ _ _ _. h) (λ g. given-by stream payload g (eqb (lowestIn (s .pending) places) k) refl)
 
 -- what a completion or a finish leaves pending was pending
 was-by : (p : Pending) (j k : ℕ) (t : PendingToken) (b : Bool) → eqb j k ≡ b → pendingAt p j ≡ true → pendingAt (put p j t) k ≡ true → pendingAt p k ≡ true
@@ -211,10 +215,13 @@ module _ (s : Sound) (k : ℕ) where
       (λ _. finish-by (λ (j : Judged). Was (j .table)) (s .pending) token (λ w. was-by (s .pending) token k freeToken (eqb token k) refl w) (λ e. e) (λ e. e)) (λ _ e. e)
 
 -- THE THEOREM: a pending token's place begins with its message, "stream id and one whole period", whatever was submitted, completed and finished since
-pub pending-bytes : {s : Sound} {r : Ring} {store : List ℕ} (h : Lending s r store) (k : ℕ) → pendingAt (s .pending) k ≡ true → Holds store k (lastOf h k)
+pub pending-bytes : {places : ℕ} {s : Sound} {r : Ring} {store : List ℕ} (h : Lending places s r store) (k : ℕ) → pendingAt (s .pending) k ≡ true → Holds places store k (lastOf h k)
 unfolding lastOf
 pending-bytes (opens {s} store none) k e = absurd (false≢true (sym (none-then (s .pending) none k) ∙ e))
-pending-bytes (submits {s} {r} {store} stream m payload h) k e = nb-holds s k store (lastOf h k) (λ w. pending-bytes h k w) r stream m payload e
+pending-bytes (submits {s} {r} {store} stream m payload same h) k e =
+    let u = nbOf s r stream (length payload) (length store) m in
+    subst (λ (n : ℕ). Holds n (nbStore n (u .reply) stream payload store) k (lastBy (u .reply) stream payload k (lastOf h k))) same
+    (nb-holds s k store (lastOf h k) r (λ w. subst (λ (n : ℕ). Holds n store k (lastOf h k)) (sym same) (pending-bytes h k w)) stream m payload e)
 pending-bytes (marks {s} reading h) k e = pending-bytes h k (mark-was s k reading e)
 pending-bytes (finishes {s} token h) k e = pending-bytes h k (finish-was s k token e)
 pending-bytes (others q h) k e = pending-bytes h k (sym (ap (λ (p : Pending). pendingAt p k) q) ∙ e)
@@ -225,9 +232,9 @@ abbrev once : Reached (nbOf parametersSet (newRing direct) 1 2048 32832 24 .soun
 once = submitted 1 2048 32832 24 reached-set
 
 pub held-once : heldBy once 0 ≡ true
-unfolding heldBy reached-set nbOf after callOf feedOf failOf beginOf answerOf afterJacks afterStreams afterMaps afterSent ownSet consistentOf streamOk placedOf pacedOf guard judged numAt bytesAt un lowestIn
+unfolding heldBy reached-set placesOf nbOf after callOf feedOf failOf beginOf answerOf afterJacks afterStreams afterMaps afterSent ownSet consistentOf streamOk placedOf pacedOf guard judged numAt bytesAt un lowestIn
 held-once = refl
 
 pub held-no-more : heldBy (finished 0 (marked (Completed 0 0x8000) once)) 0 ≡ false
-unfolding heldBy reached-set nbOf markStep finishStep markToken finishToken after callOf feedOf failOf beginOf answerOf afterJacks afterStreams afterMaps afterSent ownSet consistentOf streamOk placedOf pacedOf guard judged numAt bytesAt un lowestIn
+unfolding heldBy reached-set placesOf nbOf markStep finishStep markToken finishToken after callOf feedOf failOf beginOf answerOf afterJacks afterStreams afterMaps afterSent ownSet consistentOf streamOk placedOf pacedOf guard judged numAt bytesAt un lowestIn
 held-no-more = refl

@@ -3,10 +3,12 @@
 use mathlib.Core.Path.{_≡_, refl, sym, ap, _∙_}
 use mathlib.Core.Bool.{Bool, true, false}
 use mathlib.Core.List.{List, [], _∷_}
-use Prim.Native.Nat.{ℕ, _+_}
-use lib.Dec.{leb}
+use Prim.Native.Nat.{ℕ, _+_, _≤_}
+use native.Mathlib.Omega.{arith}
+use lib.Dec.{leb, eqb}
 use Rattle.layout.specs.Lent.{messageSize}
 use Rattle.codes.specs.Says as answers
+use Rattle.codes.specs.Says.{pick}
 use Rattle.codes.specs.Answers.{saysRefusal}
 use Rattle.codes.specs.SaysLaws.{guard-ap, guarded-by, passes, stops}
 use Rattle.pending.specs.Table.{lowestIn, markOf, finishOf, seenOf}
@@ -15,11 +17,12 @@ use Rattle.pending.specs.declared.table.Seen.{Seen}
 use Rattle.pending.specs.declared.table.Seen.the-variants as seen
 use Rattle.pending.specs.declared.calls.Outcome.the-variants as outcome
 use Rattle.pending.specs.declared.place.Spot.the-variants as spot
+use Rattle.turns.specs.Ring.{indirect}
 use Rattle.turns.specs.declared.reading.Reading.the-variants.{Quiet, Completed}
 use Rattle.core.specs.Consistent.{consistentOf}
 use Rattle.exchange.specs.Xfer.{xferBy}
 use Rattle.exchange.specs.StepLaws.{xfer-ap}
-use Rattle.exchange.specs.Submit.{refusedNb, setUpNb, tokenNb, submitOf, nbOf, nbStore, nbMessage, saysNb, nbSays, Submits, endBy, barredEnd, markBy, markStep, finishStep, tokenSeen}
+use Rattle.exchange.specs.Submit.{placesOf, refusedNb, setUpNb, tokenNb, submitOf, nbOf, nbStore, nbMessage, saysNb, nbSays, Submits, endBy, barredEnd, markBy, markStep, finishStep, tokenSeen}
 use Rattle.exchange.specs.Types.{Refusal, Ring, Reading, Judged, Spot, Sound, Gate, Shut, SetUp, Open, NbStep, NbEnd}
 
 -- what is made of the outcome of finding a place is made at each end
@@ -27,53 +30,70 @@ pub spot-ap : {A B : Type 0} (f : A → B) (places k n len period : ℕ) (refuse
     → f (spotBy places k n len period refuse go) ≡ spotBy places k n len period (λ x. f (refuse x)) (λ k. f (go k))
 spot-ap f places k n len period refuse go = simp (guard-ap f)
 
-module _ (s : Sound) (n len : ℕ) where
+-- no more places than the table has tokens for
+places-by : (b : Bool) → pick b 32 16 ≤ 32
+places-by true = omega arith
+places-by false = omega arith
+
+pub few-places : (descriptors : ℕ) → placesOf descriptors ≤ 32
+unfolding placesOf
+few-places descriptors = places-by (eqb descriptors indirect)
+
+module _ (places : ℕ) (s : Sound) (n len : ℕ) where
   abbrev pub submitBy : Spot → NbStep
   submitBy (spot.Shut x) = refusedNb s x
   submitBy (spot.Place k) = tokenNb s k
 
-  pub submitted-by : (period k : ℕ) (g : Spot) → k ≡ lowestIn (s .pending) 16 → g ≡ spotBy 16 k n len period spot.Shut spot.Place → submitBy g ≡ submitOf s n len period
+  pub submitted-by : (period k : ℕ) (g : Spot) → k ≡ lowestIn (s .pending) places → g ≡ spotBy places k n len period spot.Shut spot.Place → submitBy g ≡ submitOf places s n len period
   submitted-by period k g z e =
-      ap submitBy (e ∙ ap (λ (j : ℕ). spotBy 16 j n len period spot.Shut spot.Place) z)
-      ∙ spot-ap submitBy 16 (lowestIn (s .pending) 16) n len period spot.Shut spot.Place
+      ap submitBy (e ∙ ap (λ (j : ℕ). spotBy places j n len period spot.Shut spot.Place) z)
+      ∙ spot-ap submitBy places (lowestIn (s .pending) places) n len period spot.Shut spot.Place
 
-  module _ (r : Ring) (stream : ℕ) where
-    abbrev pub nbBy : Gate → NbStep
-    nbBy (Shut x) = refusedNb s x
-    nbBy SetUp = setUpNb s stream
-    nbBy (Open period) = submitOf s n len period
+module _ (s : Sound) (n len : ℕ) (r : Ring) (stream : ℕ) where
+  abbrev pub nbBy : Gate → NbStep
+  nbBy (Shut x) = refusedNb s x
+  nbBy SetUp = setUpNb s stream
+  nbBy (Open period) = submitOf (placesOf (r .track .descriptors)) s n len period
 
-    pub nb-by : (m : ℕ) (g : Gate) → g ≡ xferBy (leb messageSize m) true s (r .track) stream Shut SetUp Open → nbBy g ≡ nbOf s r stream n len m
-    unfolding nbOf
-    nb-by m g e = ap nbBy e ∙ xfer-ap nbBy (leb messageSize m) true s (r .track) stream Shut SetUp Open
+  pub nb-by : (m : ℕ) (g : Gate) → g ≡ xferBy (leb messageSize m) true s (r .track) stream Shut SetUp Open → nbBy g ≡ nbOf s r stream n len m
+  unfolding nbOf
+  nb-by m g e = ap nbBy e ∙ xfer-ap nbBy (leb messageSize m) true s (r .track) stream Shut SetUp Open
 
 -- what the checks say is what they come to
 pub nb-says : (s : Sound) (r : Ring) (stream n len m : ℕ) → saysNb (nbOf s r stream n len m .reply) ≡ nbSays s r stream n len m
 unfolding nbOf
 nb-says s r stream n len m =
     let said : NbStep → answers.Says = λ x. saysNb (x .reply) in
-    xfer-ap said (leb messageSize m) true s (r .track) stream (refusedNb s) (setUpNb s stream) (submitOf s n len)
+    let places = placesOf (r .track .descriptors) in
+    xfer-ap said (leb messageSize m) true s (r .track) stream (refusedNb s) (setUpNb s stream) (submitOf places s n len)
     ∙ ap (λ (go : ℕ → answers.Says). xferBy (leb messageSize m) true s (r .track) stream saysRefusal (answers.says (256 + 16) []) go)
-    (λ i period. spot-ap said 16 (lowestIn (s .pending) 16) n len period (refusedNb s) (tokenNb s) i)
+    (λ i period. spot-ap said places (lowestIn (s .pending) places) n len period (refusedNb s) (tokenNb s) i)
 
 -- a step, what it says, and the store and the message that go with its reply
-pub nb-replied : (s : Sound) (stream : ℕ) (payload a m : List ℕ) {b n : List ℕ} {r x y : NbStep} {said : answers.Says} → r ≡ x → x ≡ y → saysNb (y .reply) ≡ said
-    → b ≡ nbStore (x .reply) stream payload a → n ≡ nbMessage (x .reply) s stream m → Submits y said s stream payload a b m n r
-nb-replied s stream payload a m p e w q h =
+pub nb-replied : (places : ℕ) (s : Sound) (stream : ℕ) (payload a m : List ℕ) {b n : List ℕ} {r x y : NbStep} {said : answers.Says} → r ≡ x → x ≡ y → saysNb (y .reply) ≡ said
+    → b ≡ nbStore places (x .reply) stream payload a → n ≡ nbMessage (x .reply) s stream m → Submits places y said s stream payload a b m n r
+nb-replied places s stream payload a m p e w q h =
     record {
       step = p ∙ e;
       says = ap (λ (x : NbStep). saysNb (x .reply)) (p ∙ e) ∙ w;
-      store = q ∙ ap (λ (x : NbStep). nbStore (x .reply) stream payload a) e;
+      store = q ∙ ap (λ (x : NbStep). nbStore places (x .reply) stream payload a) e;
       message = h ∙ ap (λ (x : NbStep). nbMessage (x .reply) s stream m) e;
     }
 
-pub submit-replied : (stream : ℕ) (payload store : List ℕ) {b : List ℕ} {r x y : NbStep} → r ≡ x → x ≡ y → b ≡ nbStore (x .reply) stream payload store
-    → (r ≡ y) × (b ≡ nbStore (y .reply) stream payload store)
-submit-replied stream payload store p e q = (p ∙ e, q ∙ ap (λ (x : NbStep). nbStore (x .reply) stream payload store) e)
+pub submit-replied : (places stream : ℕ) (payload store : List ℕ) {b : List ℕ} {r x y : NbStep} → r ≡ x → x ≡ y → b ≡ nbStore places (x .reply) stream payload store
+    → (r ≡ y) × (b ≡ nbStore places (y .reply) stream payload store)
+submit-replied places stream payload store p e q = (p ∙ e, q ∙ ap (λ (x : NbStep). nbStore places (x .reply) stream payload store) e)
+
+-- the same with the number of places told by a call
+pub submit-placed : {k places : ℕ} (s : Sound) (n len period stream : ℕ) (payload store : List ℕ) {b : List ℕ} {r : NbStep} → k ≡ places
+    → (r ≡ submitOf k s n len period) × (b ≡ nbStore k (submitOf k s n len period .reply) stream payload store)
+    → (r ≡ submitOf places s n len period) × (b ≡ nbStore places (submitOf places s n len period .reply) stream payload store)
+submit-placed s n len period stream payload store e u =
+    (u .0 ∙ ap (λ (k : ℕ). submitOf k s n len period) e, u .1 ∙ ap (λ (k : ℕ). nbStore k (submitOf k s n len period .reply) stream payload store) e)
 
 -- a submission that got as far as its place writes no message
-pub submit-silent : (s : Sound) (n len period stream : ℕ) (l : List ℕ) → l ≡ nbMessage (submitOf s n len period .reply) s stream l
-submit-silent s n len period stream l =
+pub submit-silent : (places : ℕ) (s : Sound) (n len period stream : ℕ) (l : List ℕ) → l ≡ nbMessage (submitOf places s n len period .reply) s stream l
+submit-silent places s n len period stream l =
     let P : NbStep → Type 0 = λ u. l ≡ nbMessage (u .reply) s stream l in
     guarded-by P _ _ _ (λ _. guarded-by P _ _ _ (λ _. guarded-by P _ _ _ (λ _. refl) (λ _. refl)) (λ _. refl)) (λ _. refl)
 

@@ -33,7 +33,7 @@ use Rattle.exchange.specs.Xfer.{xferAs, waitingAs, refusedStep, setUpSte
 use Rattle.exchange.specs.XferLaws.{xfer-by, set-up-kept}
 use Rattle.exchange.specs.Kept.{Kept}
 use Rattle.exchange.specs.Unrun as unrun
-use Rattle.exchange.specs.Submit.{withPending, refusedNb, setUpNb, tokenNb, submitOf, nbOf, nbStore, nbMessage, saysNb, markBy, markStep, finishStep, endBy, barredEnd}
+use Rattle.exchange.specs.Submit.{withPending, placesOf, refusedNb, setUpNb, tokenNb, submitOf, nbOf, nbStore, nbMessage, saysNb, markBy, markStep, finishStep, endBy, barredEnd}
 use Rattle.exchange.specs.declared.nonblocking.NbReply.the-variants.{Send, Token, Refused}
 use Rattle.exchange.specs.Types.{Refusal, InvalidParam, BadLength, Busy, Track, Ring, Reading, Pending, Core, Capture, Idle, Sound, Effect, Nothing, FillJacks, FillStreams, FillMaps, Store, Move, NbReply, NbStep, NbEnd}
 
@@ -43,23 +43,23 @@ use Rattle.exchange.specs.Types.{Refusal, InvalidParam, BadLength, Busy,
 pub record Given (s : Sound) (r : Ring) (stream n len : ℕ) : Type 0 where
   pub idle : idleOf (r .track) ≡ true
   pub whole : n ≡ paramsOf s stream .period
-  pub room : n + 4 ≤ sizeOf len 16
-  pub free : lowestIn (s .pending) 16 < 16
+  pub room : n + 4 ≤ sizeOf len (placesOf (r .track .descriptors))
+  pub free : lowestIn (s .pending) (placesOf (r .track .descriptors)) < placesOf (r .track .descriptors)
 
 -- what holds at each end holds of what it comes to
 pub nb-ends : (P : NbStep → Type 0) (s : Sound) (r : Ring) (stream n len m : ℕ) → ((x : Refusal) → P (refusedNb s x))
     → (consistentOf (s .core) ≡ true → s .core .stage ≡ Idle → s .core .ready ≡ false → P (setUpNb s stream))
-    → (Given s r stream n len → P (tokenNb s (lowestIn (s .pending) 16))) → P (nbOf s r stream n len m)
+    → (Given s r stream n len → P (tokenNb s (lowestIn (s .pending) (placesOf (r .track .descriptors))))) → P (nbOf s r stream n len m)
 unfolding nbOf
 nb-ends P s r stream n len m a b g =
-    xfer-by P (leb messageSize m) true s (r .track) stream (refusedNb s) (setUpNb s stream) (submitOf s n len) a b
+    xfer-by P (leb messageSize m) true s (r .track) stream (refusedNb s) (setUpNb s stream) (submitOf (placesOf (r .track .descriptors)) s n len) a b
     (λ _ i. guarded-by P _ _ _
     (λ w. guarded-by P _ _ _
     (λ l. guarded-by P _ _ _
     (λ f.
     let e : n ≡ paramsOf s stream .period = eqb-true _ _ w in
-    let h : paramsOf s stream .period + 4 ≤ sizeOf len 16 = leb-true _ _ l in
-    g (record { idle = i; whole = e; room = subst (λ (k : ℕ). k + 4 ≤ sizeOf len 16) (sym e) h; free = ltb-true _ _ f }))
+    let h : paramsOf s stream .period + 4 ≤ sizeOf len (placesOf (r .track .descriptors)) = leb-true _ _ l in
+    g (record { idle = i; whole = e; room = subst (λ (k : ℕ). k + 4 ≤ sizeOf len (placesOf (r .track .descriptors))) (sym e) h; free = ltb-true _ _ f }))
     (λ _. a _)) (λ _. a _)) (λ _. a _))
 
 -- the same of the state alone; of a completion, and of finishing
@@ -102,45 +102,45 @@ token-is e = cc
 
 -- "no other byte of the store changes": a refused submission leaves the state, its table with it, the store and the message
 pub nb-refused : (s : Sound) (r : Ring) (stream n len m : ℕ) (payload store message : List ℕ) (x : Refusal) → nbOf s r stream n len m .reply ≡ Refused x
-    → (nbOf s r stream n len m .sound ≡ s) × (nbStore (nbOf s r stream n len m .reply) stream payload store ≡ store) × (nbMessage (nbOf s r stream n len m .reply) s stream message ≡ message)
+    → (nbOf s r stream n len m .sound ≡ s) × (nbStore (placesOf (r .track .descriptors)) (nbOf s r stream n len m .reply) stream payload store ≡ store) × (nbMessage (nbOf s r stream n len m .reply) s stream message ≡ message)
 unfolding refused?
 nb-refused s r stream n len m payload store message x =
-    nb-ends (λ (u : NbStep). u .reply ≡ Refused x → (u .sound ≡ s) × (nbStore (u .reply) stream payload store ≡ store) × (nbMessage (u .reply) s stream message ≡ message)) s r stream n len m
+    nb-ends (λ (u : NbStep). u .reply ≡ Refused x → (u .sound ≡ s) × (nbStore (placesOf (r .track .descriptors)) (u .reply) stream payload store ≡ store) × (nbMessage (u .reply) s stream message ≡ message)) s r stream n len m
     (λ _ _. (refl, refl, refl)) (λ _ _ _ e. absurd (false≢true (ap refused? e))) (λ _ e. absurd (false≢true (ap refused? e)))
 
 -- set-up that a submission begins takes no token and copies nothing; it waits as a transfer does, which never runs at a feed (Unrun)
 pub nb-set-up-never-submits : (s : Sound) (r : Ring) (stream n len m k : ℕ) (payload store : List ℕ) → nbOf s r stream n len m .reply ≡ Send k
-    → (nbOf s r stream n len m .sound .pending ≡ s .pending) × (nbStore (nbOf s r stream n len m .reply) stream payload store ≡ store) × unrun.Pending false (nbOf s r stream n len m .sound .core .stage) stream
+    → (nbOf s r stream n len m .sound .pending ≡ s .pending) × (nbStore (placesOf (r .track .descriptors)) (nbOf s r stream n len m .reply) stream payload store ≡ store) × unrun.Pending false (nbOf s r stream n len m .sound .core .stage) stream
 unfolding sent?
 nb-set-up-never-submits s r stream n len m k payload store =
-    nb-ends (λ (u : NbStep). u .reply ≡ Send k → (u .sound .pending ≡ s .pending) × (nbStore (u .reply) stream payload store ≡ store) × unrun.Pending false (u .sound .core .stage) stream) s r stream n len m
+    nb-ends (λ (u : NbStep). u .reply ≡ Send k → (u .sound .pending ≡ s .pending) × (nbStore (placesOf (r .track .descriptors)) (u .reply) stream payload store ≡ store) × unrun.Pending false (u .sound .core .stage) stream) s r stream n len m
     (λ _ e. absurd (false≢true (ap sent? e))) (λ _ _ _ _. (refl, refl, record { asks = refl; call = refl })) (λ _ e. absurd (false≢true (ap sent? e)))
 
--- "A submission is stream id and one whole period in one buffer .. It is copied into the lowest free of 16 equal places of a lent store, whose number is its token"
-pub record Writes (s : Sound) (stream k period : ℕ) (payload a b : List ℕ) : Type 0 where
-  pub token : k ≡ lowestIn (s .pending) 16
-  pub place : k < 16
+-- "A submission is stream id and one whole period in one buffer .. It is copied into the lowest free of 16 equal places of a lent store, whose number is its token"; of 32 where descriptors are indirect
+pub record Writes (places : ℕ) (s : Sound) (stream k period : ℕ) (payload a b : List ℕ) : Type 0 where
+  pub token : k ≡ lowestIn (s .pending) places
+  pub place : k < places
   pub whole : length payload ≡ period
-  pub fits : 4 + length payload ≤ sizeOf (length a) 16
-  pub written : b ≡ sets a (placeOf (length a) 16 k) (messageOf stream payload)
+  pub fits : 4 + length payload ≤ sizeOf (length a) places
+  pub written : b ≡ sets a (placeOf (length a) places k) (messageOf stream payload)
 
 pub submit-writes : (s : Sound) (r : Ring) (stream m k : ℕ) (payload store : List ℕ) → nbOf s r stream (length payload) (length store) m .reply ≡ Token k
-    → Writes s stream k (paramsOf s stream .period) payload store (nbStore (nbOf s r stream (length payload) (length store) m .reply) stream payload store)
+    → Writes (placesOf (r .track .descriptors)) s stream k (paramsOf s stream .period) payload store (nbStore (placesOf (r .track .descriptors)) (nbOf s r stream (length payload) (length store) m .reply) stream payload store)
 unfolding given? placedIn
 submit-writes s r stream m k payload store =
-    nb-ends (λ (u : NbStep). u .reply ≡ Token k → Writes s stream k (paramsOf s stream .period) payload store (nbStore (u .reply) stream payload store)) s r stream (length payload) (length store) m
+    nb-ends (λ (u : NbStep). u .reply ≡ Token k → Writes (placesOf (r .track .descriptors)) s stream k (paramsOf s stream .period) payload store (nbStore (placesOf (r .track .descriptors)) (u .reply) stream payload store)) s r stream (length payload) (length store) m
     (λ _ e. absurd (false≢true (ap given? e))) (λ _ _ _ e. absurd (false≢true (ap given? e)))
     (λ g e.
-    let z : k ≡ lowestIn (s .pending) 16 = sym (token-is e) in
+    let z : k ≡ lowestIn (s .pending) (placesOf (r .track .descriptors)) = sym (token-is e) in
     let h = g .room in
     record {
       token = z;
-      place = subst (λ (j : ℕ). j < 16) (sym z) (g .free);
+      place = subst (λ (j : ℕ). j < placesOf (r .track .descriptors)) (sym z) (g .free);
       whole = g .whole;
       fits = omega arith;
       written =
           sym (passes _ store _ (lt-ltb _ _ (g .free)) refl)
-          ∙ ap (λ (j : ℕ). sets store (placeOf (length store) 16 j) (messageOf stream payload)) (sym z);
+          ∙ ap (λ (j : ℕ). sets store (placeOf (length store) (placesOf (r .track .descriptors)) j) (messageOf stream payload)) (sym z);
     })
 
 -- ---- what is Busy
@@ -202,7 +202,7 @@ pub nb-busy-owed : (s : Sound) (r : Ring) (stream n len m : ℕ) → (consistent
     → idleOf (r .track) ≡ false → refusedNb s Busy ≡ nbOf s r stream n len m
 unfolding nbOf
 nb-busy-owed s r stream n len m sound long taken =
-    busy-by s (r .track) stream sound false (leb messageSize m) true (refusedNb s) (setUpNb s stream) (submitOf s n len) (le-leb messageSize m long)
+    busy-by s (r .track) stream sound false (leb messageSize m) true (refusedNb s) (setUpNb s stream) (submitOf (placesOf (r .track .descriptors)) s n len) (le-leb messageSize m long)
     (second (isIdle (s .core .stage)) (idleOf (r .track)) true taken)
 
 -- ---- they keep the invariant
@@ -223,7 +223,7 @@ with-kept s p k e =
 
 pub nb-kept : (s : Sound) (r : Ring) (stream n len m : ℕ) → Kept s → Kept (nbOf s r stream n len m .sound)
 nb-kept s r stream n len m k =
-    nb-ends (λ (u : NbStep). Kept (u .sound)) s r stream n len m (λ _. k) (set-up-kept s stream k) (λ _. with-kept s _ k (put-sized (s .pending) (lowestIn (s .pending) 16) _ ∙ k .pending))
+    nb-ends (λ (u : NbStep). Kept (u .sound)) s r stream n len m (λ _. k) (set-up-kept s stream k) (λ _. with-kept s _ k (put-sized (s .pending) (lowestIn (s .pending) (placesOf (r .track .descriptors))) _ ∙ k .pending))
 
 mark-by-kept : (s : Sound) (reading : Reading) → Kept s → Kept (markBy s reading .sound)
 mark-by-kept s Quiet k = k

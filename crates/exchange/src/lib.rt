@@ -36,6 +36,7 @@ pub use nonblocking::pcm_xfer_nb;
 pub use nonblocking::pcm_xfer_ok;
 pub use nonblocking::pending_count;
 pub use nonblocking::pending_token;
+pub use nonblocking::places_of;
 pub use state::Configured;
 pub use state::Sound;
 pub use xfer::XferReply;

@@ -5,7 +5,7 @@ ghost use lib.ListN.{length};
 ghost use Rattle.layout.specs.Lent.{messageSize};
 ghost use Rattle.pending.specs.Table.{countIn};
 ghost use Rattle.exchange.specs.State.{saysConfigured, configuredOf};
-ghost use Rattle.exchange.specs.Submit.{nbOf, nbSays, Submits, nbStore, nbMessage, submitOf, refusedNb, tokenNb, setUpNb, endBy, markStep, finishStep, barredEnd, tokenSeen};
+ghost use Rattle.exchange.specs.Submit.{placesOf, nbOf, nbSays, Submits, nbStore, nbMessage, submitOf, refusedNb, tokenNb, setUpNb, endBy, markStep, finishStep, barredEnd, tokenSeen};
 use crate::state::Configured;
 use crate::state::Sound;
 use crate::state::count_told;
@@ -16,6 +16,7 @@ use core::Call;
 use core::Gate;
 use core::MESSAGE;
 use core::consistent;
+use pending::INDIRECT_PLACES;
 use pending::Judged;
 use pending::Outcome;
 use pending::PLACES;
@@ -30,6 +31,7 @@ use pending::lowest;
 use pending::mark;
 use pending::placed;
 use records::Query;
+use turns::INDIRECT;
 use turns::Reading;
 use turns::Ring;
 
@@ -72,17 +74,35 @@ fn token_nb(s: Sound, k: usize) -> NbStep
     }
 }
 
-// The stream's number and the payload go into the lowest free place, or nothing does.
-fn submit(s: Sound, stream: u32, period: u32, payload: &[u8], store: &mut [u8]) -> NbStep
-    ensures { λ r. ⌜ (r ≡ submitOf s (length (now (payload .entry))) (length (now (store .entry))) period) × (now (store .exit) ≡ nbStore (submitOf s (length (now (payload .entry))) (length (now (store .entry))) period .reply) stream (now (payload .entry)) (now (store .entry))) ⌝ }
+// The places of a lent store, by the descriptors to a submission.
+pub fn places_of(descriptors: usize) -> usize
+    ensures { λ r. ⌜ r ≡ placesOf descriptors ⌝ }
+{
+    if descriptors == INDIRECT {
+        INDIRECT_PLACES
+    } else {
+        PLACES
+    }
+}
+
+// The stream's number and the payload go into the lowest free of so many places, or nothing does.
+fn submit(
+    places: usize,
+    s: Sound,
+    stream: u32,
+    period: u32,
+    payload: &[u8],
+    store: &mut [u8],
+) -> NbStep
+    ensures { λ r. ⌜ (r ≡ submitOf places s (length (now (payload .entry))) (length (now (store .entry))) period) × (now (store .exit) ≡ nbStore places (submitOf places s (length (now (payload .entry))) (length (now (store .entry))) period .reply) stream (now (payload .entry)) (now (store .entry))) ⌝ }
 {
     let old = s.pending;
-    let free = lowest(old, PLACES);
-    let outcome = find_spot(PLACES, free, payload.len(), store.len(), period);
+    let free = lowest(old, places);
+    let outcome = find_spot(places, free, payload.len(), store.len(), period);
     match outcome {
         Spot::Shut(refusal) => refused_nb(s, refusal),
         Spot::Place(k) => {
-            placed(store, PLACES, k, stream, payload);
+            placed(store, places, k, stream, payload);
             token_nb(s, k)
         }
     }
@@ -110,13 +130,16 @@ pub fn pcm_xfer_nb(
     store: &mut [u8],
     message: &mut [u8],
 ) -> NbStep
-    ensures { λ r. ⌜ Submits (nbOf s ring stream (length (now (payload .entry))) (length (now (store .entry))) (length (now (message .entry)))) (nbSays s ring stream (length (now (payload .entry))) (length (now (store .entry))) (length (now (message .entry)))) s stream (now (payload .entry)) (now (store .entry)) (now (store .exit)) (now (message .entry)) (now (message .exit)) r ⌝ }
+    ensures { λ r. ⌜ Submits (placesOf (ring .track .descriptors)) (nbOf s ring stream (length (now (payload .entry))) (length (now (store .entry))) (length (now (message .entry)))) (nbSays s ring stream (length (now (payload .entry))) (length (now (store .entry))) (length (now (message .entry)))) s stream (now (payload .entry)) (now (store .entry)) (now (store .exit)) (now (message .entry)) (now (message .exit)) r ⌝ }
 {
     let outcome = checked(false, MESSAGE <= message.len(), true, s, ring.track, stream);
     match outcome {
         Gate::Shut(refusal) => refused_nb(s, refusal),
         Gate::SetUp => set_up_nb(s, ring, stream, message),
-        Gate::Open(period) => submit(s, stream, period, payload, store),
+        Gate::Open(period) => {
+            let places = places_of(ring.track.descriptors);
+            submit(places, s, stream, period, payload, store)
+        }
     }
 }
 

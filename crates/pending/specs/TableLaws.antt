@@ -20,6 +20,14 @@ few-by places false e = let h : 32 ≤ places = ltb-false _ _ e in (omega arith,
 pub few : (places : ℕ) → (boundOf places ≤ 32) × (boundOf places ≤ places)
 few places = few-by places (ltb places 32) refl
 
+bound-by : (places : ℕ) (b : Bool) → ltb places 32 ≡ b → places ≤ 32 → pick b places 32 ≡ places
+bound-by places true e h = refl
+bound-by places false e h = let l : 32 ≤ places = ltb-false _ _ e in omega arith
+
+-- where the table has a token for each
+pub bound-is : (places : ℕ) → places ≤ 32 → boundOf places ≡ places
+bound-is places h = bound-by places (ltb places 32) refl h
+
 pub put-same : (p : Pending) (k : ℕ) (t : Token) → k < length (p .tokens) → tokenAt (put p k t) k ≡ t
 put-same p k t l = getD-set-same (p .tokens) k t freeToken l
 

@@ -12,6 +12,7 @@ pub use calls::finish_token;
 pub use calls::hold;
 pub use calls::mark;
 pub use calls::mark_token;
+pub use place::INDIRECT_PLACES;
 pub use place::PLACES;
 pub use place::Spot;
 pub use place::find_spot;

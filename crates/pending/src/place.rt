@@ -10,6 +10,9 @@ use layout::put_u32;
 // As many submissions as 32 descriptors hold, two to each.
 pub const PLACES: usize = 16;
 
+// And where they are indirect, one to each.
+pub const INDIRECT_PLACES: usize = 32;
+
 // The place of a submission, or why it gets none.
 pub enum Spot {
     Shut(Refusal),

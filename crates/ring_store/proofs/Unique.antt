@@ -11,6 +11,7 @@ use Rattle.ring_store.specs.Calls.{Caught, caught}
 use Rattle.ring_store.proofs.size.Reads as size
 use Rattle.ring_store.proofs.store.track.Reads as track
 use Rattle.ring_store.proofs.calls.new.Reads as new
+use Rattle.ring_store.proofs.calls.new_indirect.Reads as new-indirect
 use Rattle.ring_store.proofs.calls.turn.Reads as turn
 use Rattle.ring_store.proofs.calls.drain_turn.Reads as drain-turn
 use Rattle.ring_store.proofs.calls.start.Reads as start
@@ -49,6 +50,9 @@ track-one κs a r₁ r₂ e₁ e₂ p q = same p q
 
 pub new-one : (κs : _) (a : _) (r₁ r₂ : _) (e₁ e₂ : _) → new.Post κs a r₁ e₁ → new.Post κs a r₂ e₂ → (r₁ ≡ r₂) × (now (e₁ .0) ≡ now (e₂ .0))
 new-one κs a r₁ r₂ e₁ e₂ p q = changes p q
+
+pub new-indirect-one : (κs : _) (a : _) (r₁ r₂ : _) (e₁ e₂ : _) → new-indirect.Post κs a r₁ e₁ → new-indirect.Post κs a r₂ e₂ → (r₁ ≡ r₂) × (now (e₁ .0) ≡ now (e₂ .0))
+new-indirect-one κs a r₁ r₂ e₁ e₂ p q = changes p q
 
 pub turn-one : (κs : _) (a : _) (r₁ r₂ : _) (e₁ e₂ : _) → turn.Post κs a r₁ e₁ → turn.Post κs a r₂ e₂ → (r₁ ≡ r₂) × (now (e₁ .0) ≡ now (e₂ .0))
 turn-one κs a r₁ r₂ e₁ e₂ p q = changes p q

@@ -12,7 +12,7 @@ use Rattle.layout.specs.Rows.{rowsBytes}
 use Rattle.layout.specs.Lent.{Made, made, Shown, shown, resultSize}
 use Rattle.codes.specs.Says.{Says, says, pick, guard}
 use Rattle.codes.specs.Answers.{refusalWord}
-use Rattle.turns.specs.Ring.{direct, newRing, saidWord, isRefused}
+use Rattle.turns.specs.Ring.{newRing, saidWord, isRefused}
 use Rattle.turns.specs.Reads.{readOf}
 use Rattle.turns.specs.Calls.{startCall, startTraced, startedOf, turnedOf, offerCall, saysSent}
 use Rattle.turns.specs.Capture.{catchOf, captureCall, recordingAfter, captureStart, captureOffer}
@@ -34,10 +34,11 @@ changed s t =
     guard (leb ringSize (length s)) (made 10 s)
     (leftBy s t)
 
-abbrev pub newIn : List ℕ → Made
-newIn s =
+-- a new ring, with some descriptors to a submission
+abbrev pub newIn : ℕ → List ℕ → Made
+newIn descriptors s =
     guard (leb ringSize (length s)) (made 10 s)
-    (made 0 (sets s 0 (ringBytes (newRing direct))))
+    (made 0 (sets s 0 (ringBytes (newRing descriptors))))
 
 unfoldable pub turnIn : List ℕ → ℕ → ℕ → ℕ → ℕ → Made
 turnIn s len kind slot status = changed s (turnWords (ringOf s) len kind slot status)

@@ -12,18 +12,18 @@ use Rattle.layout.specs.Bytes.{Bytes}
 use Rattle.layout.specs.Lent.{Made, made}
 use Rattle.codes.specs.Says.{pick, guard}
 use Rattle.codes.specs.SaysLaws.{picks, skips, passes, stops}
-use Rattle.turns.specs.Ring.{direct, newTrack, saidWord, isRefused}
+use Rattle.turns.specs.Ring.{newRing, saidWord, isRefused}
 use Rattle.turns.specs.Calls.{refusedOf, tracedCall, turnCall, turnedOf}
 use Rattle.turns.specs.CallLaws.{no-transfer}
 use Rattle.turns.specs.Capture.{catchOf, captureCall, recordingAfter}
 use Rattle.turns.specs.Script.{readingOf}
 use Rattle.trace.specs.Writer.{writingCall, roomAfter}
-use Rattle.ring_store.specs.Types.{Track, Step, Reading}
+use Rattle.ring_store.specs.Types.{Track, Ring, Step, Reading}
 use Rattle.codes.specs.declared.answers.Refusal.the-variants.{InvalidParam}
 use Rattle.ring_store.specs.Store.{ringSize, trackAt, ringOf}
 use Rattle.ring_store.specs.Calls.{leftBy, changed, newIn, caught, caughtBy, caughtIn, captureIn, turnTracedIn}
 use Rattle.ring_store.specs.StoreLaws.{sent-over, new-over}
-use Rattle.ring_store.specs.Private.{trackOver, sentOver, blankOver, stepOver}
+use Rattle.ring_store.specs.Private.{trackOver, sentOver, blankOver, blankIn, stepOver}
 
 -- what a step leaves, by place: nothing where it was refused, else the track and what was sent
 module _ (s : List ℕ) (x : Step) (n : ℕ) (e : n ≡ saidWord (x .said)) where
@@ -56,8 +56,11 @@ pub turn-idle : (t : Track) (len : ℕ) (reading : Reading) → t .running ≡ f
 unfolding tracedCall
 turn-idle t len reading e = passes _ _ _ (ap (λ (b : Bool). not b || eqb 0 (t .room)) e) (no-transfer false t len _ _ _ e)
 
-pub made-new : (s : List ℕ) (t : Track) (l : List ℕ) → Bytes s → ringSize ≤ length s → t ≡ newTrack direct → l ≡ blankOver (trackOver s t) → made 0 l ≡ newIn s
-made-new s t l b h e p = ap (made 0) (p ∙ ap (λ (u : Track). blankOver (trackOver s u)) e ∙ new-over s b) ∙ long s _ h
+pub made-blank : (s : List ℕ) (t : Track) (l : List ℕ) → Bytes s → ringSize ≤ length s → l ≡ blankOver (trackOver s t) → made 0 l ≡ blankIn s t
+made-blank s t l b h p = ap (made 0) (p ∙ new-over s t b) ∙ long s _ h
+
+pub made-new : (s : List ℕ) (descriptors : ℕ) {r : Ring} {l : Made} → l ≡ blankIn s (r .track) → r ≡ newRing descriptors → l ≡ newIn descriptors s
+made-new s descriptors p e = p ∙ ap (λ (x : Ring). blankIn s (x .track)) e
 
 -- ---- and of a turn that is lent something besides: x is the step that the call took, y what it had to be; l and n are what it left
 

@@ -17,11 +17,12 @@ use Rattle.layout.specs.AllLaws.{set-ok, rows-ok}
 use Rattle.layout.specs.LayoutLaws.{read-fits}
 use Rattle.codes.specs.Says.{pick}
 use Rattle.codes.specs.SaysLaws.{passes, guarded-by}
-use Rattle.turns.specs.Ring.{blankSlot, direct, newRing, isRefused}
+use Rattle.turns.specs.Ring.{blankSlot, newRing, isRefused}
 use Rattle.turns.specs.Rules.{chooseOf, submit, sentOf, release, comesTo, playedOf, act, turnOf, countedOf}
 use Rattle.turns.specs.CaseLaws.{Plain, hear-cases, counted-cases}
 use Rattle.turns.specs.Consistent.{consistentOf}
-use Rattle.turns.specs.ConsistentLaws.{Consistent, consistent-facts, few}
+use Rattle.turns.specs.Private.{Mode}
+use Rattle.turns.specs.ConsistentLaws.{Consistent, consistent-facts, few-slots, mode-small}
 use Rattle.turns.specs.KeepLaws.{fixed, side, turn-plain, turn-keeps, turn-after}
 use Rattle.turns.specs.RefusalLaws.{Untouched, turn-refused, drain-refused, start-refused, traced-start-refused, ring-untouched}
 use Rattle.turns.specs.Calls.{tracedCall, drained, drainCall, begunIn, startCall, startTraced, carry, ringAfter, turnedOf, startedOf}
@@ -101,7 +102,7 @@ same-fits t n f c e l k =
     let lent : n .lent ≡ t .lent = ap (λ (x : Bool × ℕ × ℕ × ℕ × ℕ). x .1) l in
     let room : n .room ≡ t .room = ap (λ (x : Bool × ℕ × ℕ × ℕ × ℕ). x .3) l in
     let written : n .written ≡ t .written = ap (λ (x : Bool × ℕ × ℕ × ℕ × ℕ). x .4) l in
-    let inflight : n .inflight ≤ 10 = few n (c .placed) in
+    let inflight : n .inflight ≤ 32 = few-slots n (c .placed) in
     let head : n .head < 32 = c .placed .head-in in
     let tail : n .tail < 32 = c .placed .tail-in in
     let within : n .next ≤ n .total = c .paced .within in
@@ -266,15 +267,15 @@ capture-start-holds s stream periods period len budget b h m p n q =
     ∙ holds s (captureStartStep s stream periods period len budget) b h (capture-start-step-fits (trackAt s) (track-fits s b) stream periods period len budget m p n q)
     (capture-start-refused (trackAt s) stream periods period len budget)
 
-pub new-holds : (s : List ℕ) → ringSize ≤ length s → ringOf (newIn s .store) ≡ newRing direct
-new-holds s h =
-    guarded-by (λ (l : Made). ringOf (l .store) ≡ newRing direct) (leb ringSize (length s)) _ _
-    (λ _. store-back s (newRing direct) (record { track = new-track .0; side = new-track .1; slots = blank-fits 32; long = refl }) h)
+pub new-holds : (descriptors : ℕ) → Mode descriptors → (s : List ℕ) → ringSize ≤ length s → ringOf (newIn descriptors s .store) ≡ newRing descriptors
+new-holds descriptors mode s h =
+    guarded-by (λ (l : Made). ringOf (l .store) ≡ newRing descriptors) (leb ringSize (length s)) _ _
+    (λ _. store-back s (newRing descriptors) (record { track = new-track .0; side = new-track .1; slots = blank-fits 32; long = refl }) h)
     (λ e. absurd (omega (arith, leb-false ringSize (length s) e)))
   where
-    new-track : TrackFits (newRing direct .track)
+    new-track : TrackFits (newRing descriptors .track)
     new-track = (
-      (omega arith, (omega arith, (omega arith, (omega arith, (omega arith, (omega arith, (omega arith, (omega arith, (omega arith, (omega arith, (omega arith, (omega arith, (omega arith, tt))))))))))))),
+      (omega (arith, mode-small descriptors mode .1), (omega arith, (omega arith, (omega arith, (omega arith, (omega arith, (omega arith, (omega arith, (omega arith, (omega arith, (omega arith, (omega arith, (omega arith, tt))))))))))))),
       (omega arith, (omega arith, (omega arith, (omega arith, tt)))),
     )
 

@@ -4,7 +4,7 @@ use mathlib.Core.Path.{_≡_, refl, sym, ap, _∙_, subst}
 use mathlib.Core.Bool.{Bool, true, false}
 use mathlib.Core.Logic.{_⊎_, inl, inr}
 use mathlib.Core.List.{List}
-use Prim.Native.Nat.{ℕ, _+_, _*_, _≤_}
+use Prim.Native.Nat.{ℕ, _+_, _*_, _≤_, _<_}
 use native.Mathlib.Omega.{arith}
 use lib.Dec.{leb, eqb}
 use borrow.Author.Tests.{leb-true, leb-false}
@@ -18,12 +18,12 @@ use Rattle.codes.specs.Answers.{refusalWord}
 use Rattle.codes.specs.declared.answers.Cause.the-variants.{Status}
 use Rattle.codes.specs.declared.answers.Refusal.{Refusal}
 use Rattle.codes.specs.declared.answers.Refusal.the-variants.{IoError, BadCapture}
-use Rattle.turns.specs.Ring.{direct, newRing, going, saidWord, isRefused}
+use Rattle.turns.specs.Ring.{newRing, going, saidWord, isRefused}
 use Rattle.turns.specs.Rules.{chooseOf, comesTo, playedOf, judgeOf, settle, hear, act, turnOf, submit, sentOf, countedBy, countedOf}
 use Rattle.turns.specs.RuleLaws.{Judged, judged}
 use Rattle.turns.specs.CaseLaws.{lastOf}
 use Rattle.turns.specs.Consistent.{consistentOf}
-use Rattle.turns.specs.ConsistentLaws.{consistent-facts}
+use Rattle.turns.specs.ConsistentLaws.{consistent-facts, mode-small}
 use Rattle.turns.specs.Calls.{tracedCall, turnCall, drained, drainCall, startCall, startTraced, carry, turnedOf}
 use Rattle.turns.specs.Capture.{catchOf, lengthGood, capturedOf, caughtOf, recordingAfter, captureCall, captureStart}
 use Rattle.turns.specs.CaptureLaws.{copy-nothing}
@@ -139,18 +139,18 @@ traced-start-fits s stream len period budget room p = rw (traced-start-leaves s 
 pub capture-start-fits : (s : List ℕ) (stream periods period len budget : ℕ) → wholeAt s ≡ true → wholeAt (captureStartIn s stream periods period len budget .store) ≡ true
 capture-start-fits s stream periods period len budget p = rw (capture-start-leaves s stream periods period len budget) (left-fits s (captureStartStep s stream periods period len budget) p)
 
-pub new-fits : (s : List ℕ) → ringSize ≤ length s → wholeAt (newIn s .store) ≡ true
-new-fits s h = guarded-by Whole (leb ringSize (length s)) _ _ (λ _. whole-written s (newRing direct) refl h) (λ e. absurd (omega (arith, leb-false ringSize (length s) e)))
+pub new-fits : (descriptors : ℕ) (s : List ℕ) → ringSize ≤ length s → wholeAt (newIn descriptors s .store) ≡ true
+new-fits descriptors s h = guarded-by Whole (leb ringSize (length s)) _ _ (λ _. whole-written s (newRing descriptors) refl h) (λ e. absurd (omega (arith, leb-false ringSize (length s) e)))
 
 -- ---- a store that is not whole holds no consistent ring, so a step that is not refused found a whole store
 
-whole-by : (n : ℕ) (b : Bool) → pick b n 0 ≡ direct → b ≡ true
+whole-by : (n : ℕ) (b : Bool) → 0 < pick b n 0 → b ≡ true
 whole-by n true e = refl
 whole-by n false e = absurd (omega arith)
 
 pub whole-consistent : (s : List ℕ) → consistentOf (trackAt s) ≡ true → wholeAt s ≡ true
 unfolding trackAt
-whole-consistent s e = whole-by (numAt 0 8 s) (wholeAt s) (consistent-facts (trackAt s) e .placed .mode)
+whole-consistent s e = whole-by (numAt 0 8 s) (wholeAt s) (mode-small (trackAt s .descriptors) (consistent-facts (trackAt s) e .placed .mode) .0)
 
 -- ---- AN ANSWER 10 OR 1 LEAVES THE STORE AS IT WAS: these are refusals alone. So does any answer of a start but that it goes on
 

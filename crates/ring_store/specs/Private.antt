@@ -2,15 +2,15 @@
 -- Assumes nothing.
 use mathlib.Core.List.{List}
 use Prim.Native.Nat.{ℕ, _+_, _*_}
-use lib.Dec.{ltb}
-use lib.ListN.{replicate}
+use lib.Dec.{ltb, leb}
+use lib.ListN.{length, replicate}
 use lib.Seq.{sets}
 use Rattle.layout.specs.Rows.{rowsBytes}
 use Rattle.layout.specs.Lent.{Made, made}
-use Rattle.codes.specs.Says.{pick}
+use Rattle.codes.specs.Says.{pick, guard}
 use Rattle.turns.specs.Ring.{blankSlot, saidWord, isRefused}
 use Rattle.ring_store.specs.Types.{Slot, Track, Sent, Nothing, Period, Step}
-use Rattle.ring_store.specs.Store.{trackSize, slotSize, sidePlace, slotBytes, trackBytes, sideBytes}
+use Rattle.ring_store.specs.Store.{trackSize, slotSize, sidePlace, ringSize, slotBytes, trackBytes, sideBytes, ringBytes}
 
 -- a track at its two places
 abbrev pub trackOver : List ℕ → Track → List ℕ
@@ -26,6 +26,12 @@ sentOver s (Period slot offset len) = slotOver s slot (record { offset = offset;
 
 abbrev pub blankOver : List ℕ → List ℕ
 blankOver s = sets s trackSize (rowsBytes slotBytes (replicate 32 blankSlot))
+
+-- a ring of that track whose slots are all blank
+abbrev pub blankIn : List ℕ → Track → Made
+blankIn s t =
+    guard (leb ringSize (length s)) (made 10 s)
+    (made 0 (sets s 0 (ringBytes (record { track = t; slots = replicate 32 blankSlot }))))
 
 -- what a step leaves of a store, and its answer
 abbrev pub stepOver : List ℕ → Step → Made

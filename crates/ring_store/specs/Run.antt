@@ -17,7 +17,7 @@ use Rattle.layout.specs.WrittenLaws.{bytes-append, bytes-write, bytes-rows, Aga
 use Rattle.codes.specs.Says.{pick, guard}
 use Rattle.codes.specs.SaysLaws.{passes, stops, guarded-by}
 use Rattle.codes.specs.AnswersLaws.{numbered}
-use Rattle.turns.specs.Ring.{direct, newRing, going, saidWord, goesOn, isRefused}
+use Rattle.turns.specs.Ring.{newRing, going, saidWord, goesOn, isRefused}
 use Rattle.turns.specs.CaseLaws.{onward-cases}
 use Rattle.turns.specs.Calls.{startTraced, turnedOf}
 use Rattle.turns.specs.Capture.{catchOf, captureCall}
@@ -108,8 +108,8 @@ leaves-again s x b =
     (λ _. unless-again (isRefused (x .said)) s _ (b, refl) (over-again s (ringBytes (turnedOf (ringOf s) x .ring)) b (bytes-ring (turnedOf (ringOf s) x .ring))))
     (λ _. (b, refl))
 
-pub new-again : (s : List ℕ) → Bytes s → Again s (newIn s .store)
-new-again s b = guarded-by (λ (l : Made). Again s (l .store)) (leb ringSize (length s)) _ _ (λ _. over-again s (ringBytes (newRing direct)) b (bytes-ring (newRing direct))) (λ _. (b, refl))
+pub new-again : (descriptors : ℕ) (s : List ℕ) → Bytes s → Again s (newIn descriptors s .store)
+new-again descriptors s b = guarded-by (λ (l : Made). Again s (l .store)) (leb ringSize (length s)) _ _ (λ _. over-again s (ringBytes (newRing descriptors)) b (bytes-ring (newRing descriptors))) (λ _. (b, refl))
 
 pub turn-again : (s : List ℕ) (len kind slot status : ℕ) → Bytes s → Again s (turnIn s len kind slot status .store)
 turn-again s len kind slot status b = rw (turn-leaves s len kind slot status) (leaves-again s (turnStep s len kind slot status) b)

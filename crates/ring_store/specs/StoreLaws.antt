@@ -17,7 +17,7 @@ use Rattle.layout.specs.StoreLaws.{over, sets-but, sets-then}
 use Rattle.layout.specs.ChainLaws.{Got, Stored, got, stored}
 use Rattle.layout.specs.RowsLaws.{length-rows, length-rowsBytes, rows-at, rowsBytes-more, rows-split, rows-with, rows-same}
 use Rattle.codes.specs.SaysLaws.{picks, skips}
-use Rattle.turns.specs.Ring.{blankSlot, direct, newTrack, newRing}
+use Rattle.turns.specs.Ring.{blankSlot}
 use Rattle.turns.specs.Calls.{carry}
 use Rattle.ring_store.specs.Types.{Slot, Track, Ring, Sent, Nothing, Period}
 use Rattle.ring_store.specs.Store.{trackSize, slotSize, slotsSize, sidePlace, trackRow, trackValues, sideRow, trackOf, trackAt, slotRow, slotBytes, slotAt, ringOf, ringBytes, trackBytes, sideBytes}
@@ -136,10 +136,9 @@ pub blank-all : (s s₁ : List ℕ) (i : ℕ) → i ≡ 32 → s₁ ≡ sets s t
 blank-all s s₁ i z e = e ∙ ap (λ (n : ℕ). sets s trackSize (rowsBytes slotBytes (take n blanks))) z
 
 -- a new ring: its track, and then every slot blank
-pub new-over : (s : List ℕ) → Bytes s → blankOver (trackOver s (newTrack direct)) ≡ sets s 0 (ringBytes (newRing direct))
+pub new-over : (s : List ℕ) (t : Track) → Bytes s → blankOver (trackOver s t) ≡ sets s 0 (ringBytes (record { track = t; slots = blanks }))
 unfolding ringBytes le
-new-over s b =
-    let t = newTrack direct in
+new-over s t b =
     ap blankOver (track-over s t b)
     ∙ over s (trackBytes t) (rowsBytes slotBytes (ringOf s .slots)) (rowsBytes slotBytes blanks) (sideBytes t) trackSize (length-write trackRow (trackValues t))
     (length-slots (ringOf s .slots) (slots-long s) ∙ sym (length-slots blanks refl))

@@ -9,9 +9,8 @@ use lib.ListN.{length, take, drop}
 use Rattle.layout.specs.Bytes.{Bytes}
 use Rattle.layout.specs.Lent.{Made}
 use Rattle.codes.specs.AnswersLaws.{numbered}
-use Rattle.turns.specs.Ring.{direct, going, saidWord}
+use Rattle.turns.specs.Ring.{going, saidWord}
 use Rattle.turns.specs.Calls.{startTraced, ringAfter}
-use Rattle.turns.specs.HostLaws.{begins-traced}
 use Rattle.turns.specs.Log.{Ran}
 use Rattle.trace.specs.Field.{traceBytes}
 use Rattle.trace.specs.Trace.{traceOf}
@@ -77,11 +76,10 @@ module _ (s room frames : List ℕ) (stream period budget : ℕ) (script : List 
         let k = trace-written (ringOf s) stream period budget frames room readings goes low in
         (k .0, ap (λ (a : Penned). a .room) (held .0) ∙ k .1, ap (λ (a : Penned). a .ring .track .written) (held .0) ∙ k .2)
 
-    -- "so any our writer emits"
-    pub trace-accepted : AllReal readings → judges direct direct (take (trackAt (ends .ring) .written) (ends .lent)) ≡ Accepted
+    -- "so any our writer emits": the judge in the ring's own mode
+    pub trace-accepted : AllReal readings → let mode = ringOf s .track .descriptors in judges mode mode (take (trackAt (ends .ring) .written) (ends .lent)) ≡ Accepted
     unfolding ringOf
     trace-accepted real =
-        let mode : ringOf s .track .descriptors ≡ direct = begins-traced (ringOf s .track) stream (length frames) period budget (length room) goes .runs .consistent .placed .mode in
-        ap (λ (a : Penned). judges direct direct (take (a .ring .track .written) (a .room))) (held .0)
-        ∙ ap (λ (d : ℕ). judges d d (take (ran .at .ring .track .written) (ran .at .room))) (sym mode)
+        let mode = ringOf s .track .descriptors in
+        ap (λ (a : Penned). judges mode mode (take (a .ring .track .written) (a .room))) (held .0)
         ∙ written-accepted (ringOf s) stream period budget frames room readings goes low (omega (arith, m)) real

@@ -4,10 +4,10 @@ ghost use mathlib.Core.Path.{_≡_};
 ghost use Prim.Native.Nat.{_≤_};
 ghost use lib.ListN.{length};
 ghost use Rattle.layout.specs.Lent.{made};
-ghost use Rattle.turns.specs.Ring.{saidWord, isRefused};
+ghost use Rattle.turns.specs.Ring.{direct, indirect, saidWord, isRefused};
 ghost use Rattle.ring_store.specs.Store.{ringSize};
 ghost use Rattle.ring_store.specs.Calls.{newIn, turnIn, drainIn, startIn, caught, captureIn, captureStartIn, turnTracedIn, startTracedIn};
-ghost use Rattle.ring_store.specs.Private.{stepOver};
+ghost use Rattle.ring_store.specs.Private.{stepOver, blankIn};
 use crate::store;
 use crate::store::SIZE;
 use turns::Catch;
@@ -15,6 +15,7 @@ use turns::Reading;
 use turns::Ring;
 use turns::Said;
 use turns::Step;
+use turns::Track;
 
 // What a call says of a store that is too short.
 pub(crate) const BAD_LENGTH: u64 = 10;
@@ -64,17 +65,32 @@ fn leave(ring: &mut [u8], step: Step) -> u64
     answer
 }
 
-// A ring that no transfer ran on.
-pub fn new(ring: &mut [u8]) -> u64
-    ensures { λ r. ⌜ made r (now (ring .exit)) ≡ newIn (now (ring .entry)) ⌝ }
+// A track, and every slot blank.
+fn make(ring: &mut [u8], t: Track) -> u64
+    ensures { λ r. ⌜ made r (now (ring .exit)) ≡ blankIn (now (ring .entry)) t ⌝ }
 {
     if ring.len() < SIZE {
         return BAD_LENGTH;
     }
-    let fresh = Ring::new();
-    store::put_track(ring, fresh.track);
+    store::put_track(ring, t);
     store::put_blanks(ring);
     0
+}
+
+// A ring that no transfer ran on, of direct descriptors.
+pub fn new(ring: &mut [u8]) -> u64
+    ensures { λ r. ⌜ made r (now (ring .exit)) ≡ newIn direct (now (ring .entry)) ⌝ }
+{
+    let fresh = Ring::new();
+    make(ring, fresh.track)
+}
+
+// The same of indirect ones.
+pub fn new_indirect(ring: &mut [u8]) -> u64
+    ensures { λ r. ⌜ made r (now (ring .exit)) ≡ newIn indirect (now (ring .entry)) ⌝ }
+{
+    let other = Ring::new_indirect();
+    make(ring, other.track)
 }
 
 // A turn of a transfer, with the length of the frames, and a reading in numbers.

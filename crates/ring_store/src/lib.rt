@@ -11,6 +11,7 @@ pub use calls::capture_start;
 pub use calls::capture_turn;
 pub use calls::drain_turn;
 pub use calls::new;
+pub use calls::new_indirect;
 pub use calls::start;
 pub use calls::start_traced;
 pub use calls::turn;

@@ -70,7 +70,7 @@ tokenOver s k t = pick (ltb k 32) (sets s (tokensPlace + k * 8) (tokenBytes t)) 
 abbrev pub shownOf : List ℕ → answers.Says → Shown
 shownOf r x = shown (x .number) (sets r 0 (rowsBytes (le 8) (x .values)))
 
--- a submission that found its place, or none: it says nothing in the message
+-- a submission that found one of so many places, or none: it says nothing in the message
 pub record Held : Type 0 where
   pub answer : ℕ
   pub state : List ℕ
@@ -80,6 +80,6 @@ pub record Held : Type 0 where
 abbrev pub held : ℕ → List ℕ → List ℕ → List ℕ → Held
 held a s places r = record { answer = a; state = s; places = places; result = r }
 
-abbrev pub heldBy : List ℕ → ℕ → List ℕ → List ℕ → List ℕ → Spot → Held
-heldBy s stream payload places r (spot.Shut x) = held (refusalWord x) s places r
-heldBy s stream payload places r (spot.Place k) = held 0 (tokenOver s k waits) (placedIn places 16 k stream payload) (sets r 0 (le 8 k))
+abbrev pub heldBy : ℕ → List ℕ → ℕ → List ℕ → List ℕ → List ℕ → Spot → Held
+heldBy many s stream payload places r (spot.Shut x) = held (refusalWord x) s places r
+heldBy many s stream payload places r (spot.Place k) = held 0 (tokenOver s k waits) (placedIn places many k stream payload) (sets r 0 (le 8 k))

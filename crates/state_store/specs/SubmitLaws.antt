@@ -25,7 +25,7 @@ use Rattle.core.specs.declared.gate.Gate.the-variants as gate
 use Rattle.exchange.specs.State.{paramsOf, lifeOf}
 use Rattle.exchange.specs.Xfer.{xferBy}
 use Rattle.exchange.specs.StepLaws.{xfer-ap, set-up-long}
-use Rattle.exchange.specs.Submit.{refusedNb, setUpNb, submitOf}
+use Rattle.exchange.specs.Submit.{placesOf, refusedNb, setUpNb, submitOf}
 use Rattle.exchange.specs.SubmitLaws.{submitBy, submitted-by}
 use Rattle.state_store.specs.Types.{Refusal, Track, Xfer, Params, Core, Sound, Pending, Gate, Shut, SetUp, Spot, Opening, NbStep}
 use Rattle.state_store.specs.Places.{stateSize}
@@ -46,9 +46,9 @@ open-passed true false rest x y period e = let z : _≡_ {A = ℕ} 0 1 = cc in a
 open-passed false b rest x y period e = let z : _≡_ {A = ℕ} 0 1 = cc in absurd (omega arith)
 
 -- what finding a place comes to, by what was found
-pub spot-is : (s : List ℕ) (n len period : ℕ) {p : Pending} {k : ℕ} {g h : Spot} → p ≡ soundOf s .pending → k ≡ lowestIn p 16 → g ≡ spotBy 16 k n len period spot.Shut spot.Place → g ≡ h
-    → h ≡ spotBy 16 (lowestIn (soundOf s .pending) 16) n len period spot.Shut spot.Place
-spot-is s n len period p k g h = sym h ∙ g ∙ ap (λ (j : ℕ). spotBy 16 j n len period spot.Shut spot.Place) (k ∙ ap (λ (q : Pending). lowestIn q 16) p)
+pub spot-is : (many : ℕ) (s : List ℕ) (n len period : ℕ) {p : Pending} {k : ℕ} {g h : Spot} → p ≡ soundOf s .pending → k ≡ lowestIn p many → g ≡ spotBy many k n len period spot.Shut spot.Place → g ≡ h
+    → h ≡ spotBy many (lowestIn (soundOf s .pending) many) n len period spot.Shut spot.Place
+spot-is many s n len period p k g h = sym h ∙ g ∙ ap (λ (j : ℕ). spotBy many j n len period spot.Shut spot.Place) (k ∙ ap (λ (q : Pending). lowestIn q many) p)
 
 module _ (s : List ℕ) (t : Track) (stream : ℕ) (payload places m r : List ℕ) where
   abbrev n : ℕ
@@ -56,6 +56,9 @@ module _ (s : List ℕ) (t : Track) (stream : ℕ) (payload places m r : List �
 
   abbrev len : ℕ
   len = length places
+
+  abbrev many : ℕ
+  many = placesOf (t .descriptors)
 
   abbrev long : Bool
   long = leb messageSize (length m)
@@ -76,12 +79,12 @@ module _ (s : List ℕ) (t : Track) (stream : ℕ) (payload places m r : List �
   abbrev nbBy : Gate → NbStep
   nbBy (Shut x) = refusedNb (soundOf s) x
   nbBy SetUp = setUpNb (soundOf s) stream
-  nbBy (gate.Open period) = submitOf (soundOf s) n len period
+  nbBy (gate.Open period) = submitOf many (soundOf s) n len period
 
   module _ (l : lengths s r ≡ true) where
-    nb-is : (g : Gate) → g ≡ nbGate → nbLeft s stream payload places m r (nbBy g) ≡ nbIn s t stream payload places m r
+    nb-is : (g : Gate) → g ≡ nbGate → nbLeft many s stream payload places m r (nbBy g) ≡ nbIn s t stream payload places m r
     unfolding nbIn
-    nb-is g e = passes _ _ _ l (ap (nbLeft s stream payload places m r) (ap nbBy e ∙ xfer-ap nbBy long true (soundOf s) t stream Shut SetUp gate.Open))
+    nb-is g e = passes _ _ _ l (ap (nbLeft many s stream payload places m r) (ap nbBy e ∙ xfer-ap nbBy long true (soundOf s) t stream Shut SetUp gate.Open))
 
     pub nb-set-up : {w : Bool} {c : Core} {q : Opening} {l₁ m₁ : List ℕ} → w ≡ whole s → c ≡ coreOf (headAt s) → SetUp ≡ nbGate → opened q l₁ m₁ ≡ settingUpBy w c s (Xfer stream) m
         → submitted 272 l₁ places m₁ r ≡ nbIn s t stream payload places m r
@@ -94,19 +97,19 @@ module _ (s : List ℕ) (t : Track) (stream : ℕ) (payload places m r : List �
       abbrev withMessage : Held → Submitted
       withMessage h = submitted (h .answer) (h .state) (h .places) m (h .result)
 
-      spot-end : consistentOf (soundOf s .core) ≡ true → (g : Spot) → withMessage (heldBy s stream payload places r g) ≡ nbLeft s stream payload places m r (submitBy (soundOf s) n len g)
+      spot-end : consistentOf (soundOf s .core) ≡ true → (g : Spot) → withMessage (heldBy many s stream payload places r g) ≡ nbLeft many s stream payload places m r (submitBy many (soundOf s) n len g)
       spot-end h (spot.Shut x) = ap (λ (k : List ℕ). submitted (refusalWord x) k places m r) (sym (unchanged s b))
-      spot-end h (spot.Place k) = ap (λ (z : List ℕ). submitted 0 z (placedIn places 16 k stream payload) m (sets r 0 (le 8 k))) (token-after s b h k waits)
+      spot-end h (spot.Place k) = ap (λ (z : List ℕ). submitted 0 z (placedIn places many k stream payload) m (sets r 0 (le 8 k))) (token-after s b h k waits)
 
       nb-passed : (period : ℕ) → gate.Open period ≡ nbGate → consistentOf (soundOf s .core) ≡ true
       nb-passed period e =
           both (consistentOf (soundOf s .core)) (ring.consistentOf t && streamOk (soundOf s .core) (paramsOf (soundOf s) stream) stream) (open-passed _ _ _ _ _ period e) .0
 
-      pub nb-open : (period : ℕ) {h : Held} → gate.Open period ≡ nbGate → h ≡ heldBy s stream payload places r (spotBy 16 (lowestIn (soundOf s .pending) 16) n len period spot.Shut spot.Place)
-          → withMessage h ≡ nbIn s t stream payload places m r
-      nb-open period e p =
-          let g = spotBy 16 (lowestIn (soundOf s .pending) 16) n len period spot.Shut spot.Place in
-          ap withMessage p
+      pub nb-open : (period : ℕ) {h : Held} {k : ℕ} → gate.Open period ≡ nbGate → k ≡ many
+          → h ≡ heldBy k s stream payload places r (spotBy k (lowestIn (soundOf s .pending) k) n len period spot.Shut spot.Place) → withMessage h ≡ nbIn s t stream payload places m r
+      nb-open period e z p =
+          let g = spotBy many (lowestIn (soundOf s .pending) many) n len period spot.Shut spot.Place in
+          ap withMessage (p ∙ ap (λ (k : ℕ). heldBy k s stream payload places r (spotBy k (lowestIn (soundOf s .pending) k) n len period spot.Shut spot.Place)) z)
           ∙ spot-end (nb-passed period e) g
-          ∙ ap (nbLeft s stream payload places m r) (submitted-by (soundOf s) n len period (lowestIn (soundOf s .pending) 16) g refl refl)
+          ∙ ap (nbLeft many s stream payload places m r) (submitted-by many (soundOf s) n len period (lowestIn (soundOf s .pending) many) g refl refl)
           ∙ nb-is (gate.Open period) e

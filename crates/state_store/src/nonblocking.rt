@@ -22,7 +22,7 @@ use core::Call;
 use core::Gate;
 use core::MESSAGE;
 use core::xfer_gate;
-use pending::PLACES;
+use exchange::places_of;
 use pending::Spot;
 use pending::Token;
 use pending::find_spot;
@@ -30,8 +30,9 @@ use pending::lowest;
 use pending::placed;
 use turns::Track;
 
-// The stream's number and the payload go into a place, whose token then waits.
+// The stream's number and the payload go into one of so many places, whose token then waits.
 fn hold(
+    many: usize,
     state: &mut [u8],
     k: usize,
     stream: u32,
@@ -39,20 +40,21 @@ fn hold(
     places: &mut [u8],
     result: &mut [u8],
 ) -> u64
-    ensures { λ r. ⌜ held r (now (state .exit)) (now (places .exit)) (now (result .exit)) ≡ heldBy (now (state .entry)) stream (now (payload .entry)) (now (places .entry)) (now (result .entry)) (Place k) ⌝ }
+    ensures { λ r. ⌜ held r (now (state .exit)) (now (places .exit)) (now (result .exit)) ≡ heldBy many (now (state .entry)) stream (now (payload .entry)) (now (places .entry)) (now (result .entry)) (Place k) ⌝ }
 {
     let waiting = Token {
         state: 1,
         status: 0,
     };
-    placed(&mut *places, PLACES, k, stream, payload);
+    placed(&mut *places, many, k, stream, payload);
     put_token(&mut *state, k, waiting);
     layout::put_u64(&mut *result, 0, k as u64);
     0
 }
 
-// The lowest free place, or none.
+// The lowest free of so many places, or none.
 fn submit(
+    many: usize,
     state: &mut [u8],
     stream: u32,
     period: u32,
@@ -60,17 +62,17 @@ fn submit(
     places: &mut [u8],
     result: &mut [u8],
 ) -> u64
-    ensures { λ r. ⌜ held r (now (state .exit)) (now (places .exit)) (now (result .exit)) ≡ heldBy (now (state .entry)) stream (now (payload .entry)) (now (places .entry)) (now (result .entry)) (spotBy 16 (lowestIn (soundOf (now (state .entry)) .pending) 16) (length (now (payload .entry))) (length (now (places .entry))) period Shut Place) ⌝ }
+    ensures { λ r. ⌜ held r (now (state .exit)) (now (places .exit)) (now (result .exit)) ≡ heldBy many (now (state .entry)) stream (now (payload .entry)) (now (places .entry)) (now (result .entry)) (spotBy many (lowestIn (soundOf (now (state .entry)) .pending) many) (length (now (payload .entry))) (length (now (places .entry))) period Shut Place) ⌝ }
 {
-    let free = lowest(pending_in(&state[..]), PLACES);
-    let spot = find_spot(PLACES, free, payload.len(), places.len(), period);
+    let free = lowest(pending_in(&state[..]), many);
+    let spot = find_spot(many, free, payload.len(), places.len(), period);
     match spot {
         Spot::Shut(refusal) => refusal.word(),
-        Spot::Place(k) => hold(state, k, stream, payload, places, result),
+        Spot::Place(k) => hold(many, state, k, stream, payload, places, result),
     }
 }
 
-// One whole period, submitted without waiting, with the ring's track to tell Busy.
+// One whole period, submitted without waiting, with the ring's track to tell Busy and the places.
 pub fn pcm_xfer_nb(
     state: &mut [u8],
     t: Track,
@@ -108,6 +110,9 @@ pub fn pcm_xfer_nb(
             set_up(state, whole, c, Call::Xfer { stream }, message);
             272
         }
-        Gate::Open(period) => submit(state, stream, period, payload, places, result),
+        Gate::Open(period) => {
+            let many = places_of(t.descriptors);
+            submit(many, state, stream, period, payload, places, result)
+        }
     }
 }

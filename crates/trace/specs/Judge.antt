@@ -8,7 +8,8 @@ use lib.ListN.{length}
 use Rattle.layout.specs.Layout.{size}
 use Rattle.codes.specs.Says.{guard, Says, says}
 use Rattle.turns.specs.Rules.{chooseOf, nextSpan, submit, judgeOf, playedOf, release}
-use Rattle.turns.specs.Ring.{newTrack, direct}
+use Rattle.turns.specs.Ring.{newTrack}
+use Rattle.turns.specs.Consistent.{modeOk}
 use Rattle.turns.specs.Calls as calls
 use Rattle.trace.specs.Field.{bytesOf, sizeOf}
 use Rattle.trace.specs.Fields.{scanFrom, fieldsFrom}
@@ -134,9 +135,9 @@ judgedBy (NotARun at) per least fs = NotARun at
 unfoldable pub judges : ℕ → ℕ → List ℕ → Judgement
 judges per least s = judgedBy (scanFrom (length s) 0 s) per least (fieldsFrom (length s) 0 s)
 
--- 1 for a mode that is none
+-- 1 for a mode that is none: 3 is direct, and 1 indirect (2026-14: the judge takes "the mode from the caller")
 abbrev pub judgedOf : ℕ → List ℕ → Judged
-judgedOf mode s = guard (eqb mode direct) judged.InvalidParam (judged.Is (judges mode mode s))
+judgedOf mode s = guard (modeOk mode) judged.InvalidParam (judged.Is (judges mode mode s))
 
 -- ---- the number and the values of each
 

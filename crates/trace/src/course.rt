@@ -21,8 +21,8 @@ use crate::fields;
 use crate::rules;
 use codes::StatusCode;
 use turns::Choice;
-use turns::DIRECT;
 use turns::Track;
+use turns::mode_ok;
 
 fn may_send(stage: Stage, choice: Choice) -> bool
     ensures { λ r. ⌜ r ≡ maySend stage choice ⌝ }
@@ -364,11 +364,12 @@ fn judged(per: usize, s: &[u8]) -> Judgement
     }
 }
 
-// The judge of a trace. The mode is the descriptors of a submission.
+// The judge of a trace. The mode is the descriptors to a submission.
 pub fn judge(mode: usize, s: &[u8]) -> Judged
     ensures { λ r. ⌜ r ≡ judgedOf mode (now (s .entry)) ⌝ }
 {
-    if mode != DIRECT {
+    let known = mode_ok(mode);
+    if !known {
         return Judged::InvalidParam;
     }
     Judged::Is(judged(mode, s))

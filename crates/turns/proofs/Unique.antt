@@ -26,6 +26,7 @@ use Rattle.turns.specs.declared.ring.Carried.the-variants as carried
 use Rattle.turns.specs.declared.ring.Oldest.the-variants as oldest
 use Rattle.turns.proofs.calls.is_idle.Reads as is-idle
 use Rattle.turns.proofs.consistent.is_consistent.Reads as is-consistent
+use Rattle.turns.proofs.consistent.mode_ok.Reads as mode-ok
 use Rattle.turns.proofs.calls.turn.Reads as turn
 use Rattle.turns.proofs.calls.drain_turn.Reads as drain-turn
 use Rattle.turns.proofs.calls.start.Reads as start
@@ -40,6 +41,7 @@ use Rattle.turns.proofs.calls.offer_track.Reads as offer-track
 use Rattle.turns.proofs.script.transfer.Reads as transfer
 use Rattle.turns.proofs.reading.Reading.from_words.Reads as from-words
 use Rattle.turns.proofs.ring.Ring.new.Reads as new
+use Rattle.turns.proofs.ring.Ring.new_indirect.Reads as new-indirect
 use Rattle.turns.proofs.calls.offered.Reads as offered
 use Rattle.turns.proofs.in_place.turn_in_place as turn-in-place
 use Rattle.turns.proofs.in_place.drain_in_place as drain-in-place
@@ -107,6 +109,9 @@ from-words-one κs a r₁ r₂ e₁ e₂ p q = same p q
 
 pub new-one : (κs : _) (a : _) (r₁ r₂ : _) (e₁ e₂ : _) → new.Post κs a r₁ e₁ → new.Post κs a r₂ e₂ → r₁ ≡ r₂
 new-one κs a r₁ r₂ e₁ e₂ p q = same p q
+
+pub new-indirect-one : (κs : _) (a : _) (r₁ r₂ : _) (e₁ e₂ : _) → new-indirect.Post κs a r₁ e₁ → new-indirect.Post κs a r₂ e₂ → r₁ ≡ r₂
+new-indirect-one κs a r₁ r₂ e₁ e₂ p q = same p q
 
 -- of the part that `offered` returns the contents are told. That it is a part of the lent frames, and no copy, its lifetime says
 pub offered-one : (κs : _) (a : _) (r₁ r₂ : _) (e₁ e₂ : _) → offered.Post κs a r₁ e₁ → offered.Post κs a r₂ e₂ → now r₁ ≡ now r₂
@@ -223,3 +228,6 @@ is-idle-one κs a r₁ r₂ e₁ e₂ p q = same p q
 
 pub is-consistent-one : (κs : _) (a : _) (r₁ r₂ : _) (e₁ e₂ : _) → is-consistent.Post κs a r₁ e₁ → is-consistent.Post κs a r₂ e₂ → r₁ ≡ r₂
 is-consistent-one κs a r₁ r₂ e₁ e₂ p q = same p q
+
+pub mode-ok-one : (κs : _) (a : _) (r₁ r₂ : _) (e₁ e₂ : _) → mode-ok.Post κs a r₁ e₁ → mode-ok.Post κs a r₂ e₂ → r₁ ≡ r₂
+mode-ok-one κs a r₁ r₂ e₁ e₂ p q = same p q

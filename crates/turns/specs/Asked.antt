@@ -103,6 +103,9 @@ abbrev pub Carried : ℕ → List ℕ → Ran Ring → Type 0
 Carried period frames h = (i : ℕ) → length (frees (h .log)) ≤ i → i < length (sends (h .log))
     → getD (h .at .slots) (i % 32) blankSlot ≡ record { offset = i * period; len = spanOf period (length frames) (i * period) }
 
--- no more than ten in flight when a turn looks at its reading
+-- no more than so many in flight when a turn looks at its reading
+abbrev pub AtMost : ℕ → Line → Type 0
+AtMost n line = line .waiting ≤ n
+
 abbrev pub AtMostTen : Line → Type 0
-AtMostTen line = line .waiting ≤ 10
+AtMostTen = AtMost 10

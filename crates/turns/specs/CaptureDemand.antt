@@ -22,7 +22,7 @@ use Rattle.turns.specs.Ring.{after, saysSaid}
 use Rattle.turns.specs.Calls.{refusedOf, tracedCall, turnCall, runsAs, begunAs, ringAfter, turnedOf, startedOf}
 use Rattle.turns.specs.Log.{Line, Ran, run, sends, frees}
 use Rattle.turns.specs.Asked.{NoFault, CompletesWithin, Idle}
-use Rattle.turns.specs.ConsistentLaws.{both, Consistent, consistent-facts}
+use Rattle.turns.specs.ConsistentLaws.{both, Consistent, consistent-facts, mode-small}
 use Rattle.turns.specs.CaseLaws.{plain}
 use Rattle.turns.specs.StaysConsistentLaws.{begun-keeps}
 use Rattle.turns.specs.HostLaws.{RunsAs, run-ends, never}
@@ -184,7 +184,7 @@ capture-in-time r stream periods period budget g recording script idle some pos 
     let begin = begunAs true (length recording) (r .track) stream (periods * period) period budget in
     let least = r .track .descriptors in
     let same = as-run r stream periods period budget recording script began lends ∙ run-alike least budget begin script good in
-    let bound = run-in-time judges-status status-just (λ e. omega arith) true (length recording) least stream period (periods * period) budget (r .track) script some g (omega (arith, o .runs .consistent .placed .mode)) pos (rw n enough) in
+    let bound = run-in-time judges-status status-just (λ e. omega arith) true (length recording) least stream period (periods * period) budget (r .track) script some g (omega (arith, mode-small least (o .runs .consistent .placed .mode) .1)) pos (rw n enough) in
     (began, subst (λ (x : Ran Track). InTime periods g x) (sym same) (subst (λ (k : ℕ). InTime k g (run judges-status least budget begin script)) n bound))
 
 -- ---- a refusal changes neither the ring nor the recording

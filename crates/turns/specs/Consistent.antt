@@ -3,12 +3,12 @@
 use mathlib.Core.Bool.{Bool, _&&_, _||_, not}
 use Prim.Native.Nat.{ℕ, _+_, _*_, _%_}
 use lib.Dec.{ltb, leb, eqb}
-use Rattle.turns.specs.Ring.{direct}
+use Rattle.turns.specs.Ring.{direct, indirect}
 use Rattle.turns.specs.Types.{Track}
 
 -- the descriptors that a submission may take
 abbrev pub modeOk : ℕ → Bool
-modeOk descriptors = eqb descriptors direct
+modeOk descriptors = eqb descriptors direct || eqb descriptors indirect
 
 -- head and tail are slots; what is in flight takes at most 32 descriptors, and stands from tail up to head
 unfoldable pub placedOf : Track → Bool

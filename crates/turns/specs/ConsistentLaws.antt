@@ -1,15 +1,17 @@
 -- What the consistency test says of a track, as facts, and back.
 -- Assumes nothing.
-use Prim.Native.Nat.{_+_, _*_, _%_, _≤_, _<_}
+use Prim.Native.Nat.{ℕ, _+_, _*_, _%_, _≤_, _<_}
+use native.Mathlib.Nat.{le-div-iff-mul-le}
+use mathlib.Core.Logic.{inl, inr}
 use native.Mathlib.Omega.{arith}
 use mathlib.Core.Path.{_≡_, refl, sym, _∙_}
 use mathlib.Core.Bool.{Bool, true, false, _&&_, _||_, not, false≢true}
 use lib.Dec.{ltb, eqb}
 use borrow.Author.Tests.{lt-ltb, ltb-true, ltb-false, le-leb, leb-true, eq-eqb, ne-eqb, eqb-true}
-use Rattle.turns.specs.Ring.{direct}
-use Rattle.turns.specs.Consistent.{placedOf, pacedOf, keptOf, goodOf, consistentOf}
+use Rattle.turns.specs.Ring.{direct, indirect, mostOf}
+use Rattle.turns.specs.Consistent.{modeOk, placedOf, pacedOf, keptOf, goodOf, consistentOf}
 use Rattle.turns.specs.Types.{Track}
-use Rattle.turns.specs.Private.{Placed}
+use Rattle.turns.specs.Private.{Mode, Placed}
 
 pub record Paced (t : Track) : Type 0 where
   pub within : t .next ≤ t .total
@@ -29,6 +31,34 @@ pub refuted : (b : Bool) → (b ≡ true → ⊥) → false ≡ b
 refuted true h = absurd (h refl)
 refuted false h = refl
 
+mode-by : (d : ℕ) (a b : Bool) → eqb d direct ≡ a → eqb d indirect ≡ b → (a || b) ≡ true → Mode d
+mode-by d true b p q e = inl (eqb-true _ _ p)
+mode-by d false true p q e = inr (eqb-true _ _ q)
+mode-by d false false p q e = absurd (false≢true e)
+
+pub mode-facts : (d : ℕ) → modeOk d ≡ true → Mode d
+mode-facts d e = mode-by d _ _ refl refl e
+
+pub mode-true : (d : ℕ) → Mode d → modeOk d ≡ true
+mode-true d (inl e) = rw (eq-eqb _ _ e)
+mode-true d (inr e) = or-true (eqb d direct) (eqb d indirect) (eq-eqb _ _ e)
+  where
+    or-true : (a b : Bool) → b ≡ true → (a || b) ≡ true
+    or-true true b e = refl
+    or-true false b e = e
+
+-- as the code asks: the one, and then the other
+pub mode-direct : (d : ℕ) → d ≡ direct → true ≡ modeOk d
+mode-direct d e = rw (eq-eqb _ _ e)
+
+pub mode-last : (d : ℕ) (b : Bool) → (d ≡ direct → ⊥) → b ≡ eqb d indirect → b ≡ modeOk d
+mode-last d b n e = rw (ne-eqb _ _ n) e
+
+-- either number is above 0 and at most 3
+pub mode-small : (d : ℕ) → Mode d → (0 < d) × (d ≤ 3)
+mode-small d (inl e) = (omega arith, omega arith)
+mode-small d (inr e) = (omega arith, omega arith)
+
 pub placed-facts : (t : Track) → placedOf t ≡ true → Placed t
 unfolding placedOf
 placed-facts t e =
@@ -37,7 +67,7 @@ placed-facts t e =
     let e₃ = both _ _ (e₂ .1) in
     let e₄ = both _ _ (e₃ .1) in
     record {
-      mode = eqb-true _ _ (e₁ .0);
+      mode = mode-facts (t .descriptors) (e₁ .0);
       head-in = ltb-true _ _ (e₂ .0);
       tail-in = ltb-true _ _ (e₃ .0);
       room = leb-true _ _ (e₄ .0);
@@ -46,7 +76,7 @@ placed-facts t e =
 
 pub placed-true : (t : Track) → Placed t → true ≡ placedOf t
 unfolding placedOf
-placed-true t p = simp (eq-eqb _ _ (p .mode), lt-ltb _ _ (p .head-in), lt-ltb _ _ (p .tail-in), le-leb _ _ (p .room), eq-eqb _ _ (p .line))
+placed-true t p = simp (mode-true (t .descriptors) (p .mode), lt-ltb _ _ (p .head-in), lt-ltb _ _ (p .tail-in), le-leb _ _ (p .room), eq-eqb _ _ (p .line))
 
 pub paced-facts : (t : Track) → pacedOf t ≡ true → Paced t
 unfolding pacedOf
@@ -66,21 +96,28 @@ pub paced-true : (t : Track) → Paced t → true ≡ pacedOf t
 unfolding pacedOf
 paced-true t p = rw (le-leb _ _ (p .within)) (paced-by (t .running) _ _ (λ h. lt-ltb _ _ (p .some h)) (λ h. lt-ltb _ _ (p .left h)))
 
--- at 3 descriptors a submission, at most 10 are in flight
-pub few : (t : Track) → Placed t → t .inflight ≤ 10
-few t p = let room : t .inflight * direct ≤ 32 = rw (← (p .mode)) (p .room) in omega arith
+-- no more are in flight than descriptors are for
+pub few : (t : Track) → Placed t → t .inflight ≤ mostOf (t .descriptors)
+few t p = le-div-iff-mul-le (mode-small (t .descriptors) (p .mode) .0) .1 (p .room)
+
+pub few-slots : (t : Track) → Placed t → t .inflight ≤ 32
+few-slots t p = by (t .descriptors) (p .mode) (p .room)
+  where
+    by : (d : ℕ) → Mode d → t .inflight * d ≤ 32 → t .inflight ≤ 32
+    by d (inl e) h = let room : t .inflight * direct ≤ 32 = rw (← e) h in omega arith
+    by d (inr e) h = let room : t .inflight * indirect ≤ 32 = rw (← e) h in omega arith
 
 -- the last test of each is what the whole comes to once the others passed; that head is a slot follows from it
-placed-by : (t : Track) (b small : Bool) → ltb (t .head) 32 ≡ small → t .descriptors ≡ direct → t .tail < 32 → t .inflight ≤ 10 → b ≡ eqb ((t .tail + t .inflight) % 32) (t .head) → b ≡ placedOf t
+placed-by : (t : Track) (b small : Bool) → ltb (t .head) 32 ≡ small → Mode (t .descriptors) → t .tail < 32 → t .inflight ≤ mostOf (t .descriptors) → b ≡ eqb ((t .tail + t .inflight) % 32) (t .head) → b ≡ placedOf t
 unfolding placedOf
 placed-by t b true s p l m e =
-    let room : t .inflight * t .descriptors ≤ 32 = rw p (omega arith) in
-    simp (eq-eqb _ _ p, s, lt-ltb _ _ l, le-leb _ _ room) e
+    let room : t .inflight * t .descriptors ≤ 32 = le-div-iff-mul-le (mode-small (t .descriptors) p .0) .0 m in
+    simp (mode-true (t .descriptors) p, s, lt-ltb _ _ l, le-leb _ _ room) e
 placed-by t b false s p l m e =
     let h : 32 ≤ t .head = ltb-false (t .head) 32 s in
-    simp (eq-eqb _ _ p, s) (e ∙ ne-eqb ((t .tail + t .inflight) % 32) (t .head) (λ z. omega arith))
+    simp (mode-true (t .descriptors) p, s) (e ∙ ne-eqb ((t .tail + t .inflight) % 32) (t .head) (λ z. omega arith))
 
-pub placed-last : (t : Track) (b : Bool) → t .descriptors ≡ direct → t .tail < 32 → t .inflight ≤ 10 → b ≡ eqb ((t .tail + t .inflight) % 32) (t .head) → b ≡ placedOf t
+pub placed-last : (t : Track) (b : Bool) → Mode (t .descriptors) → t .tail < 32 → t .inflight ≤ mostOf (t .descriptors) → b ≡ eqb ((t .tail + t .inflight) % 32) (t .head) → b ≡ placedOf t
 placed-last t b p l m e = placed-by t b (ltb (t .head) 32) refl p l m e
 
 pub paced-idle : (t : Track) → t .next ≤ t .total → t .running ≡ false → true ≡ pacedOf t

@@ -3,7 +3,10 @@
 -- Assumes nothing.
 use Prim.Native.Nat.{ℕ, _+_, _*_, _%_, _≤_, _<_}
 use native.Mathlib.Omega.{arith}
-use mathlib.Core.Path.{_≡_, ap, sym, _∙_}
+use mathlib.Core.Path.{_≡_, ap, sym, _∙_, subst}
+use Rattle.turns.specs.Ring.{direct, indirect, mostOf}
+use Rattle.turns.specs.Rules.{chooseOf}
+use Rattle.turns.specs.DecisionLaws.{waits-full}
 use mathlib.Core.List.{List}
 use lib.ListN.{length}
 use Rattle.codes.specs.declared.answers.Refusal.{Refusal}
@@ -12,12 +15,12 @@ use Rattle.turns.specs.Cut.{cut}
 use Rattle.turns.specs.Calls.{refusedOf, tracedCall, turnCall, drainCall, startCall, turnedOf, startedOf, offerCall}
 use Rattle.turns.specs.Log.{turnByTurn, sends, frees}
 use Rattle.turns.specs.Script.{scriptOf, transferOf}
-use Rattle.turns.specs.Asked.{starts, plays, NoFault, CompletesWithin, Idle, Whole, Accounted, Carried, AtMostTen}
+use Rattle.turns.specs.Asked.{starts, plays, NoFault, CompletesWithin, Idle, Whole, Accounted, Carried, AtMost, AtMostTen}
 use Rattle.turns.specs.ConsistentLaws.{consistent-facts}
 use Rattle.turns.specs.HostLaws.{goes}
 use Rattle.turns.specs.RefusalLaws.{turn-refused, drain-refused, start-refused, ring-untouched, offered}
-use Rattle.turns.specs.DemandLaws.{loop-length, plays-in-time, plays-only-if, plays-accounted, plays-ends, plays-ten, plays-carried, script-plays, script-ok, script-within, script-answers}
-use Rattle.turns.specs.Types.{Track, Ring, Sent, Going, Done, Refused, Reading, Quiet, Transferred}
+use Rattle.turns.specs.DemandLaws.{loop-length, plays-in-time, plays-only-if, plays-accounted, plays-ends, plays-most, plays-carried, script-plays, script-ok, script-within, script-answers}
+use Rattle.turns.specs.Types.{Track, Ring, Sent, Going, Done, Refused, Reading, Quiet, Wait, Transferred}
 use Rattle.turns.specs.declared.calls.Offer.the-variants as offer
 
 -- "Take a state and ring that calls left, .. no exchange or transfer open, nothing in flight, and frames that make n periods. If no turn reports a
@@ -92,9 +95,19 @@ module _ (r : Ring) (stream period budget : ℕ) (frames : List ℕ) (script : L
       → let h = plays r stream period budget frames script in (length (sends (h .log)) ≡ length (frees (h .log)) + h .at .track .inflight) × Carried period frames h
   owed-exactly size = (accounted .owed, plays-carried r stream period budget frames script began size budget)
 
-  -- "At most 10 are in flight": after k turns, for every k, and at every reading
-  pub ten-at-most : (k : ℕ) → let h = turnByTurn (length frames) k (starts r stream period budget frames .ring) script in (h .at .track .inflight ≤ 10) × All AtMostTen (h .log)
-  ten-at-most = plays-ten r stream period budget frames script began
+  -- "32 may be in flight", or 10 where none is indirect: after k turns, for every k, and at every reading
+  pub most-in-flight : (k : ℕ) → let h = turnByTurn (length frames) k (starts r stream period budget frames .ring) script in
+      (h .at .track .inflight ≤ mostOf (r .track .descriptors)) × All (AtMost (mostOf (r .track .descriptors))) (h .log)
+  most-in-flight = plays-most r stream period budget frames script began
+
+  -- "At most 10 are in flight"
+  pub ten-at-most : r .track .descriptors ≡ direct → (k : ℕ) → let h = turnByTurn (length frames) k (starts r stream period budget frames .ring) script in (h .at .track .inflight ≤ 10) × All AtMostTen (h .log)
+  ten-at-most e k =
+      subst (λ (d : ℕ). let h = turnByTurn (length frames) k (starts r stream period budget frames .ring) script in (h .at .track .inflight ≤ mostOf d) × All (AtMost (mostOf d)) (h .log)) e (most-in-flight k)
+
+-- "head equals tail when empty and when full": nothing is inferred from it, and a ring that is full is not done
+pub full-is-not-done : (t : Track) → t .descriptors ≡ indirect → t .inflight ≡ 32 → chooseOf (t .descriptors) t ≡ Wait
+full-is-not-done t d n = sym (waits-full (t .descriptors) t (rw (d, n) (omega arith)))
 
 -- ---- a turn submits just what was offered, whatever it reads; and it is refused, changing nothing, where the offer is
 pub offered-is-sent : (t : Track) (len : ℕ) (sent : Sent) → offerCall t len ≡ offer.Is sent → (reading : Reading) → tracedCall t len (t .room) reading .sent ≡ sent

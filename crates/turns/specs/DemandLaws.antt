@@ -15,14 +15,14 @@ use mathlib.Core.Bool.{Bool, false}
 use Rattle.turns.specs.Cut.{cut, spanOf}
 use Rattle.turns.specs.CutLaws.{plan-count}
 use Rattle.turns.specs.AccountLaws.{played-just}
-use Rattle.turns.specs.Ring.{blankSlot}
+use Rattle.turns.specs.Ring.{blankSlot, mostOf}
 use Rattle.turns.specs.Rules.{chooseOf}
 use Rattle.turns.specs.RuleLaws.{Chosen, chosen}
-use Rattle.turns.specs.ConsistentLaws.{Consistent, few}
+use Rattle.turns.specs.ConsistentLaws.{Consistent, mode-small, few, few-slots}
 use Rattle.turns.specs.Calls.{begun, startCall, carry, ringAfter}
 use Rattle.turns.specs.Script.{scriptOf, transferredOf, transferBy, transferOf}
 use Rattle.turns.specs.Log.{Line, Ran, onward, waitingBy, nextOf, restOf, loopOf, Told, Judge, played, judgedOf, ruled, run, called, turnByTurn, sends}
-use Rattle.turns.specs.Asked.{starts, plays, Accounted, Carried, AtMostTen}
+use Rattle.turns.specs.Asked.{starts, plays, Accounted, Carried, AtMost}
 use Rattle.turns.specs.CaseLaws.{goes-by, onward-cases, stays}
 use Rattle.turns.specs.KeepLaws.{Fit, fit-of, fit-submit, turn-after}
 use Rattle.turns.specs.StaysConsistentLaws.{start-keeps}
@@ -41,25 +41,25 @@ unfolding loopOf
 loop-length quiet turn zero a script = omega arith
 loop-length quiet turn (suc fuel) a script = let t = turn a (nextOf quiet script) in onward-length fuel (t .line .said) (t .line) (t .left) _ (loop-length quiet turn fuel (t .left) (restOf script))
 
--- ---- at most 10 are in flight
+-- ---- at most 10 are in flight, or 32
 
-waits-ten : (least : ℕ) (t : Track) (c : Choice) → Chosen least t c → t .descriptors ≤ least → Fit t → waitingBy c t ≤ 10
-waits-ten least t Submit ch le f = few _ (fit-submit least t le (ch .0) (ch .1) f .placed)
-waits-ten least t Finish ch le f = omega arith
-waits-ten least t Wait ch le f = few t (f .placed)
+waits-most : (least : ℕ) (t : Track) (c : Choice) → Chosen least t c → t .descriptors ≤ least → Fit t → waitingBy c t ≤ mostOf (t .descriptors)
+waits-most least t Submit ch le f = few _ (fit-submit least t le (ch .0) (ch .1) f .placed)
+waits-most least t Finish ch le f = omega arith
+waits-most least t Wait ch le f = few t (f .placed)
 
-onward-ten : (said : Said) (line : Line) (t : Track) (rest : Ran Track) → AtMostTen line → (said ≡ Going → All AtMostTen (rest .log)) → All AtMostTen (onward said line t rest .log)
-onward-ten said line t rest h k = onward-cases (λ (o : Ran Track). All AtMostTen (o .log)) said line t rest (λ e. (h, k e)) (λ _. (h, tt))
+onward-most : (most : ℕ) (said : Said) (line : Line) (t : Track) (rest : Ran Track) → AtMost most line → (said ≡ Going → All (AtMost most) (rest .log)) → All (AtMost most) (onward said line t rest .log)
+onward-most most said line t rest h k = onward-cases (λ (o : Ran Track). All (AtMost most) (o .log)) said line t rest (λ e. (h, k e)) (λ _. (h, tt))
 
-pub run-ten : {capture : Bool} {R : Type 0} (j : Judge R) (least len fuel : ℕ) (t : Track) (script : List R) → t .descriptors ≤ least → RunsAs capture len t → All AtMostTen (run j least fuel t script .log)
+pub run-most : {capture : Bool} {R : Type 0} (j : Judge R) (least len fuel : ℕ) (t : Track) (script : List R) → t .descriptors ≤ least → RunsAs capture len t → All (AtMost (mostOf (t .descriptors))) (run j least fuel t script .log)
 unfolding loopOf
-run-ten j least len zero t script le r = tt
-run-ten j least len (suc fuel) t script le r =
+run-most j least len zero t script le r = tt
+run-most j least len (suc fuel) t script le r =
     let x = nextOf (j .quiet) script in
     let s = ruled j least t x in
-    let size = ap (λ (z : ℕ × ℕ × ℕ × ℕ × ℕ). z .0) (turn-after least t (judgedOf j t x) (j .reading x) .0) in
-    onward-ten (s .line .said) (s .line) (s .left) (run j least fuel (s .left) (restOf script)) (waits-ten least t (chooseOf least t) (chosen least t) le (fit-of t (r .consistent)))
-    (λ e. run-ten j least len fuel (s .left) (restOf script) (omega arith) (runs-on least len t _ _ le r e))
+    let size : s .left .descriptors ≡ t .descriptors = ap (λ (z : ℕ × ℕ × ℕ × ℕ × ℕ). z .0) (turn-after least t (judgedOf j t x) (j .reading x) .0) in
+    onward-most (mostOf (t .descriptors)) (s .line .said) (s .line) (s .left) (run j least fuel (s .left) (restOf script)) (waits-most least t (chooseOf least t) (chosen least t) le (fit-of t (r .consistent)))
+    (λ e. subst (λ (d : ℕ). All (AtMost (mostOf d)) (run j least fuel (s .left) (restOf script) .log)) size (run-most j least len fuel (s .left) (restOf script) (omega arith) (runs-on least len t _ _ le r e)))
 
 -- ---- a start that goes on, and then turns
 
@@ -87,7 +87,7 @@ module _ (r : Ring) (stream period budget : ℕ) (frames : List ℕ) (script : L
       let n = plan-count period frames in
       subst (λ (o : Ran Track). InTime (length (cut period frames)) g o) (sym (as-run budget))
       (subst (λ (n : ℕ). InTime n g (run played least budget (begun (r .track) stream (length frames) period budget) script)) n
-      (run-in-time played played-just (λ e. omega arith) false (length frames) least stream period (length frames) budget (r .track) script some g (omega (arith, from .runs .consistent .placed .mode)) pos (rw n enough)))
+      (run-in-time played played-just (λ e. omega arith) false (length frames) least stream period (length frames) budget (r .track) script some g (omega (arith, mode-small least (from .runs .consistent .placed .mode) .1)) pos (rw n enough)))
 
   pub plays-accounted : (k : ℕ) → let h = turnByTurn (length frames) k (starts r stream period budget frames .ring) script in Accounted period frames (h .said) (h .at .track) (h .log)
   plays-accounted k = subst (λ (o : Ran Track). Accounted period frames (o .said) (o .at) (o .log)) (sym (as-run k)) (run-accounted least stream period budget frames (r .track) script some k)
@@ -95,14 +95,20 @@ module _ (r : Ring) (stream period budget : ℕ) (frames : List ℕ) (script : L
   pub plays-ends : (k : ℕ) → Ends k (begun (r .track) stream (length frames) period budget) (seen (λ (x : Ring). x .track) (turnByTurn (length frames) k (starts r stream period budget frames .ring) script))
   plays-ends k = subst (Ends k (begun (r .track) stream (length frames) period budget)) (sym (as-run k)) (run-ends played least (length frames) k _ script (omega arith) (from .runs))
 
-  pub plays-ten : (k : ℕ) → let h = turnByTurn (length frames) k (starts r stream period budget frames .ring) script in (h .at .track .inflight ≤ 10) × All AtMostTen (h .log)
-  plays-ten k = (few _ (plays-ends k .consistent .placed), subst (λ (o : Ran Track). All AtMostTen (o .log)) (sym (as-run k)) (run-ten played least (length frames) k _ script (omega arith) (from .runs)))
+  pub plays-most : (k : ℕ) → let h = turnByTurn (length frames) k (starts r stream period budget frames .ring) script in (h .at .track .inflight ≤ mostOf least) × All (AtMost (mostOf least)) (h .log)
+  plays-most k =
+      let e = plays-ends k in
+      let h = turnByTurn (length frames) k (starts r stream period budget frames .ring) script in
+      let mode : h .at .track .descriptors ≡ least = ap (λ (z : ℕ × ℕ × ℕ × ℕ × ℕ). z .0) (e .after .0) in (
+        subst (λ (d : ℕ). h .at .track .inflight ≤ mostOf d) mode (few _ (e .consistent .placed)),
+        subst (λ (o : Ran Track). All (AtMost (mostOf least)) (o .log)) (sym (as-run k)) (run-most played least (length frames) k _ script (omega arith) (from .runs)),
+      )
 
   pub plays-carried : length (r .slots) ≡ 32 → (k : ℕ) → Carried period frames (turnByTurn (length frames) k (starts r stream period budget frames .ring) script)
   plays-carried size k i past to =
       let h = turnByTurn (length frames) k (starts r stream period budget frames .ring) script in
       let a = plays-accounted k in
-      let most = plays-ten k .0 in
+      let most = few-slots _ (plays-ends k .consistent .placed) in
       let sized : length (starts r stream period budget frames .ring .slots) ≡ 32 = ap (λ (x : Sent). length (carry (r .slots) x)) (from .sent) ∙ size in
       ap (λ (l : List _). getD l (i % 32) blankSlot) (host-carries (length frames) k (starts r stream period budget frames .ring) script)
       ∙ simp zero-add at (carries-at 0 (λ j. j * period) (λ j. spanOf period (length frames) (j * period)) (starts r stream period budget frames .ring .slots) i (sends (h .log)) (λ j b. simp zero-add (a .order j b)) sized to (omega (arith, a .owed)))

@@ -16,6 +16,7 @@ pub mod Asked
 -- theorems
 pub mod Demand
 pub mod CaptureDemand
+pub mod Modes
 pub mod Joining
 pub mod Drained
 pub mod Heard

@@ -2,7 +2,7 @@
 -- Assumes nothing.
 use mathlib.Core.Bool.{Bool, true, false}
 use mathlib.Core.List.{[]}
-use Prim.Native.Nat.{ℕ, _+_, _-_, _*_, _%_}
+use Prim.Native.Nat.{ℕ, _+_, _-_, _*_, _/_, _%_}
 use lib.ListN.{replicate}
 use Rattle.codes.specs.Says.{Says, says}
 use Rattle.codes.specs.Answers.{saysRefusal, refusalWord}
@@ -14,6 +14,10 @@ blankSlot = record { offset = 0; len = 0 }
 -- "submit it at head (3 descriptors)": of 32, where none is indirect
 abbrev pub direct : ℕ
 direct = 3
+
+-- "a submission takes one descriptor" where they are indirect (2026-14)
+abbrev pub indirect : ℕ
+indirect = 1
 
 -- a ring that no transfer ran on, with some descriptors to a submission
 abbrev pub newTrack : ℕ → Track
@@ -29,6 +33,10 @@ after slot = (slot + 1) % 32
 -- the descriptors that are free, of 32
 abbrev pub free : Track → ℕ
 free t = 32 - t .inflight * t .descriptors
+
+-- how many may be in flight: 10, or 32
+abbrev pub mostOf : ℕ → ℕ
+mostOf descriptors = 32 / descriptors
 
 -- what a turn says: a turn that goes on has no number in the paper, and 512 at the C boundary
 abbrev pub going : ℕ

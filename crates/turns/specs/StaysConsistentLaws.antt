@@ -6,13 +6,14 @@ use mathlib.Core.Path.{_≡_, refl}
 use mathlib.Core.Bool.{Bool, true, false, not, false≢true}
 use borrow.Author.Tests.{ltb-true}
 use Rattle.codes.specs.SaysLaws.{guarded-by}
-use Rattle.turns.specs.Ring.{direct, newTrack}
+use Rattle.turns.specs.Ring.{newTrack}
 use Rattle.turns.specs.Rules.{release}
 use Rattle.turns.specs.RuleLaws.{oldest-facts}
 use Rattle.turns.specs.Consistent.{consistentOf}
 use Rattle.turns.specs.ConsistentLaws.{both, Consistent, consistent-facts, consistent-true}
 use Rattle.turns.specs.Calls.{tracedCall, turnCall, drained, drainCall, begunIn, startCall, startTraced}
 use Rattle.turns.specs.KeepLaws.{Leaves, Fit, fit-of, fit-freeing, turn-keeps}
+use Rattle.turns.specs.Private.{Mode}
 use Rattle.turns.specs.Types.{Track, Reading, Quiet, Completed}
 
 -- THE CALL of a turn
@@ -37,10 +38,10 @@ pub drain-keeps : (t : Track) (reading : Reading) → Consistent t → Consisten
 unfolding drainCall
 drain-keeps t reading c = guarded-by Leaves _ _ _ (λ _. guarded-by Leaves _ _ _ (λ _. c) (λ _. drained-keeps t reading c)) (λ _. c)
 
-pub begun-fit : (room : ℕ) (capture : Bool) (lent : ℕ) (t : Track) (stream total period budget : ℕ) → t .descriptors ≡ direct → Fit (begunIn room capture lent t stream total period budget)
+pub begun-fit : (room : ℕ) (capture : Bool) (lent : ℕ) (t : Track) (stream total period budget : ℕ) → Mode (t .descriptors) → Fit (begunIn room capture lent t stream total period budget)
 begun-fit room capture lent t stream total period budget e = record { placed = record { mode = e; head-in = omega arith; tail-in = omega arith; room = omega arith; line = omega arith }; within = omega arith; kept = omega arith }
 
-pub begun-keeps : (room : ℕ) (capture : Bool) (lent : ℕ) (t : Track) (stream total period budget : ℕ) → t .descriptors ≡ direct → 0 < period → 0 < budget → Consistent (begunIn room capture lent t stream total period budget)
+pub begun-keeps : (room : ℕ) (capture : Bool) (lent : ℕ) (t : Track) (stream total period budget : ℕ) → Mode (t .descriptors) → 0 < period → 0 < budget → Consistent (begunIn room capture lent t stream total period budget)
 begun-keeps room capture lent t stream total period budget e p b =
     let f = begun-fit room capture lent t stream total period budget e in
     record { placed = f .placed; paced = record { within = f .within; some = λ _. p; left = λ _. b }; kept = f .kept; good = omega arith }
@@ -72,11 +73,11 @@ traced-start-keeps t stream total period budget room c =
 
 -- ---- the same of the test: A NEW RING passes it, and what passed it before a call passes it afterwards
 
-pub new-passes : consistentOf (newTrack direct) ≡ true
-new-passes =
-    consistent-true (newTrack direct)
+pub new-passes : (descriptors : ℕ) → Mode descriptors → consistentOf (newTrack descriptors) ≡ true
+new-passes descriptors m =
+    consistent-true (newTrack descriptors)
     (record {
-      placed = record { mode = refl; head-in = omega arith; tail-in = omega arith; room = omega arith; line = omega arith };
+      placed = record { mode = m; head-in = omega arith; tail-in = omega arith; room = omega arith; line = omega arith };
       paced = record { within = omega arith; some = λ h. absurd (false≢true h); left = λ h. absurd (false≢true h) };
       kept = omega arith;
       good = omega arith;

@@ -14,7 +14,7 @@ use Rattle.layout.specs.Bytes.{un, bytesAt, numAt}
 use Rattle.turns.specs.Capture.{catchOf, capturedOf, captureCall, captureStart}
 use Rattle.turns.specs.Captured.{Came, nothingCame, Taken, captures, Lends, LengthGood}
 use Rattle.turns.specs.Cut.{cutBy, cut}
-use Rattle.turns.specs.Ring.{direct, newRing}
+use Rattle.turns.specs.Ring.{direct, indirect, newRing}
 use Rattle.turns.specs.Rules.{chooseOf, playedOf, isOldest, judgeOf, turnOf, countedOf}
 use Rattle.turns.specs.Consistent.{placedOf, pacedOf}
 use Rattle.turns.specs.Calls.{startCall, startedOf, tracedCall, drainCall, turnedOf, idleOf}
@@ -42,6 +42,15 @@ pub worked : (comesTo 0 4 5 [] ≡ (Going, Done, 1, [], 0))
     × (comesTo 11 1 12 [] ≡ (Going, Ended OutOfTurns, 12, replicate 10 1, 10))
 unfolding loopOf startCall tracedCall guard placedOf pacedOf turnOf chooseOf playedOf isOldest judgeOf countedOf
 worked = (refl, refl, refl)
+
+-- "33 periods, all quiet, budget 34", indirect: answer 9, 32 in flight, and head equals tail though the ring is full
+abbrev pub quietIndirect : Ran Ring
+quietIndirect = plays (newRing indirect) 0 1 34 (replicate 33 7) []
+
+pub full-ring : (quietIndirect .said ≡ Ended OutOfTurns) × (quietIndirect .at .track .inflight ≡ 32) × (quietIndirect .at .track .head ≡ quietIndirect .at .track .tail)
+    × (length (quietIndirect .log) ≡ 34) × (length (sends (quietIndirect .log)) ≡ 32)
+unfolding loopOf startCall tracedCall guard placedOf pacedOf turnOf chooseOf playedOf isOldest judgeOf countedOf
+full-ring = (refl, refl, refl, refl, refl)
 
 -- ---- DEMAND 3'S PREMISES CAN BE MET, all together: 12 periods, g = 2, a budget of 12 * 2 + 1, a completion every other turn
 

@@ -1,22 +1,34 @@
 // The consistency test of a ring: what calls leave never fails it.
 ghost use mathlib.Core.Path.{_≡_};
-ghost use Rattle.turns.specs.Consistent.{placedOf, pacedOf, consistentOf};
+ghost use Rattle.turns.specs.Consistent.{modeOk, placedOf, pacedOf, consistentOf};
 use crate::ring::DIRECT;
+use crate::ring::INDIRECT;
 use crate::ring::Track;
+
+// A submission may take so many descriptors.
+pub fn mode_ok(descriptors: usize) -> bool
+    ensures { λ r. ⌜ r ≡ modeOk descriptors ⌝ }
+{
+    if descriptors == DIRECT {
+        return true;
+    }
+    descriptors == INDIRECT
+}
 
 // The slots are in line.
 fn placed(t: Track) -> bool
     ensures { λ r. ⌜ r ≡ placedOf t ⌝ }
 {
     let inflight = t.inflight;
-    if t.descriptors != DIRECT {
+    let mode = mode_ok(t.descriptors);
+    if !mode {
         return false;
     }
     if 32 <= t.tail {
         return false;
     }
-    // in flight × 3 is then at most 32
-    if 10 < inflight {
+    // in flight × descriptors is then at most 32
+    if 32 / t.descriptors < inflight {
         return false;
     }
     // which head below 32 follows from

@@ -1,13 +1,16 @@
 // The ring record: 32 slots, and where the ring and the transfer that runs over it stand.
 ghost use mathlib.Core.Path.{_≡_};
 ghost use mathlib.Core.List.{[], _∷_};
-ghost use Rattle.turns.specs.Ring.{direct, newRing, goesOn};
+ghost use Rattle.turns.specs.Ring.{direct, indirect, newRing, goesOn};
 ghost use Rattle.turns.specs.Reads.{saysNumber, readOf, runningOf, inFlightOf, freeOf, turnsOf, streamOf, keptRead, writtenRead, acceptedRead, saysCarried, carriedOf, saysOldest, oldestOf};
 use crate::consistent::is_consistent;
 use codes::Refusal;
 
 // The descriptors that a submission takes where none is indirect.
 pub const DIRECT: usize = 3;
+
+// And where they are indirect.
+pub const INDIRECT: usize = 1;
 
 // What a slot carries: a part of the caller's frames. It stays after the slot was freed, until the
 // slot is used again.
@@ -139,12 +142,12 @@ fn number(t: Track, n: u64) -> RingNumber
 }
 
 impl Ring {
-    // A ring that no transfer ran on, with direct descriptors.
-    pub fn new() -> Ring
-        ensures { λ r. ⌜ r ≡ newRing direct ⌝ }
+    // A ring that no transfer ran on, with some descriptors to a submission.
+    fn made(descriptors: usize) -> Ring
+        ensures { λ r. ⌜ r ≡ newRing descriptors ⌝ }
     {
         let track = Track {
-            descriptors: DIRECT,
+            descriptors,
             head: 0,
             tail: 0,
             inflight: 0,
@@ -166,6 +169,20 @@ impl Ring {
             track,
             slots: [Slot { offset: 0, len: 0 }; 32],
         }
+    }
+
+    // A ring of direct descriptors.
+    pub fn new() -> Ring
+        ensures { λ r. ⌜ r ≡ newRing direct ⌝ }
+    {
+        Ring::made(DIRECT)
+    }
+
+    // A ring of indirect ones: a submission takes one.
+    pub fn new_indirect() -> Ring
+        ensures { λ r. ⌜ r ≡ newRing indirect ⌝ }
+    {
+        Ring::made(INDIRECT)
     }
 
     // 1 where a transfer runs, else 0.

@@ -13,7 +13,7 @@ use Rattle.turns.specs.Cut.{cut, spanOf}
 use Rattle.turns.specs.CutLaws.{spans, spans-more, spans-done, plan-count}
 use Rattle.turns.specs.Ring.{after}
 use Rattle.turns.specs.Rules.{chooseOf, ticked}
-use Rattle.turns.specs.ConsistentLaws.{consistent-facts}
+use Rattle.turns.specs.ConsistentLaws.{consistent-facts, mode-small}
 use Rattle.turns.specs.Asked.{Idle, starts}
 use Rattle.turns.specs.Calls.{carry, startCall, ringAfter, offerBy, shownBy}
 use Rattle.turns.specs.Log.{Ran, Told, onward, waitingBy, loopOf, loop, called}
@@ -126,11 +126,11 @@ pub transfer-ends : (r : Ring) (d : Device) (stream period budget : ℕ) (frames
 transfer-ends r d stream period budget frames idle p some enough =
     let n = plan-count period frames in
     let f = consistent-facts (r .track) (idle .consistent) in
-    let mode = f .placed .mode in
+    let small = mode-small (r .track .descriptors) (f .placed .mode) .1 in
     let began = sym (host.goes (r .track) stream (length frames) period budget f (idle .stopped) (idle .empty) some (omega arith)) in
     let b = begins (r .track) stream (length frames) period budget began in
     let slots = carry (r .slots) (startCall (r .track) stream (length frames) period budget .sent) in
-    let c = plays-on (r .track .descriptors) stream period budget frames (omega arith) budget (length frames) 0 0 0 slots d p (b .runs) (omega arith) (omega arith) (omega arith) in (
+    let c = plays-on (r .track .descriptors) stream period budget frames (omega (arith, small)) budget (length frames) 0 0 0 slots d p (b .runs) (omega arith) (omega arith) (omega arith) in (
       began,
       subst (λ (t : Track). Ends (length (cut period frames) + 1) (playedBy d stream (length frames)) (attended frames budget (record { track = t; slots = slots }) d)) (sym (b .track))
           (record { said = c .said; turns = c .turns ∙ ap (λ (k : ℕ). k + 1) n; device = c .device ∙ ap (playedBy d stream) (omega arith) }),

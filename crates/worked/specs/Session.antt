@@ -3,6 +3,7 @@
 use mathlib.Core.Path.{_≡_, refl, sym, ap, _∙_, subst}
 use mathlib.Core.Bool.{true, not, false≢true}
 use mathlib.Core.List.{List, _∷_, []}
+use mathlib.Core.Logic.{inl}
 use Prim.Native.Nat.{ℕ, _+_, _%_, _≤_, _<_, _^_}
 use native.Mathlib.Omega.{arith}
 use lib.Dec.{lit<, eqb}
@@ -111,5 +112,5 @@ can-meet n w =
         map = λ i h. subst (λ (x : ChannelMap). Fit channelMap (channelMapValues x)) (sym (getD-replicate 170 i (channelMapOf []) (channelMapOf []) (omega arith))) (lit< tt, (lit< tt, (lit< tt, (lit< tt, (lit< tt, (lit< tt, tt))))));
         count = λ i h. rw (getD-replicate {A = ℕ} 127 i 0 0 (omega arith)) (lit< tt);
       },
-      record { consistent = new-passes; idle = refl; whole = refl; long = omega arith },
+      record { consistent = new-passes direct (inl refl); idle = refl; whole = refl; long = omega arith },
     )

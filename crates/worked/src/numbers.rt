@@ -13,6 +13,7 @@ use exchange::Sound;
 use records::Event;
 use records::Notice;
 use tables::PAGE;
+use turns::Ring;
 
 // A driver that is set up against the small device.
 pub(crate) fn ready() -> Host {
@@ -83,6 +84,14 @@ fn transfers() {
     transfer::ended(transfer::run(h, &[0; 10], 100, b"012."));
     show::text(b"P: 11 periods, all quiet, budget 12: answer 9, 10 in flight\n");
     transfer::ended(transfer::run_quiet(h, &[0; 44], 12));
+    indirect(h);
+}
+
+// No number of document 01, but of the request for indirect descriptors: the ring is full.
+fn indirect(h: Host) {
+    let ring = Ring::new_indirect();
+    show::text(b"Indirect descriptors, 33 periods, all quiet, budget 34: answer 9, 32 in flight\n");
+    transfer::ended(transfer::run_quiet(Host { ring, ..h }, &[0; 132], 34));
 }
 
 fn notice(n: Notice) {

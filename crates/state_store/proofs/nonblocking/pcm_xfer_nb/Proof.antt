@@ -76,7 +76,7 @@ returns-3 c =
 returns-4 : tie.Need-returns-4
 returns-4 c =
     let o = c .before .before .before .before .before .before in
-    let x = o .before .before .before .before .before .before .before in
+    let x = o .before .before .before .before .before .before .before .before in
     let d = x .before .before .before .before .before .before .before .before .before in
     let a = d .before .before .before .before .before .before .before .args in
     let s = a .state .now in
@@ -87,7 +87,7 @@ returns-4 c =
     let l = sym (d .before .both .ensures) ∙ not-false _ (d .if1 .left) in
     let g = nb-gated s (a .t) (a .stream) e p m r (x .before .before .before .before .before .core-by .ensures ∙ ap coreOf (x .before .before .before .before .before .before .before .get-head .ensures)) (x .before .before .before .params-at .ensures) (x .before .life-at .ensures) (x .xfer-gate .ensures) in
     let b : Bytes s = λ k. (d .before .before .before .before .before .before .slice-known .given k) .fits in
-    nb-open s (a .t) (a .stream) e p m r l b _ (sym (o .before .before .before .before .before .gate2 .given .1) ∙ g) (o .submit .ensures)
+    nb-open s (a .t) (a .stream) e p m r l b _ (sym (o .before .before .before .before .before .before .gate2 .given .1) ∙ g) (o .before .before .before .before .places-of .ensures) (o .submit .ensures)
 
 pub pcm-xfer-nb-spec : {M : Type 1} → statement M
 pcm-xfer-nb-spec =
@@ -100,7 +100,7 @@ pcm-xfer-nb-spec =
     (λ c κs. c .is-whole .ensures)
     (λ c κs. tt) life-at-requires (λ c κs. tt) (λ c. search needs) (λ c κs. tt) (λ c. search needs)
     set-up-requires
-    (λ c. search needs) (λ c κs. tt) (λ c. search needs)
+    (λ c. search needs) (λ c κs. tt) (λ c κs. tt) (λ c. search needs)
     returns-2
     (λ c. search needs) (λ c. search needs)
     returns-3

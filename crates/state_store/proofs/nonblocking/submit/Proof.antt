@@ -14,8 +14,8 @@ returns c =
     let p = f .before .before in
     let a = p .before .before .before .before .before .before .args in
     ap (λ (n : ℕ). held n (a .state .now) (a .places .now) (a .result .now)) (c .word .ensures)
-    ∙ ap (heldBy (a .state .now) (a .stream) (a .payload .now) (a .places .now) (a .result .now))
-    (spot-is (a .state .now) (length (a .payload .now)) (length (a .places .now)) (a .period) (p .pending-in .ensures) (f .before .lowest .ensures) (f .find-spot .ensures) (c .before .before .spot .given .1))
+    ∙ ap (heldBy (a .many) (a .state .now) (a .stream) (a .payload .now) (a .places .now) (a .result .now))
+    (spot-is (a .many) (a .state .now) (length (a .payload .now)) (length (a .places .now)) (a .period) (p .pending-in .ensures) (f .before .lowest .ensures) (f .find-spot .ensures) (c .before .before .spot .given .1))
 
 returns-2 : tie.Need-returns-2
 returns-2 c =
@@ -25,8 +25,8 @@ returns-2 c =
     let p = f .before .before in
     let a = p .before .before .before .before .before .before .args in
     h .hold .ensures
-    ∙ ap (heldBy (a .state .now) (a .stream) (a .payload .now) (a .places .now) (a .result .now))
-    (spot-is (a .state .now) (length (a .payload .now)) (length (a .places .now)) (a .period) (p .pending-in .ensures) (f .before .lowest .ensures) (f .find-spot .ensures) (m .spot2 .given .1))
+    ∙ ap (heldBy (a .many) (a .state .now) (a .stream) (a .payload .now) (a .places .now) (a .result .now))
+    (spot-is (a .many) (a .state .now) (length (a .payload .now)) (length (a .places .now)) (a .period) (p .pending-in .ensures) (f .before .lowest .ensures) (f .find-spot .ensures) (m .spot2 .given .1))
 
 pub submit-spec : {M : Type 1} → statement M
 submit-spec =

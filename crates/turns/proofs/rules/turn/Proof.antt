@@ -1,14 +1,14 @@
 -- Rule 1 by the cases of its choice, then rule 2. Assumes nothing.
 use borrow.Author.Needs.{needs}
 use native.Mathlib.Omega.{arith}
-use Rattle.turns.specs.ConsistentLaws.{few}
+use Rattle.turns.specs.ConsistentLaws.{few-slots}
 use Rattle.turns.specs.DecisionLaws.{tail-stays, good-stays}
 use Rattle.turns.specs.Rules.{turnOf}
 use Rattle.turns.proofs.rules.turn.Statement.{statement}
 use Rattle.turns.proofs.rules.turn.Tie as tie
 
 submit-requires : tie.Need-submit-requires
-submit-requires c κs = let p = few _ (c .before .before .before .before .pre .0) in omega arith
+submit-requires c κs = let p = few-slots _ (c .before .before .before .before .pre .0) in omega arith
 
 hear-requires : tie.Need-hear-requires
 hear-requires c κs = (search (needs, tail-stays), search (needs, good-stays))
