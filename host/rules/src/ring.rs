@@ -1,12 +1,39 @@
-//! Turns of a transfer, of either way.
+//! Turns of a transfer, of either way. Request 2026-14: "state the turn rules .. once over descriptors per submission and least room needed".
 
 use crate::status::Verdict;
 use crate::{BAD_LENGTH, BUSY, INVALID_PARAM, OUT_OF_TURNS, WRONG_TOKEN};
 
 pub const SLOTS: usize = 32;
-/// Descriptors of one submission, and the least room for one.
-pub const PER: u64 = 3;
-const LEAST: u64 = 3;
+
+/// How a ring's submissions stand on the queue.
+#[derive(Copy, Clone, Debug, PartialEq, Eq, Hash)]
+pub enum Mode {
+    Direct,
+    /// "a submission takes one descriptor and goes out whenever a slot is free"
+    Indirect,
+}
+
+impl Mode {
+    pub const ALL: [Mode; 2] = [Mode::Direct, Mode::Indirect];
+
+    /// The mode of so many descriptors a submission.
+    pub fn of(per: u64) -> Option<Self> {
+        Mode::ALL.into_iter().find(|mode| mode.per() == per)
+    }
+
+    /// Descriptors of one submission.
+    pub fn per(self) -> u64 {
+        match self {
+            Mode::Direct => 3,
+            Mode::Indirect => 1,
+        }
+    }
+
+    /// The least room for one.
+    pub fn least(self) -> u64 {
+        self.per()
+    }
+}
 
 /// Which way a transfer goes.
 #[derive(Copy, Clone, Debug, PartialEq, Eq)]
@@ -17,6 +44,8 @@ pub enum Way {
 
 #[derive(Clone, Debug, PartialEq, Eq)]
 pub struct Ring {
+    /// descriptors of a submission: made with the ring, for good
+    pub per: u64,
     pub running: bool,
     pub way: Way,
     pub stream: u32,
@@ -85,6 +114,7 @@ pub struct Offer {
 impl Default for Ring {
     fn default() -> Self {
         Ring {
+            per: Mode::Direct.per(),
             running: false,
             way: Way::Playback,
             stream: 0,
@@ -107,9 +137,20 @@ impl Default for Ring {
 }
 
 impl Ring {
+    pub fn new(mode: Mode) -> Self {
+        Ring { per: mode.per(), ..Ring::default() }
+    }
+
+    /// Direct, or indirect; any other number of descriptors is no ring's.
+    fn mode(&self) -> Option<Mode> {
+        Mode::of(self.per)
+    }
+
     pub fn consistent(&self) -> bool {
         let slots = SLOTS as u64;
-        let small = self.head < slots && self.tail < slots && self.in_flight <= slots / PER;
+        // in flight is a number of its own: head equals tail when empty and when full
+        let fits = self.mode().is_some_and(|mode| self.in_flight <= slots / mode.per());
+        let small = self.head < slots && self.tail < slots && fits;
         small
             && self.head == (self.tail + self.in_flight) % slots
             && self.next <= self.frames_len
@@ -124,7 +165,12 @@ impl Ring {
     }
 
     pub fn free(&self) -> u64 {
-        SLOTS as u64 - PER * self.in_flight
+        SLOTS as u64 - self.per * self.in_flight
+    }
+
+    /// Whether a submission has room. Of a consistent ring.
+    fn has_room(&self) -> bool {
+        self.mode().is_some_and(|mode| self.free() >= mode.least())
     }
 
     pub fn oldest(&self) -> Option<u64> {
@@ -148,9 +194,9 @@ impl Ring {
         }
     }
 
-    /// Slots keep what they carried.
+    /// Slots keep what they carried, and the ring its mode.
     pub(crate) fn begin(&mut self, start: Ring) -> Turn {
-        *self = Ring { running: true, slots: self.slots, ..start };
+        *self = Ring { running: true, slots: self.slots, per: self.per, ..start };
         Turn::Going
     }
 
@@ -166,8 +212,7 @@ impl Ring {
     }
 
     pub(crate) fn next_offer(&self) -> Option<Offer> {
-        let room = self.free() >= LEAST;
-        (room && self.next < self.frames_len).then(|| Offer {
+        (self.has_room() && self.next < self.frames_len).then(|| Offer {
             slot: self.head,
             offset: self.next,
             length: self.period.min(self.frames_len - self.next),
@@ -209,7 +254,7 @@ impl Ring {
             self.head = (self.head + 1) % SLOTS as u64;
             self.in_flight += 1;
             self.next += offer.length;
-        } else if self.free() >= LEAST && self.in_flight == 0 {
+        } else if self.has_room() && self.in_flight == 0 {
             return self.end(crate::OK);
         }
         // 2. the reading

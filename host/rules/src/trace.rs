@@ -1,7 +1,7 @@
 //! Request 2026-11: traces of transfers. "Fix a trace as tagged fields, one-byte tag and two-byte length"; each turn writes its own; a
 //! foreign trace is judged by running turns beside its bytes.
 
-use crate::ring::{PER, Reading, Ring, SLOTS, Turn, Way};
+use crate::ring::{Mode, Reading, Ring, SLOTS, Turn, Way};
 use crate::sound::{Say, Sound};
 use crate::status::Status;
 use crate::wire::{STATUS_OK, u16_at, u32_at};
@@ -198,10 +198,11 @@ struct Path {
 
 /// "The judge accepts exactly when some script and budget make document 01's turns write that very trace." The answers' order: 18 over the
 /// whole trace, then 19 and "the first byte through which no run's trace agrees, or the length where the trace only ends early", which is
-/// how far the best of all runs agrees.
-pub fn judge(trace: &[u8]) -> Result<(), Fault> {
+/// how far the best of all runs agrees. The runs are those of a ring of this mode: "the judge and the pending table take the mode from the
+/// caller".
+pub fn judge_of(mode: Mode, trace: &[u8]) -> Result<(), Fault> {
     scan(trace)?;
-    let (mut paths, mut tried, mut agreed) = (vec![first(trace)], HashSet::new(), 0);
+    let (mut paths, mut tried, mut agreed) = (vec![first(mode, trace)], HashSet::new(), 0);
     while let Some(Path { ring, at }) = paths.pop() {
         // what was done before plays no part but in these, and in the turns so far, against which any budget can be set
         if !tried.insert((at, ring.head, ring.tail, ring.in_flight, ring.next)) {
@@ -237,10 +238,10 @@ fn padded(trace: &[u8], at: usize) -> u32 {
 }
 
 /// A run whose start is the trace's own. Where that has period 0, "no run's", one that agrees as far as any does.
-fn first(trace: &[u8]) -> Path {
+fn first(mode: Mode, trace: &[u8]) -> Path {
     let [stream, length, period] = [0, 4, 8].map(|at| padded(trace, HEAD + at));
     let period = if period == 0 { 1 << 24 } else { period };
-    let mut ring = Ring::default();
+    let mut ring = Ring::new(mode);
     ring.start(stream, length.into(), period.into(), u64::MAX);
     Path { ring, at: 0 }
 }
@@ -257,10 +258,13 @@ fn readings(ring: &Ring, rest: &[u8]) -> Vec<Reading> {
     vec![Reading::Quiet, completed(oldest, STATUS_OK), completed(oldest, told), completed(other, STATUS_OK)]
 }
 
-/// By the mode, which is the descriptors of a submission: another is 1.
+/// Of direct descriptors.
+pub fn judge(trace: &[u8]) -> Result<(), Fault> {
+    judge_of(Mode::Direct, trace)
+}
+
+/// By the mode, which is the descriptors of a submission: a number that is none is 1.
 pub fn judge_in(mode: u32, trace: &[u8]) -> Result<(), Fault> {
-    if u64::from(mode) != PER {
-        return Err(Fault { number: INVALID_PARAM, at: 0 });
-    }
-    judge(trace)
+    let mode = Mode::of(mode.into()).ok_or(Fault { number: INVALID_PARAM, at: 0 })?;
+    judge_of(mode, trace)
 }
