@@ -213,8 +213,10 @@ static void record(void) {
 static void judged(uint64_t length) {
     CALL(snd_trace_scan, s.room, length);
     CALL(snd_trace_scan_at, s.room, length);
-    CALL(snd_judge, 3, s.room, length);
-    CALL(snd_judge_at, 3, s.room, length);
+    CALL(snd_judge, SND_DIRECT, s.room, length);
+    CALL(snd_judge_at, SND_DIRECT, s.room, length);
+    CALL(snd_judge, SND_INDIRECT, s.room, length);
+    CALL(snd_judge_at, SND_INDIRECT, s.room, length);
 }
 
 /* A transfer of four periods that writes a trace, quiet in its first turn. */

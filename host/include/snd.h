@@ -32,7 +32,7 @@ extern "C" {
 /* The version of this header and of the archive beside it: docs/BOUNDARY.md says when it changes.
  * As one number it can be compared by #if. */
 #define SND_VERSION_MAJOR 0u
-#define SND_VERSION_MINOR 11u
+#define SND_VERSION_MINOR 12u
 #define SND_VERSION_PATCH 0u
 #define SND_VERSION (SND_VERSION_MAJOR * 1000000u + SND_VERSION_MINOR * 1000u + SND_VERSION_PATCH)
 
@@ -78,8 +78,13 @@ extern "C" {
 #define SND_PAGE_SIZE 4096u
 #define SND_MODEL_SIZE 16427u
 #define SND_ENTRY_SIZE 34u
-/* Equal places of a store of submissions that do not wait. */
+/* Equal places of a store of submissions that do not wait, and with a ring for indirect descriptors. */
 #define SND_PLACES 16u
+#define SND_PLACES_INDIRECT 32u
+/* The modes of a ring: descriptors of a submission, direct ones and, where VIRTIO_F_INDIRECT_DESC (bit 28
+ * of the features) was negotiated, indirect ones. */
+#define SND_DIRECT 3u
+#define SND_INDIRECT 1u
 
 /* Versions of VirtIO, as a host names them, and the bit of a device's features by which it has control
  * elements. */
@@ -98,10 +103,16 @@ uint64_t snd_model_size(void);
  *
  * A state made by snd_new_guarded keeps to the standard's lifecycle of a PCM stream, for good: a
  * command that the stream's last ok command does not permit is not sent, a transfer is taken of a
- * prepared or started stream alone, and what is not permitted is 12. docs/BOUNDARY.md has the table. */
+ * prepared or started stream alone, and what is not permitted is 12. docs/BOUNDARY.md has the table.
+ *
+ * A ring made by snd_ring_new_indirect is for a queue with indirect descriptors, for good: a submission
+ * takes one descriptor and goes out whenever a slot is free, so that 32 may be in flight, and as many
+ * places are there for what does not wait. Every other call is the same with both. Make the ring from the
+ * features that were negotiated, and keep to one ring a state. */
 uint64_t snd_new(uint8_t *state, size_t state_len, uint32_t jacks, uint32_t streams, uint32_t chmaps);
 uint64_t snd_new_guarded(uint8_t *state, size_t state_len, uint32_t jacks, uint32_t streams, uint32_t chmaps);
 uint64_t snd_ring_new(uint8_t *ring, size_t ring_len);
+uint64_t snd_ring_new_indirect(uint8_t *ring, size_t ring_len);
 
 /* The configured counts: 8 bytes of result. */
 uint64_t snd_jacks(const uint8_t *state, size_t state_len, uint8_t *result, size_t result_len);
@@ -196,8 +207,8 @@ uint64_t snd_trace_length(const uint8_t *ring, size_t ring_len, uint8_t *result,
  *
  * snd_trace_scan: 0, or 18 where it is empty, or a field of it has an unknown tag, a wrong length or is
  * cut. snd_judge: 0 exactly where some readings and some budget make the turns write that very trace;
- * 1 a mode that is none: the mode is how many descriptors a submission takes, 3; then 18, over the whole
- * trace; then 19.
+ * 1 a mode that is none: the mode is how many descriptors a submission takes, SND_DIRECT or SND_INDIRECT;
+ * then 18, over the whole trace; then 19.
  *
  * The two that end in _at answer the offset of the other's refusal, and 0 where it has none, as it is:
  * of 18 that of the field, 0 of an empty trace; of 19 that of the first byte through which no run's
@@ -268,10 +279,11 @@ uint64_t snd_ring_accepted(const uint8_t *ring, size_t ring_len, uint8_t *result
 /* Submissions that do not wait: a period goes out, and the console goes on.
  *
  * snd_pcm_xfer_nb copies stream id, 4 bytes least first, and the payload, which is one whole period, to
- * the front of the lowest free place of `places`: SND_PLACES of places_len / SND_PLACES bytes each. No
- * other byte of it changes. Result: the place's number, 8, which is the token. These 4 + period bytes
- * are for the device to read, in one descriptor, then 8 bytes for it to write, as above. Lend the same
- * store each time: what is pending stands there and stays until it is finished.
+ * the front of the lowest free place of `places`: SND_PLACES of places_len / SND_PLACES bytes each, or
+ * SND_PLACES_INDIRECT of them, as the ring is. No other byte of it changes. 15 where all of them are
+ * taken. Result: the place's number, 8, which is the token. These 4 + period bytes are for the device to
+ * read, in one descriptor, then 8 bytes for it to write, as above. Lend the same store each time: what is
+ * pending stands there and stays until it is finished.
  *
  * snd_pcm_xfer_mark takes what was seen on the queue: kind 0 is a quiet reading, any other a completed
  * token with its status. snd_pcm_xfer_ok takes a token that was marked, in any order, frees its place

@@ -14,6 +14,8 @@ pub struct Case {
     pub strict: bool,
     /// the state is made with the guard over each stream's lifecycle
     pub guard: bool,
+    /// indirect descriptors are negotiated: the ring is made for them
+    pub indirect: bool,
     pub steps: Vec<Step>,
 }
 

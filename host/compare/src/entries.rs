@@ -25,7 +25,7 @@ pub trait Entries {
     fn lend(&mut self, lent: Lent);
 
     fn make(&mut self, counts: [u32; 3], guard: bool) -> u64;
-    fn ring_new(&mut self) -> u64;
+    fn ring_new(&mut self, indirect: bool) -> u64;
     /// jacks 0, streams 1, maps 2
     fn count(&self, which: usize, result: &mut [u8]) -> u64;
     fn call(&mut self, call: Call, message: &mut [u8], result: &mut [u8]) -> u64;

@@ -10,6 +10,7 @@ unsafe extern "C" {
     pub fn snd_new(state: *mut u8, state_len: usize, jacks: u32, streams: u32, chmaps: u32) -> u64;
     pub fn snd_new_guarded(state: *mut u8, state_len: usize, jacks: u32, streams: u32, chmaps: u32) -> u64;
     pub fn snd_ring_new(ring: *mut u8, ring_len: usize) -> u64;
+    pub fn snd_ring_new_indirect(ring: *mut u8, ring_len: usize) -> u64;
     pub fn snd_jacks(state: *const u8, state_len: usize, result: *mut u8, result_len: usize) -> u64;
     pub fn snd_streams(state: *const u8, state_len: usize, result: *mut u8, result_len: usize) -> u64;
     pub fn snd_chmaps(state: *const u8, state_len: usize, result: *mut u8, result_len: usize) -> u64;

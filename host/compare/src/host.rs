@@ -5,7 +5,8 @@ use crate::entries::Entries;
 use crate::outside::{Device, Scripted, resolve};
 use oracle::{Control, End, Inside};
 use rules::entries::{Asked, GOING, NOTHING, RESULT_SIZE, SEND};
-use rules::pending::{PLACES, TOKENS};
+use rules::pending::{TOKENS, places_of};
+use rules::ring::{Mode, SLOTS};
 use rules::sound::Call;
 use rules::wire::{STATUS_OK, u32_at, u64_at};
 use rules::{BAD_CAPTURE, BAD_LENGTH, BAD_STATE, FULL, IO_ERROR, MESSAGE, NOT_YET, OUT_OF_TURNS, PAGE};
@@ -19,6 +20,7 @@ pub struct Host<E> {
     page: Vec<u8>,
     model: bool,
     strict: bool,
+    mode: Mode,
     /// those of what does not wait, and where in them each token's bytes stand
     places: Vec<u8>,
     out: [(usize, usize); TOKENS],
@@ -84,14 +86,16 @@ impl<E: Entries> Device for E {
 impl<E: Entries> Host<E> {
     pub fn new(case: &Case) -> Self {
         let mut entries = E::fresh();
-        assert_eq!((entries.make(case.counts, case.guard), entries.ring_new()), (0, 0), "whole stores are taken");
+        let made = (entries.make(case.counts, case.guard), entries.ring_new(case.indirect));
+        assert_eq!(made, (0, 0), "whole stores are taken");
         if let Some(seed) = case.model {
             let tables = model_tables(case.counts, seed).map(|rows| rows.concat());
             assert_eq!(entries.model_new([&tables[0], &tables[1], &tables[2]]), 0, "good tables are taken");
         }
         let (page, model) = (vec![0; PAGE], case.model.is_some());
         let (places, out, stray) = (vec![], [(0, 0); TOKENS], vec![]);
-        Host { entries, page, model, strict: case.strict, places, out, good: 0, accepted: vec![], stray }
+        let (strict, mode) = (case.strict, if case.indirect { Mode::Indirect } else { Mode::Direct });
+        Host { entries, page, model, strict, mode, places, out, good: 0, accepted: vec![], stray }
     }
 
     fn note(&mut self, fine: bool, what: &str) {
@@ -166,6 +170,14 @@ impl<E: Entries> Host<E> {
         (0..count).map(|i| ((oldest + i) % 32) as u16).collect()
     }
 
+    /// How many descriptors are free, as the crate tells it to its driver: of indirect ones all, while one is.
+    fn free(&mut self) -> usize {
+        let (free, held) = (self.read(Asked::FreeDescriptors)[0], self.read(Asked::InFlight)[0]);
+        self.note(free + self.mode.per() * held == SLOTS as u64, "the ring tells another number of free descriptors");
+        let all = self.mode == Mode::Indirect && free > 0;
+        if all { SLOTS } else { free as usize }
+    }
+
     /// What the ring tells of good completions is what was seen of them.
     fn heard(&mut self) {
         let [told, _] = self.read(Asked::Accepted);
@@ -201,8 +213,8 @@ impl<E: Entries> Host<E> {
         let number = self.entries.offered(&frames, &mut result);
         self.note(number == 0 && untouched(&result[32..]), "offered refuses, or writes beyond its result");
         let mut flight = self.in_flight();
-        let free = self.read(Asked::FreeDescriptors)[0];
-        if !script.turn(free as usize) {
+        let free = self.free();
+        if !script.turn(free) {
             return None;
         }
         let [there, slot, offset, length] = [0, 8, 16, 24].map(|at| u64_at(&result, at));
@@ -264,7 +276,8 @@ impl<E: Entries> Host<E> {
         let number = self.entries.capture_offered(recording, &mut result);
         self.note(number == 0 && untouched(&result[24..]), "a capture's offer refuses, or writes beyond its result");
         let mut flight = self.in_flight();
-        if !script.turn(self.read(Asked::FreeDescriptors)[0] as usize) {
+        let free = self.free();
+        if !script.turn(free) {
             return None;
         }
         let [there, slot, length] = [0, 8, 16].map(|at| u64_at(&result, at));
@@ -382,8 +395,9 @@ impl<E: Entries> Host<E> {
             return ended(number, vec![]);
         }
         let (token, length) = (u64_at(&lent.result, 0), payload.len() + 4);
-        let at = (token as usize).min(PLACES) * (lent_places / PLACES);
-        let fits = token < PLACES as u64 && at + length <= lent_places;
+        let count = places_of(self.mode);
+        let at = (token as usize).min(count) * (lent_places / count);
+        let fits = token < count as u64 && at + length <= lent_places;
         self.note(fits && untouched(&lent.result[8..]), "a token that is no place, or more than a token");
         if fits {
             let mut expected = before;

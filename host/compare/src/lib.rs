@@ -6,6 +6,7 @@ pub mod entries;
 mod ffi;
 pub mod guarded;
 pub mod host;
+pub mod indirect;
 pub mod judge;
 pub mod outside;
 pub mod pending;

@@ -8,7 +8,7 @@ use compare::plain::Plain;
 use compare::port::Port;
 use compare::run::{Counts, With, report, run};
 use compare::waves::{self, Kinds};
-use compare::{captures, guarded, pending, raw, record, rust, short, shown, stages, traces, versions};
+use compare::{captures, guarded, indirect, pending, raw, record, rust, short, shown, stages, traces, versions};
 use options::{Options, Run, Seeds, USAGE, options};
 use std::process::exit;
 use std::time::Instant;
@@ -18,6 +18,8 @@ const CASES: Seeds = 1..=60_000;
 const STRICT: Seeds = 1..=10_000;
 const GUARD: Seeds = 1..=10_000;
 const PENDING: Seeds = 1..=10_000;
+/// With indirect descriptors, of all these kinds.
+const INDIRECT: Seeds = 1..=15_000;
 /// A million turns of captures and more.
 const CAPTURES: Seeds = 1..=10_000;
 const ENTRIES: Seeds = 1..=8_000;
@@ -48,11 +50,12 @@ fn main() {
         Run::Case(case) => finish(one(&case, with)),
         Run::Short => finish(short_cases(with)),
         Run::Differences => finish(shown::print() == 0),
-        Run::Random { cases, strict, guard, pending, captures, entries, waves, traces } => {
+        Run::Random { cases, strict, guard, pending, indirect, captures, entries, waves, traces } => {
             let agreed = cases.is_none_or(|seeds| random_cases(with, seeds));
             let agreed = agreed && strict.is_none_or(|seeds| strict_cases(with, seeds));
             let agreed = agreed && guard.is_none_or(|seeds| guarded_cases(with, seeds));
             let agreed = agreed && pending.is_none_or(|seeds| pending_cases(with, seeds));
+            let agreed = agreed && indirect.is_none_or(|seeds| indirect_cases(with, seeds));
             let agreed = agreed && captures.is_none_or(|seeds| capture_cases(with, seeds));
             let agreed = agreed && entries.is_none_or(random_entries);
             let agreed = agreed && waves.is_none_or(|seeds| random_waves(seeds) && large_waves());
@@ -76,7 +79,8 @@ fn finish(agreed: bool) -> ! {
 fn gate(with: With, short: bool) -> bool {
     let short = !short || short_cases(with);
     let random = random_cases(with, CASES) && strict_cases(with, STRICT) && guarded_cases(with, GUARD);
-    let random = random && pending_cases(with, PENDING) && (!with.port || capture_cases(with, CAPTURES));
+    let random = random && pending_cases(with, PENDING) && indirect_cases(with, INDIRECT);
+    let random = random && (!with.port || capture_cases(with, CAPTURES));
     let entries = !with.port || entries_by_stage() && random_entries(ENTRIES);
     let waves = !with.port || random_waves(WAVES) && large_waves();
     let traces = !with.port || random_traces(TRACES) && every_byte_of_traces();
@@ -113,6 +117,8 @@ fn short_cases(with: With) -> bool {
         .chain(guarded::GROUPS)
         .chain(pending::GROUPS)
         .chain(captures::GROUPS)
+        .chain(indirect::GROUPS)
+        .chain([indirect::CAPTURES])
     {
         group(&mut |case| agreed = agreed && agrees(&case, with, &mut counts));
     }
@@ -146,6 +152,10 @@ fn pending_cases(with: With, seeds: Seeds) -> bool {
     from_seeds("pending", compare::random::pending, with, seeds)
 }
 
+fn indirect_cases(with: With, seeds: Seeds) -> bool {
+    from_seeds("indirect", compare::random::indirect, with, seeds)
+}
+
 fn capture_cases(with: With, seeds: Seeds) -> bool {
     from_seeds("captures", compare::random::capture, with, seeds)
 }
@@ -162,6 +172,7 @@ fn from_seeds(option: &str, made: fn(u64) -> Case, with: With, seeds: Seeds) -> 
         "strict" => "random cases in strict mode",
         "guard" => "random cases under the guard",
         "pending" => "random cases of what does not wait",
+        "indirect" => "random cases with indirect descriptors",
         "captures" => "random cases of captures",
         _ => "random cases",
     };

@@ -10,6 +10,7 @@ compare --cases N --seed S   N random cases from seed S; case i has seed S + i, 
 compare --strict N --seed S  the same in strict mode
 compare --guard N --seed S   the same under the guard
 compare --pending N --seed S the same of what does not wait
+compare --indirect N --seed S the same with indirect descriptors
 compare --captures N --seed S the same of captures, the port against the rules
 compare --short              the short cases alone
 compare --entries N --seed S N sequences of single entries, the port against the rules
@@ -26,12 +27,13 @@ pub enum Run {
         short: bool,
     },
     Short,
-    /// random cases, those of strict mode, those under the guard, those of what does not wait, those of captures, sequences of entries, WAVE files, and traces, by their seeds
+    /// random cases, those of strict mode, those under the guard, those of what does not wait, those with indirect descriptors, those of captures, sequences of entries, WAVE files, and traces, by their seeds
     Random {
         cases: Option<Seeds>,
         strict: Option<Seeds>,
         guard: Option<Seeds>,
         pending: Option<Seeds>,
+        indirect: Option<Seeds>,
         captures: Option<Seeds>,
         entries: Option<Seeds>,
         waves: Option<Seeds>,
@@ -52,11 +54,12 @@ pub struct Options {
 }
 
 const WORDS: [&str; 5] = ["--short", "--differences", "--no-port", "--no-rust", "--no-short"];
-const WITH_VALUE: [&str; 13] = [
+const WITH_VALUE: [&str; 14] = [
     "--cases",
     "--strict",
     "--guard",
     "--pending",
+    "--indirect",
     "--captures",
     "--entries",
     "--wav",
@@ -68,8 +71,8 @@ const WITH_VALUE: [&str; 13] = [
     "--replay",
 ];
 /// These go together; of all others one at a time.
-const SEEDED: [&str; 8] =
-    ["--cases", "--strict", "--guard", "--pending", "--captures", "--entries", "--wav", "--traces"];
+const SEEDED: [&str; 9] =
+    ["--cases", "--strict", "--guard", "--pending", "--indirect", "--captures", "--entries", "--wav", "--traces"];
 const OTHERS: [&str; 6] = ["--short", "--differences", "--case", "--record", "--check", "--replay"];
 
 /// The options given, each with its value, if it takes one.
@@ -123,7 +126,7 @@ impl Given {
         let file = |name| self.value(name).unwrap_or_default().to_string();
         if self.has("--seed") && !SEEDED.iter().any(|name| self.has(name)) {
             return Err(
-                "--seed goes with --cases, --strict, --guard, --pending, --captures, --entries, --wav or --traces"
+                "--seed goes with --cases, --strict, --guard, --pending, --indirect, --captures, --entries, --wav or --traces"
                     .into(),
             );
         }
@@ -140,6 +143,7 @@ impl Given {
                 strict: self.seeds("--strict")?,
                 guard: self.seeds("--guard")?,
                 pending: self.seeds("--pending")?,
+                indirect: self.seeds("--indirect")?,
                 captures: self.seeds("--captures")?,
                 entries: self.seeds("--entries")?,
                 waves: self.seeds("--wav")?,

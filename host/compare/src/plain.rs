@@ -4,7 +4,7 @@ use oracle::Inside;
 use rules::capture::Heard;
 use rules::entries::{self as e, Asked, Store, number};
 use rules::model::Model;
-use rules::ring::{Reading, Ring};
+use rules::ring::{Mode, Reading, Ring};
 use rules::sound::{Call, Fed, Sound};
 use rules::versions;
 
@@ -65,11 +65,11 @@ impl Entries for Plain {
         self.sound = if guard { Sound::new_guarded(counts) } else { Sound::new(counts) };
         0
     }
-    fn ring_new(&mut self) -> u64 {
+    fn ring_new(&mut self, indirect: bool) -> u64 {
         if self.lent.ring < e::RING_SIZE {
             return rules::BAD_LENGTH as u64;
         }
-        self.ring = Ring::default();
+        self.ring = Ring::new(if indirect { Mode::Indirect } else { Mode::Direct });
         0
     }
     fn count(&self, which: usize, result: &mut [u8]) -> u64 {

@@ -87,9 +87,10 @@ impl Entries for Port {
         let (s, sn) = lend!(mut self.state[LEAD..][..self.lent.state]);
         unsafe { entry(s, sn, jacks, streams, maps) }
     }
-    fn ring_new(&mut self) -> u64 {
+    fn ring_new(&mut self, indirect: bool) -> u64 {
+        let entry = if indirect { snd_ring_new_indirect } else { snd_ring_new };
         let (r, rn) = lend!(mut self.ring[LEAD..][..self.lent.ring]);
-        unsafe { snd_ring_new(r, rn) }
+        unsafe { entry(r, rn) }
     }
     fn count(&self, which: usize, result: &mut [u8]) -> u64 {
         let entry = [snd_jacks, snd_streams, snd_chmaps][which];

@@ -9,8 +9,8 @@ use crate::port::{LEAD, PAST, Port};
 use crate::random::STATUSES;
 use crate::stages;
 use rules::entries::{Asked, GUARD, LIVES, RESULT_SIZE, STATE_RESERVED, TOKENS};
-use rules::pending::{PLACES, TOKEN_SIZE, Token, WAITS};
-use rules::ring::Way;
+use rules::pending::{PLACES, TOKEN_SIZE, Token, WAITS, places_of};
+use rules::ring::{Mode, Way};
 use rules::sound::{Call, Params};
 use rules::trace::room_for;
 use rules::{FIT, MESSAGE, PAGE, wire};
@@ -32,6 +32,7 @@ pub enum What {
     /// no entry: bytes of the stores become others
     Damage(Damage),
     RingNew,
+    RingNewIndirect,
     Count(usize),
     Call(Call),
     Feed {
@@ -158,7 +159,8 @@ fn enter<E: Entries>(e: &mut E, op: &Op) -> Left {
         What::New(counts) => e.make(*counts, false),
         What::NewGuarded(counts) => e.make(*counts, true),
         What::Damage(_) => 0,
-        What::RingNew => e.ring_new(),
+        What::RingNew => e.ring_new(false),
+        What::RingNewIndirect => e.ring_new(true),
         What::Count(which) => e.count(*which, o),
         What::Call(call) => e.call(*call, m, o),
         What::Feed { status, body, len } => e.feed(&page(*status, body, *len), m, o),
@@ -219,7 +221,8 @@ fn enter<E: Entries>(e: &mut E, op: &Op) -> Left {
 fn keeps(what: &What, left: &Left, open: bool) -> bool {
     let number = left.number as u32;
     match what {
-        What::New(_) | What::NewGuarded(_) | What::RingNew | What::ModelNew(_) => number != 0,
+        What::New(_) | What::NewGuarded(_) | What::ModelNew(_) => number != 0,
+        What::RingNew | What::RingNewIndirect => number != 0,
         What::Call(_) => number < 256 && number != 0,
         What::Feed { .. } | What::FeedWritten { .. } | What::FeedFailure => number == 10 || (number == 1 && !open),
         What::Start { .. } | What::StartTraced { .. } | What::CaptureStart { .. } => number < 256,
@@ -240,7 +243,7 @@ fn writes(what: &What) -> [bool; 3] {
     match what {
         What::New(_) | What::NewGuarded(_) => [true, false, false],
         What::Call(_) | What::Feed { .. } | What::FeedWritten { .. } | What::FeedFailure => [true, false, false],
-        What::RingNew | What::Turn { .. } | What::Drain { .. } => [false, true, false],
+        What::RingNew | What::RingNewIndirect | What::Turn { .. } | What::Drain { .. } => [false, true, false],
         What::TurnTraced { .. } | What::CaptureTurn { .. } => [false, true, false],
         What::Start { .. } | What::StartTraced { .. } | What::CaptureStart { .. } => [true, true, false],
         What::Submit { .. } | What::Mark { .. } | What::Finish(_) => [true, false, false],
@@ -277,6 +280,8 @@ pub enum Damage {
     Guard,
     /// a token's state and status become these
     Token(usize, u32, u32),
+    /// the descriptors of a submission: the first byte of a ring
+    Per(u8),
 }
 
 #[derive(Clone)]
@@ -304,6 +309,10 @@ impl Pair {
                 let bits = if at == 0 { bits & !GUARD } else { bits };
                 port.state[LEAD + STATE_RESERVED + at] |= bits;
                 rules.sound.reserved[at] |= bits;
+            }
+            Damage::Per(per) => {
+                port.ring[LEAD] = per;
+                rules.ring.per = per.into();
             }
             Damage::Life(stream, life) => {
                 port.state[LEAD + LIVES + stream] = life;
@@ -418,6 +427,7 @@ fn what(rng: &mut Rng, guide: &Plain) -> What {
         0 if rng.one_in(8) => What::NewGuarded(counts(rng)),
         0 if rng.one_in(8) => What::Damage(damage(rng)),
         1 if rng.one_in(12) => What::RingNew,
+        1 if rng.one_in(11) => What::RingNewIndirect,
         2 => What::Count(rng.below(3) as usize),
         3..=8 if open => feed(rng, guide),
         3 => feed(rng, guide),
@@ -472,7 +482,8 @@ fn submit(rng: &mut Rng, guide: &Plain) -> What {
     let stream = if set.is_empty() || rng.one_in(6) { rng.below(4) as u32 } else { rng.pick(&set) };
     let period = guide.sound.params.get(&stream).map_or(3, |params| params.period);
     let payload = if rng.one_in(9) { rng.below(u64::from(period) + 3) as u32 } else { period };
-    let room = PLACES * (period as usize + 4);
+    let count = Mode::of(guide.ring.per).map_or(PLACES, places_of);
+    let room = count * (period as usize + 4);
     let places = match rng.below(12) {
         0 => rng.below(17) as usize,
         1 => room - 1 - rng.below(16) as usize,
@@ -482,8 +493,11 @@ fn submit(rng: &mut Rng, guide: &Plain) -> What {
     What::Submit { stream, payload, places }
 }
 
-/// Of the guard, of streams' states and of tokens alone, so that most stores are still taken.
+/// Of the guard, of streams' states, of tokens and of the mode alone, so that most stores are still taken.
 fn damage(rng: &mut Rng) -> Damage {
+    if rng.one_in(6) {
+        return Damage::Per(rng.pick(&[1, 1, 1, 3, 3, 3, 0, 2]));
+    }
     if rng.one_in(4) {
         return Damage::Guard;
     }
@@ -719,6 +733,8 @@ fn begun(rng: &mut Rng) -> Vec<Op> {
         stages::pending_life,
         stages::capture_life,
         stages::traced_life,
+        stages::indirect_life,
+        stages::indirect_pending_life,
     ])();
     let length = rng.below(life.len() as u64 + 1) as usize;
     life.into_iter().take(length).map(stages::whole).collect()

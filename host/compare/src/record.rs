@@ -7,7 +7,7 @@ use crate::plain::Plain;
 use crate::port::Port;
 use crate::rust::Rust;
 use crate::text::{case_of, case_text, hex, step_text};
-use crate::{guarded, pending, random, short};
+use crate::{guarded, indirect, pending, random, short};
 use oracle::End;
 
 fn list<T>(items: &[T], text: impl Fn(&T) -> String) -> String {
@@ -127,6 +127,17 @@ const PENDING: [(&str, usize); 7] = [
     ("pending, played", 5),
 ];
 
+/// The same with indirect descriptors.
+const INDIRECT_SEEDS: u64 = 60;
+const INDIRECT: [(&str, usize); 6] = [
+    ("indirect, as before", 401),
+    ("indirect, rounds", 23),
+    ("indirect, full", 101),
+    ("indirect, places", 37),
+    ("indirect, tokens", 5),
+    ("indirect, pending", 29),
+];
+
 /// The cases of the recorded list; those of document 02 came later, and stand after all others.
 fn cases() -> Vec<Case> {
     let mut all = vec![];
@@ -138,6 +149,8 @@ fn cases() -> Vec<Case> {
     all.extend((0..GUARD_SEEDS).map(random::guarded));
     some_of(&pending::GROUPS, &PENDING, &mut all);
     all.extend((0..PENDING_SEEDS).map(random::pending));
+    some_of(&indirect::GROUPS, &INDIRECT, &mut all);
+    all.extend((0..INDIRECT_SEEDS).map(random::indirect));
     all
 }
 

@@ -11,7 +11,8 @@ pub type Sink<'a> = &'a mut dyn FnMut(Case);
 pub type Group = (&'static str, fn(Sink));
 
 pub(crate) fn device(counts: [u32; 3], steps: Vec<Step>) -> Case {
-    Case { counts, tokens: Tokens::Descriptors, model: None, strict: false, guard: false, steps }
+    let (model, strict, guard, indirect) = (None, false, false, false);
+    Case { counts, tokens: Tokens::Descriptors, model, strict, guard, indirect, steps }
 }
 
 pub(crate) fn control(call: Call, answers: Vec<Answer>) -> Step {

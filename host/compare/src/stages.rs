@@ -5,7 +5,7 @@ use crate::case::{Body, Kind};
 use crate::entries::Lent;
 use crate::raw::{Damage, Op, Pair, What};
 use rules::entries::{Asked, RESULT_SIZE};
-use rules::pending::PLACES;
+use rules::pending::{PLACES, PLACES_INDIRECT};
 use rules::sound::{Call, Params};
 use rules::{MESSAGE, PAGE, RESERVED, wire};
 
@@ -156,6 +156,33 @@ pub fn pending_life() -> Vec<What> {
     all
 }
 
+/// Set up with a ring for indirect descriptors, then 33 periods of which none comes back until 32 are out; the rest, and one that fails.
+pub fn indirect_life() -> Vec<What> {
+    let start = What::Start { stream: 0, frames: 4 * 33, budget: 90 };
+    let mut all = life()[..8].to_vec();
+    all.extend([What::RingNewIndirect, start.clone()]);
+    all.extend(vec![turn(4 * 33, 0, 0, 0); 34]);
+    all.extend((0..34).map(|slot| turn(4 * 33, 1, slot % 32, wire::STATUS_OK)));
+    all.push(start);
+    all.extend(vec![turn(4 * 33, 0, 0, 0); 32]);
+    all.push(turn(4 * 33, 1, 0, 0x8003));
+    all.extend((1..32).map(|slot| What::Drain { kind: 1, slot, status: 0 }));
+    all.push(What::Start { stream: 0, frames: 10, budget: 5 });
+    all
+}
+
+/// The same, then submissions that do not wait up to Full at 32, marked and finished.
+pub fn indirect_pending_life() -> Vec<What> {
+    let (count, room) = (PLACES_INDIRECT, PLACES_INDIRECT * 8);
+    let mut all = life()[..8].to_vec();
+    all.push(What::RingNewIndirect);
+    all.extend(vec![submit(0, 4, room); count + 1]);
+    all.extend((0..count as u32).map(|token| mark(token, wire::STATUS_OK)));
+    all.extend((0..count as u32).rev().map(What::Finish));
+    all.push(What::Start { stream: 0, frames: 10, budget: 5 });
+    all
+}
+
 fn pendings() -> Vec<What> {
     let room = PLACES * 8;
     let mut all = vec![What::PendingCount, What::Mark { kind: 0, token: 0, status: 0x8003 }];
@@ -163,6 +190,9 @@ fn pendings() -> Vec<What> {
         all.push(submit(0, payload, places));
     }
     all.extend([submit(1, 4, room), submit(2, 4, room)]);
+    for more in [0, 1, 31] {
+        all.extend([submit(0, 4, 2 * room + more), submit(0, 4, 2 * room - 1 - more)]);
+    }
     for token in [0, 1, 15, 16, 31, 32, 99, u32::MAX] {
         all.extend([mark(token, wire::STATUS_OK), mark(token, 0x8003), What::Finish(token), What::PendingToken(token)]);
     }
@@ -182,8 +212,8 @@ fn calls() -> Vec<What> {
 }
 
 fn rings() -> Vec<What> {
-    let mut all = vec![What::RingNew];
-    for frames in [9, 10, 11] {
+    let mut all = vec![What::RingNew, What::RingNewIndirect];
+    for frames in [9, 10, 11, 4 * 33] {
         all.extend([What::Offered { frames }, turn(frames, 0, 0, 0)]);
         all.extend((0..4).map(|slot| turn(frames, 1, slot, wire::STATUS_OK)));
     }
@@ -264,6 +294,7 @@ fn damages() -> Vec<Damage> {
     all.extend((1..8).map(|at| Damage::State(0, bit(at))));
     all.extend([0, 1, 2, 3, 4, 5, 255].map(|life| Damage::Life(0, life)));
     all.push(Damage::Guard);
+    all.extend([0, 1, 2, 3, 4, 255].map(Damage::Per));
     for (at, state) in [(0, 0), (0, 1), (0, 2), (0, u32::MAX), (15, 1), (16, 3), (31, 1), (31, 256)] {
         all.push(Damage::Token(at, state, 0x8003));
     }
@@ -276,11 +307,19 @@ pub fn all() -> Result<u64, String> {
     let lives = along(life(), "life", all)? + along(guarded_life(), "guarded_life", all)?;
     let captures = along(capture_life(), "capture_life", |at| at >= CAPTURES_FROM)?;
     let lives = lives + along(traced_life(), "traced_life", |at| at >= CAPTURES_FROM)?;
+    let lives = lives + along(indirect_life(), "indirect_life", |at| INDIRECT_STAGES.contains(&at))?;
+    let lives = lives + along(indirect_pending_life(), "indirect_pending_life", |at| PLACES_STAGES.contains(&at))?;
     Ok(lives + captures + along(pending_life(), "pending_life", |at| PENDING_STAGES.contains(&at))?)
 }
 
 /// Of the third, where one token is out, where one is marked, where all are out, where all are marked, and where a transfer runs again.
 const PENDING_STAGES: [usize; 5] = [8, 10, 26, 42, 59];
+
+/// With indirect descriptors, where the ring is new, where a transfer runs, where 10, 11, 32 and 32 are out for good, where one came back, where
+/// it is done, where one failed, and where all are drained.
+const INDIRECT_STAGES: [usize; 10] = [8, 9, 19, 20, 41, 43, 44, 77, 111, 142];
+/// And where one token is out, 16, 17, all of them, all marked, and where a transfer runs again.
+const PLACES_STAGES: [usize; 6] = [9, 24, 25, 41, 73, 106];
 
 /// Of those of captures and of traces, from the first of them on.
 const CAPTURES_FROM: usize = 8;

@@ -1,7 +1,8 @@
-//! Cases as text, one a line: `JACKS STREAMS MAPS slots|descriptors [model SEED] [strict] [guard] | STEP ; STEP ..`
+//! Cases as text, one a line: `JACKS STREAMS MAPS slots|descriptors [model SEED] [strict] [guard] [indirect] | STEP ; STEP ..`
 //!
 //! With `strict` each feed carries the length that was written: WROTE, a page where it is not named, or what the model says. One of more than a
-//! page is refused, and the next answer is to the same request. With `guard` the state is made by `snd_new_guarded`.
+//! page is refused, and the next answer is to the same request. With `guard` the state is made by `snd_new_guarded`, with `indirect` the ring by
+//! `snd_ring_new_indirect`.
 //!
 //! STEP = CALL [< ANSWER ..]. Calls: `remap JACK ASSOCIATION SEQUENCE`, `set STREAM BUFFER PERIOD FEATURES CHANNELS FORMAT RATE`,
 //! `prepare|release|start|stop STREAM`, `outputs`, `inputs`, `rates|formats|channels|features STREAM`, `counts`,
@@ -261,7 +262,8 @@ pub fn device_text(case: &Case) -> String {
     let model = case.model.map_or(String::new(), |seed| format!(" model {seed}"));
     let strict = if case.strict { " strict" } else { "" };
     let guard = if case.guard { " guard" } else { "" };
-    format!("{j} {s} {m} {tokens}{model}{strict}{guard}")
+    let indirect = if case.indirect { " indirect" } else { "" };
+    format!("{j} {s} {m} {tokens}{model}{strict}{guard}{indirect}")
 }
 
 pub fn case_text(case: &Case) -> String {
@@ -275,7 +277,7 @@ pub fn case_of(text: &str) -> Case {
     let counts = [number(words[0]), number(words[1]), number(words[2])];
     let tokens = if words[3] == "slots" { Tokens::Slots } else { Tokens::Descriptors };
     let model = words.iter().skip_while(|word| **word != "model").nth(1).map(|seed| number(seed));
-    let (strict, guard) = (words.contains(&"strict"), words.contains(&"guard"));
+    let [strict, guard, indirect] = ["strict", "guard", "indirect"].map(|word| words.contains(&word));
     let steps = steps.split(';').map(str::trim).filter(|step| !step.is_empty()).map(step_of).collect();
-    Case { counts, tokens, model, strict, guard, steps }
+    Case { counts, tokens, model, strict, guard, indirect, steps }
 }

@@ -10,8 +10,9 @@ use crate::random::STATUSES;
 use crate::text::hex;
 use rules::differences::{Difference, ENTRY, applied};
 use rules::entries::{Asked, GOING, RESULT_SIZE};
+use rules::ring::Mode;
 use rules::sound::{Call, Params};
-use rules::trace::{Field, bytes, room_for, scan};
+use rules::trace::{Field, bytes, judge_of, room_for, scan};
 use rules::wire::{self, STATUS_OK, u64_at};
 use rules::{MESSAGE, PAGE};
 use std::collections::BTreeMap;
@@ -19,8 +20,8 @@ use std::collections::BTreeMap;
 const FILL: u8 = 0x6d;
 /// Changes of each trace that was written.
 const CHANGES: usize = 5;
-/// The mode of three descriptors a submission, mostly.
-const MODE: u32 = 3;
+/// The modes: how many descriptors a submission takes.
+const MODES: [u32; 2] = [3, 1];
 
 /// What was tried: traced transfers and their turns, how each ended, and what was said of how many traces.
 #[derive(Clone, Debug, Default)]
@@ -43,11 +44,11 @@ impl Tally {
     }
 }
 
-/// A driver that is set up; its only stream has this period.
-fn ready<E: Entries>(period: u32) -> E {
+/// A driver that is set up, with a ring of a mode; its only stream has this period.
+fn ready<E: Entries>(period: u32, indirect: bool) -> E {
     let mut e = E::fresh();
     let (mut message, mut result) = ([0; MESSAGE], [0; RESULT_SIZE]);
-    assert_eq!((e.make([0, 1, 0], false), e.ring_new()), (0, 0));
+    assert_eq!((e.make([0, 1, 0], false), e.ring_new(indirect)), (0, 0));
     let page = [&STATUS_OK.to_le_bytes()[..], &Body::of(Kind::Zero, 0).bytes()].concat();
     assert_eq!(page.len(), PAGE);
     let params = Params { buffer: period, period, features: 0, channels: 1, format: 4, rate: 1 };
@@ -73,8 +74,8 @@ fn told<E: Entries>(e: &E) -> [(u64, u64); 2] {
 }
 
 impl Both {
-    fn new(period: u32, room: usize) -> Self {
-        Both { port: (ready(period), vec![FILL; room]), rules: (ready(period), vec![FILL; room]) }
+    fn new(period: u32, room: usize, indirect: bool) -> Self {
+        Both { port: (ready(period, indirect), vec![FILL; room]), rules: (ready(period, indirect), vec![FILL; room]) }
     }
 
     /// The same answer, room, length and number of good completions after an entry that both made.
@@ -137,7 +138,7 @@ fn read(rng: &mut Rng, profile: u64, oldest: u64) -> (u32, u32, u32) {
 /// A transfer that writes a trace; mostly to its end. What it wrote.
 fn written(rng: &mut Rng, tally: &mut Tally) -> Result<Vec<u8>, String> {
     let period = rng.pick(&[1u32, 1, 2, 3, 4, 5, 300]);
-    let periods = rng.pick(&[0u32, 1, 1, 2, 2, 3, 4, 9, 10, 11, 12, 33]);
+    let periods = rng.pick(&[0u32, 1, 1, 2, 2, 3, 4, 9, 10, 11, 12, 33, 40]);
     let frames = vec![0; (periods * period).saturating_sub(rng.below(u64::from(period)) as u32) as usize];
     let need = room_for(frames.len() as u64, period.into()) as usize;
     let room = match rng.below(12) {
@@ -147,7 +148,8 @@ fn written(rng: &mut Rng, tally: &mut Tally) -> Result<Vec<u8>, String> {
         _ => need,
     };
     let budget = rng.pick(&[0, 1, 2, 5, 20, 200, 200, u64::MAX]);
-    let (mut both, stream) = (Both::new(period, room), if rng.one_in(30) { 1 } else { 0 });
+    let indirect = rng.one_in(2);
+    let (mut both, stream) = (Both::new(period, room, indirect), if rng.one_in(30) { 1 } else { 0 });
     tally.transfers += 1;
     let mut said = both.start(stream, &frames, budget)?;
     let (profile, stops) = (rng.below(3), rng.one_in(12));
@@ -167,8 +169,9 @@ fn written(rng: &mut Rng, tally: &mut Tally) -> Result<Vec<u8>, String> {
     *tally.ends.entry(said as u32 as u64).or_default() += 1;
     drained(&mut both)?;
     let trace = both.rules.1[..both.rules.0.ring.traced as usize].to_vec();
-    if trace.len() > 15 && said != GOING && rules::trace::judge(&trace).is_err() {
-        return Err(format!("the rules refuse what they wrote: {}", hex(&trace)));
+    let mode = if indirect { Mode::Indirect } else { Mode::Direct };
+    if trace.len() > 15 && said != GOING && judge_of(mode, &trace).is_err() {
+        return Err(format!("the rules refuse what they wrote, {mode:?}: {}", hex(&trace)));
     }
     Ok(trace)
 }
@@ -195,6 +198,10 @@ pub fn judged(mode: u32, trace: &[u8], tally: &mut Tally) -> Result<(), String> 
     }
     *tally.judged.entry(rules.0).or_default() += 1;
     Ok(())
+}
+
+fn in_each_mode(trace: &[u8], tally: &mut Tally) -> Result<(), String> {
+    MODES.into_iter().try_for_each(|mode| judged(mode, trace, tally))
 }
 
 /// Two traces compared by both, in a room of this length. What is said, and the list where there is one.
@@ -286,14 +293,16 @@ pub fn changed(rng: &mut Rng, trace: &[u8]) -> Vec<u8> {
 pub fn tried(seed: u64, tally: &mut Tally) -> Result<(), String> {
     let mut rng = Rng(seed.wrapping_mul(0x8cb9_2ba7_2f3d_8dd7));
     let trace = written(&mut rng, tally)?;
-    judged(MODE, &trace, tally)?;
+    in_each_mode(&trace, tally)?;
     let mut other = trace.clone();
     for _ in 0..CHANGES {
         // mostly one change, now and then on top of another
         let from = if rng.one_in(3) { other } else { trace.clone() };
         other = changed(&mut rng, &from);
-        let mode = if rng.one_in(50) { rng.pick(&[0, 2, 4, 255, 259, u32::MAX]) } else { MODE };
-        judged(mode, &other, tally)?;
+        in_each_mode(&other, tally)?;
+        if rng.one_in(50) {
+            judged(rng.pick(&[0, 2, 4, 255, 257, 259, u32::MAX]), &other, tally)?;
+        }
         every_room(&trace, &other, tally)?;
     }
     Ok(())
@@ -313,12 +322,12 @@ pub fn each_byte() -> Result<u64, String> {
     let mut tally = Tally::default();
     for trace in traces.map(|fields| bytes(&fields)) {
         for at in 0..trace.len() {
-            judged(MODE, &trace[..at], &mut tally)?;
+            in_each_mode(&trace[..at], &mut tally)?;
             every_room(&trace, &trace[..at], &mut tally)?;
             for byte in 0..=255 {
                 let mut other = trace.clone();
                 other[at] = byte;
-                judged(MODE, &other, &mut tally)?;
+                in_each_mode(&other, &mut tally)?;
                 compared(&trace, &other, 4 * ENTRY, &mut tally)?;
             }
         }
@@ -340,10 +349,10 @@ fn long(tally: &mut Tally) -> Result<(), String> {
         for answer in [0, 9, 6] {
             let mut all = fields.clone();
             all.push(Field::End { answer });
-            judged(MODE, &bytes(&all), tally)?;
+            in_each_mode(&bytes(&all), tally)?;
         }
         let last = wire::words(&[1, 2]);
-        judged(MODE, &[bytes(&fields), last].concat(), tally)?;
+        in_each_mode(&[bytes(&fields), last].concat(), tally)?;
         let end = Field::End { answer: 6 };
         every_room(&bytes(&fields), &bytes(&[&fields[..], &[end]].concat()), tally)?;
         // one field fewer at the front: all others are compared with another

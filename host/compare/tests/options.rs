@@ -32,7 +32,7 @@ fn an_option_has_its_value_once() {
     refused(&["--cases", "1", "--cases", "2"], "--cases is given twice");
     refused(
         &["--seed", "5"],
-        "--seed goes with --cases, --strict, --guard, --pending, --captures, --entries, --wav or --traces",
+        "--seed goes with --cases, --strict, --guard, --pending, --indirect, --captures, --entries, --wav or --traces",
     );
     refused(&["--short", "--check", "x"], "--short, --check: one of these at a time");
 }

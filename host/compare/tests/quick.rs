@@ -1,8 +1,8 @@
 //! The comparison in small, for `cargo test`; the gate's run is the program's own.
 use compare::run::{Counts, With, report, run};
 use compare::{
-    captures, guarded, judge::Intended, pending, random, raw, record, rust, short, shown, stages, text, traces,
-    versions, waves,
+    captures, guarded, indirect, judge::Intended, pending, random, raw, record, rust, short, shown, stages, text,
+    traces, versions, waves,
 };
 
 const WITH: With = With { rust: oracle::AT_HAND, port: true };
@@ -17,7 +17,7 @@ fn agrees(case: compare::case::Case) {
 fn a_case_is_its_text() {
     for seed in 0..400 {
         let cases = [random::case(seed), random::strict(seed), random::guarded(seed), random::pending(seed)];
-        for case in cases.into_iter().chain([random::capture(seed)]) {
+        for case in cases.into_iter().chain([random::capture(seed), random::indirect(seed)]) {
             assert_eq!(text::case_of(&text::case_text(&case)), case);
         }
     }
@@ -44,6 +44,23 @@ fn drivers_agree() {
     pending::meanwhile(&mut agrees);
     pending::played(&mut agrees);
     (0..200).for_each(|seed| agrees(random::pending(seed)));
+}
+
+#[test]
+fn drivers_agree_with_indirect_descriptors() {
+    rust::quiet_panics();
+    for group in [indirect::rounds, indirect::places, indirect::tokens, indirect::pending_as_before] {
+        group(&mut agrees);
+    }
+    (0..600).for_each(|seed| agrees(random::indirect(seed)));
+    let captures = indirect::CAPTURES.1;
+    let mut at = 0;
+    captures(&mut |case| {
+        at += 1;
+        if at % 50 == 0 {
+            agrees(case);
+        }
+    });
 }
 
 #[test]

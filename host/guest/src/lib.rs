@@ -391,7 +391,11 @@ fn values(console: &mut Console) -> u64 {
         1 => Sound::new_guarded(console.number, 1, 2),
         _ => Sound::new_guarded_in(*console.sound.store(), console.number, 1, 2),
     };
-    console.ring = Ring::new();
+    console.ring = match console.length {
+        0 => Ring::new(),
+        1 => Ring::new_indirect(),
+        _ => Ring::new_indirect_in(*console.ring.store()),
+    };
     if let Ok(model) = Model::new(&[[0; 24]], &[[0; 32]], &[]) {
         console.model = model;
     }

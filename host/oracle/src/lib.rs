@@ -20,10 +20,10 @@ pub fn text() -> Vec<(&'static str, String)> {
     files.iter().map(|(name, bytes)| (*name, sha256::hex(bytes))).collect()
 }
 
-/// The driver over a scripted outside; none where the text is not at hand.
-pub fn sound(_counts: [u32; 3], _tokens: Tokens) -> Option<Box<dyn Sound>> {
+/// The driver over a scripted outside, with indirect descriptors or without; none where the text is not at hand.
+pub fn sound(_counts: [u32; 3], _tokens: Tokens, _indirect: bool) -> Option<Box<dyn Sound>> {
     #[cfg(have_rust)]
-    return Some(Box::new(driver::Host::new(_counts, _tokens)));
+    return Some(Box::new(driver::Host::new(_counts, _tokens, _indirect)));
     #[cfg(not(have_rust))]
     None
 }

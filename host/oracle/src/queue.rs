@@ -1,5 +1,7 @@
 //! Stand-in for the crate's virtqueue, after document 01. Assumed:
 //! - 32 descriptors, one for each buffer of a submission; `available_desc` tells how many are free;
+//! - with indirect descriptors one for each submission, whatever its buffers; `available_desc` then tells 32 while one is free and 0 when none
+//!   is, so that a driver which looks for three finds room whenever there is any;
 //! - a completion names what it completes; `pop_used` with another token gives WrongToken and frees nothing, with the right
 //!   token writes the status into the buffer that was added and frees its descriptors;
 //! - a control exchange writes what the device wrote over the driver's page and leaves the rest;
@@ -39,6 +41,8 @@ struct Flight {
 pub struct Queues {
     pub outside: Option<Box<dyn Outside>>,
     tokens: Tokens,
+    /// negotiated: a submission takes one descriptor
+    indirect: bool,
     free: Vec<u16>,
     flight: VecDeque<Flight>,
     /// what does not wait, and of it what the device has used, in that order
@@ -51,11 +55,19 @@ pub struct Queues {
 pub type Shared = Rc<RefCell<Queues>>;
 
 impl Queues {
-    pub fn new(tokens: Tokens) -> Shared {
+    pub fn new(tokens: Tokens, indirect: bool) -> Shared {
         let free = (0..DESCRIPTORS).rev().collect();
         let (flight, alone, used) = Default::default();
         let (outside, next_slot, reading) = (None, 0, None);
-        Rc::new(RefCell::new(Queues { outside, tokens, free, flight, alone, used, next_slot, reading }))
+        Rc::new(RefCell::new(Queues { outside, tokens, indirect, free, flight, alone, used, next_slot, reading }))
+    }
+    /// What `available_desc` tells.
+    fn available(&self) -> usize {
+        match self.free.len() {
+            0 => 0,
+            _ if self.indirect => DESCRIPTORS.into(),
+            free => free,
+        }
     }
     /// A transfer numbers its slots from 0. What an earlier one left in flight (outside document 01's domain) is told apart by 32 more.
     pub fn begin(&mut self, outside: Box<dyn Outside>, transfer: bool) {
@@ -124,8 +136,9 @@ fn places(inputs: &[&[u8]], output: &[u8]) -> Vec<(usize, usize)> {
 
 impl<H: Hal, const SIZE: usize> VirtQueue<H, SIZE> {
     pub fn new<T: Transport>(transport: &mut T, index: u16, indirect: bool, _event_idx: bool) -> Result<Self> {
-        assert!(SIZE == DESCRIPTORS as usize && !indirect);
-        Ok(Self { index, shared: transport.shared(), hal: PhantomData })
+        let shared = transport.shared();
+        assert!(SIZE == DESCRIPTORS as usize && indirect == shared.borrow().indirect, "as it was negotiated");
+        Ok(Self { index, shared, hal: PhantomData })
     }
     pub fn should_notify(&self) -> bool {
         true
@@ -135,7 +148,7 @@ impl<H: Hal, const SIZE: usize> VirtQueue<H, SIZE> {
     pub fn available_desc(&self) -> usize {
         assert_eq!(self.index, TX);
         let mut queues = self.shared.borrow_mut();
-        let free = queues.free.len();
+        let free = queues.available();
         if !queues.outside().turn(free) {
             drop(queues);
             panic_any(Marker::Spins);
@@ -149,7 +162,7 @@ impl<H: Hal, const SIZE: usize> VirtQueue<H, SIZE> {
     pub unsafe fn add<'a, 'b>(&mut self, inputs: &'a [&'b [u8]], outputs: &'a mut [&'b mut [u8]]) -> Result<u16> {
         assert!(self.index == TX && matches!(inputs.len(), 1 | 2), "only pcm_xfer and pcm_xfer_nb submit here");
         let mut queues = self.shared.borrow_mut();
-        let need = inputs.len() + outputs.len();
+        let need = if queues.indirect { 1 } else { inputs.len() + outputs.len() };
         if queues.free.len() < need {
             return Err(Error::QueueFull);
         }

@@ -1,5 +1,5 @@
-//! Stand-in for the crate's transports. Assumed: the device offers VERSION_1 and no indirect descriptors; set-up of the
-//! transport succeeds; notifying a queue changes nothing that the driver sees.
+//! Stand-in for the crate's transports. Assumed: the device offers VERSION_1, and indirect descriptors where a host is to have them;
+//! set-up of the transport succeeds; notifying a queue changes nothing that the driver sees.
 use crate::device::common::Feature;
 use crate::queue::Shared;
 use crate::{Error, Result};
@@ -23,12 +23,14 @@ pub enum DeviceType {
 
 pub struct ScriptTransport {
     pub counts: [u32; 3],
+    pub indirect: bool,
     pub shared: Shared,
 }
 
 impl Transport for ScriptTransport {
     fn begin_init(&mut self, supported: Feature) -> Feature {
-        supported.intersection(Feature::VERSION_1)
+        let more = if self.indirect { Feature::RING_INDIRECT_DESC } else { Feature::empty() };
+        supported.intersection(Feature::VERSION_1.union(more))
     }
     fn finish_init(&mut self) {}
     fn notify(&mut self, _queue: u16) {}

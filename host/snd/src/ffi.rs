@@ -64,6 +64,8 @@ entries! {
     fn snd_new_guarded(state: &mut [u8], jacks: u32, streams: u32, chmaps: u32,);
     /// Fills a store with a new ring.
     fn snd_ring_new(ring: &mut [u8],);
+    /// Fills a store with a new ring for indirect descriptors.
+    fn snd_ring_new_indirect(ring: &mut [u8],);
 
     /// The configured number of jacks.
     fn snd_jacks(state: &[u8], result: &mut [u8],);

@@ -1,5 +1,6 @@
 //! The places in stores that this crate itself reads or writes. docs/STATE.md has them all; tests/stores.rs holds these to the archive.
 use crate::bytes::{run, u32_at, u64_at};
+use crate::trace::INDIRECT;
 use crate::{MODEL_SIZE, RING_SIZE, STATE_SIZE};
 use core::fmt;
 
@@ -14,8 +15,6 @@ const STREAMS: usize = 127;
 const TOKENS: usize = 14_447;
 const TOKEN: usize = 8;
 const TOKEN_COUNT: usize = 32;
-/// Descriptors of a submission.
-const DESCRIPTORS: u8 = 3;
 
 /// What a state's store says of its open exchange: no two of them that differ in stage, call or numbers have the same bytes here.
 pub(crate) type Waits = [u8; 24];
@@ -40,12 +39,18 @@ pub(crate) const fn new_state(jacks: u32, streams: u32, chmaps: u32, guard: bool
 }
 
 /// A new ring: the descriptors of a submission, and zeros.
-pub(crate) const fn new_ring() -> [u8; RING_SIZE] {
+pub(crate) const fn new_ring(mode: u32) -> [u8; RING_SIZE] {
     let mut store = [0; RING_SIZE];
     if let Some(descriptors) = store.first_mut() {
-        *descriptors = DESCRIPTORS;
+        *descriptors = mode as u8;
     }
     store
+}
+
+/// Whether a ring is for indirect descriptors.
+pub(crate) fn is_indirect(ring: &[u8; RING_SIZE]) -> bool {
+    let [descriptors, ..] = ring;
+    u32::from(*descriptors) == INDIRECT
 }
 
 /// How many jacks, streams and channel maps a model device has.

@@ -119,3 +119,5 @@ pub const STATUS_OK: u32 = 0x8000;
 pub const SLOTS: usize = 32;
 /// How many places there are for submissions that do not wait: the length of an array by token.
 pub const PLACES: usize = 16;
+/// The same with a ring for indirect descriptors.
+pub const PLACES_INDIRECT: usize = 32;

@@ -1,7 +1,7 @@
 //! Submissions that do not wait: the places where they stand for as long as a device may read them, and what is pending.
 use crate::bytes::{Results, u64_at};
 use crate::layout::taken;
-use crate::{Exchange, PLACES, Refusal, STATE_SIZE};
+use crate::{Exchange, PLACES, PLACES_INDIRECT, Refusal, STATE_SIZE};
 use core::fmt;
 use core::mem::ManuallyDrop;
 
@@ -56,7 +56,7 @@ const ID: usize = 4;
 /// or forgotten, leak their store and never free it. That rests on readings that were seen.
 ///
 /// Places go with one state, from its first submission on: another, which does not know what is pending in them, is refused with
-/// [`Refusal::InvalidParam`].
+/// [`Refusal::InvalidParam`]. So is a ring of another mode: with [`crate::Ring::new_indirect`] there are 32 places, [`Places::new_indirect`].
 ///
 /// ```
 /// use snd::{Pending, Places, Reading, Refusal, STATUS_OK, Status, Submitted};
@@ -107,23 +107,45 @@ pub struct Places<P: PlaceStore> {
     /// There until it is given back. Not dropped with the places, so that to free it is an act of its own.
     store: Option<ManuallyDrop<P>>,
     /// Of each place the period that stands there behind the stream id, in bytes; 0 where it is free. A period has one at least.
-    out: [u32; PLACES],
+    out: [u32; PLACES_INDIRECT],
+    /// 32 of them, not 16.
+    indirect: bool,
 }
 
 impl<P: PlaceStore> Places<P> {
     /// Places in this store, all of them free.
     pub fn new(store: P) -> Self {
-        let store = Some(ManuallyDrop::new(store));
+        Self::with(store, false)
+    }
+
+    /// 32 places in this store, for a ring for indirect descriptors: each has a 32nd of it, rounded down.
+    pub fn new_indirect(store: P) -> Self {
+        Self::with(store, true)
+    }
+
+    fn with(store: P, indirect: bool) -> Self {
         Self {
-            store,
-            out: [0; PLACES],
+            store: Some(ManuallyDrop::new(store)),
+            out: [0; PLACES_INDIRECT],
+            indirect,
         }
+    }
+
+    /// How many places there are: 16, or 32 for indirect descriptors.
+    #[must_use]
+    pub fn count(&self) -> usize {
+        if self.indirect { PLACES_INDIRECT } else { PLACES }
     }
 
     /// How many bytes each place has.
     #[must_use]
     pub fn size(&self) -> usize {
-        self.bytes().len() / PLACES
+        let bytes = self.bytes().len();
+        if self.indirect {
+            bytes / PLACES_INDIRECT
+        } else {
+            bytes / PLACES
+        }
     }
 
     /// What the device reads of the submission that is pending under this token: 4 bytes of stream id, least first, and the period.
@@ -137,6 +159,7 @@ impl<P: PlaceStore> Places<P> {
     }
 
     /// Gives the store back, where no place is taken; else the places, until the last is finished.
+    #[allow(clippy::result_large_err, reason = "what comes back are the places themselves")]
     pub fn end(mut self) -> Result<P, Self> {
         self.freed().ok_or(self)
     }
@@ -155,6 +178,11 @@ impl<P: PlaceStore> Places<P> {
     /// For an entry to write: it is proved to change the place that it takes, and no other byte.
     pub(crate) fn bytes_mut(&mut self) -> &mut [u8] {
         self.store.as_mut().map_or(&mut [], |store| store.bytes_mut())
+    }
+
+    /// Whether a ring of this mode has as many places: with others a place would be taken where another stands.
+    pub(crate) fn are_for(&self, indirect: bool) -> bool {
+        self.indirect == indirect
     }
 
     /// Whether this state knows what is pending here.
@@ -193,7 +221,7 @@ impl<P: PlaceStore> fmt::Debug for Places<P> {
     }
 }
 
-struct Taken<'p>(&'p [u32; PLACES]);
+struct Taken<'p>(&'p [u32; PLACES_INDIRECT]);
 
 impl fmt::Debug for Taken<'_> {
     fn fmt(&self, f: &mut fmt::Formatter<'_>) -> fmt::Result {
@@ -240,10 +268,10 @@ impl Pending {
     }
 }
 
-/// The token in a result; one that is no place is no answer.
-pub(crate) fn token(result: &Results) -> Result<u32, Refusal> {
+/// The token in a result; one that is none of so many places is no answer.
+pub(crate) fn token(result: &Results, places: usize) -> Result<u32, Refusal> {
     match u64_at(result, 0) {
-        token if token < PLACES as u64 => Ok(token as u32),
+        token if token < places as u64 => Ok(token as u32),
         _ => Err(Refusal::Unknown),
     }
 }
@@ -252,7 +280,7 @@ pub(crate) fn token(result: &Results) -> Result<u32, Refusal> {
 mod tests {
     use super::{Pending, PlaceStore, Places, Stable, token};
     use crate::bytes::put;
-    use crate::{PLACES, RESULT_SIZE, Refusal};
+    use crate::{PLACES, PLACES_INDIRECT, RESULT_SIZE, Refusal};
     use core::cell::Cell;
 
     /// A store that tells when it is freed.
@@ -314,17 +342,20 @@ mod tests {
     }
 
     #[test]
-    fn a_token_of_16_or_more_and_a_state_above_2_are_no_answer() {
+    fn a_token_that_is_no_place_and_a_state_above_2_are_no_answer() {
         let mut result = [0; RESULT_SIZE];
         for (number, there) in [
-            (0u64, true),
-            (15, true),
-            (16, false),
-            (1 << 32, false),
-            (u64::MAX, false),
+            (0u64, [true, true]),
+            (15, [true, true]),
+            (16, [false, true]),
+            (31, [false, true]),
+            (32, [false, false]),
+            (1 << 32, [false, false]),
+            (u64::MAX, [false, false]),
         ] {
             put(&mut result, 0, &number.to_le_bytes());
-            assert_eq!(token(&result).is_ok(), there, "{number}");
+            let told = [PLACES, PLACES_INDIRECT].map(|places| token(&result, places).is_ok());
+            assert_eq!(told, there, "{number}");
         }
         let mut told = |state: u64, status: u64| {
             put(&mut result, 0, &state.to_le_bytes());

@@ -1,8 +1,9 @@
 //! A transfer, turn by turn.
 use crate::answer::Said;
 use crate::bytes::{Results, part_at, size_at, u64_at};
-use crate::layout::new_ring;
+use crate::layout::{is_indirect, new_ring};
 use crate::step::{narrow, slot_if_there, told};
+use crate::trace::{DIRECT, INDIRECT};
 use crate::{Captured, RING_SIZE, Refusal, Room, ffi};
 use core::borrow::{Borrow, BorrowMut};
 use core::fmt;
@@ -98,7 +99,38 @@ impl Ring {
     /// docs/HOST.md.
     #[must_use]
     pub const fn new() -> Self {
-        Self(new_ring())
+        Self(new_ring(DIRECT))
+    }
+
+    /// The same for a queue with indirect descriptors, for good: a submission takes one of them and goes out whenever a slot is free, so that 32
+    /// may be in flight, and [`crate::Places::new_indirect`] has as many places. Every call is the same with both. Make the ring from the features
+    /// that were negotiated with the device (`VIRTIO_F_INDIRECT_DESC`, bit 28), and keep to one ring a state.
+    ///
+    /// ```
+    /// # use snd::{Format, Model, Page, Params, PcmInfo, Rate, Reading, Refusal, Ring, STATUS_OK, Sound, Step, Turn};
+    /// # let mut device = Model::new(&[], &[PcmInfo::output(1, 2).to_bytes()], &[])?;
+    /// # let (mut sound, mut ring, mut page) = (Sound::new(0, 1, 0), Ring::new_indirect(), Page::new());
+    /// # let to = Params { buffer: 8, period: 4, features: 0, channels: 2, format: Format::S16, rate: Rate::Hz48000 };
+    /// # let mut step = sound.pcm_set_params(&ring, 0, to)?;
+    /// # while let Step::Send(exchange) = step {
+    /// #     device.control(exchange.bytes(), &mut page)?;
+    /// #     step = sound.feed(exchange, &page)?;
+    /// # }
+    /// // 33 periods of 4 bytes, and nothing comes back
+    /// let frames = [7; 33 * 4];
+    /// assert_eq!(sound.pcm_xfer_start(&mut ring, 0, &frames, 99)?, Step::Done(()));
+    /// for _ in 0..40 {
+    ///     assert_eq!(ring.turn(&frames, Reading::Quiet)?, Turn::Going);
+    /// }
+    /// assert_eq!((ring.in_flight()?, ring.free_descriptors()?), (32, 0));
+    /// assert_eq!(ring.offered(&frames)?, None);
+    /// assert_eq!(ring.turn(&frames, Reading::Completed { slot: 0, status: STATUS_OK })?, Turn::Going);
+    /// assert_eq!(ring.offered(&frames)?.map(|offer| offer.slot), Some(0));
+    /// # Ok::<(), Refusal>(())
+    /// ```
+    #[must_use]
+    pub const fn new_indirect() -> Self {
+        Self(new_ring(INDIRECT))
     }
 }
 
@@ -120,6 +152,12 @@ impl<R: Borrow<[u8; RING_SIZE]>> Ring<R> {
     pub fn store(&self) -> &[u8; RING_SIZE] {
         self.0.borrow()
     }
+
+    /// Whether it was made for indirect descriptors.
+    #[must_use]
+    pub fn indirect(&self) -> bool {
+        is_indirect(self.store())
+    }
 }
 
 /// Short: what runs and what is in flight, or that the store is inconsistent.
@@ -130,6 +168,9 @@ impl<R: Borrow<[u8; RING_SIZE]>> fmt::Debug for Ring<R> {
             return f.write_str("Ring(inconsistent)");
         };
         let mut said = f.debug_struct("Ring");
+        if self.indirect() {
+            said.field("indirect", &true);
+        }
         said.field("running", &running).field("in_flight", &in_flight);
         said.field("stream", &stream).field("turns_run", &turns_run).finish()
     }
@@ -177,6 +218,13 @@ impl<R: BorrowMut<[u8; RING_SIZE]>> Ring<R> {
     pub fn new_in(mut store: R) -> Self {
         // the one refusal is 10, for a short store
         let _ok = ffi::snd_ring_new(store.borrow_mut());
+        Self(store)
+    }
+
+    /// The same for indirect descriptors: see [`Ring::new_indirect`].
+    #[must_use]
+    pub fn new_indirect_in(mut store: R) -> Self {
+        let _ok = ffi::snd_ring_new_indirect(store.borrow_mut());
         Self(store)
     }
 
@@ -351,7 +399,7 @@ impl<R: Borrow<[u8; RING_SIZE]>> Ring<R> {
         self.read(ffi::snd_ring_in_flight)
     }
 
-    /// How many of the 32 descriptors are free.
+    /// How many of the 32 descriptors are free: a submission takes three, or one where they are indirect.
     pub fn free_descriptors(&self) -> Result<u64, Refusal> {
         self.read(ffi::snd_ring_free_descriptors)
     }

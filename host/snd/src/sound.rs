@@ -601,7 +601,8 @@ impl<S: BorrowMut<[u8; STATE_SIZE]>> Sound<S> {
     /// under the guard, 2 where it has no parameters, 1 for a payload that is not one period, 10 for a place that is shorter than a
     /// period and 4, and [`Refusal::Full`] where every place is taken. A refusal changes nothing.
     ///
-    /// Start the stream first, as for a transfer. Places in which this state does not know what is pending are [`Refusal::InvalidParam`].
+    /// Start the stream first, as for a transfer. Places in which this state does not know what is pending, and those of another mode than the
+    /// ring, are [`Refusal::InvalidParam`].
     pub fn pcm_xfer_nb<P: PlaceStore>(
         &mut self,
         ring: &Ring<impl Borrow<[u8; RING_SIZE]>>,
@@ -609,7 +610,7 @@ impl<S: BorrowMut<[u8; STATE_SIZE]>> Sound<S> {
         payload: &[u8],
         places: &mut Places<P>,
     ) -> Result<Submitted, Refusal> {
-        if !places.go_with(self.store()) {
+        if !places.go_with(self.store()) || !places.are_for(ring.indirect()) {
             return Err(Refusal::InvalidParam);
         }
         let (mut message, mut result) = ([0; MESSAGE_SIZE], [0; RESULT_SIZE]);
@@ -625,7 +626,7 @@ impl<S: BorrowMut<[u8; STATE_SIZE]>> Sound<S> {
         match Step::of(answer, message, self.store(), &result)? {
             Step::Send(exchange) => Ok(Submitted::SetUp(exchange)),
             Step::Done(()) => {
-                let token = token(&result)?;
+                let token = token(&result, places.count())?;
                 places.take(token, payload.len());
                 Ok(Submitted::Token(token))
             }

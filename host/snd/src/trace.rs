@@ -26,6 +26,8 @@ use core::fmt;
 
 /// The mode of a judge: how many descriptors a submission takes.
 pub const DIRECT: u32 = 3;
+/// The same of a driver with indirect descriptors, as [`crate::Ring::new_indirect`] is for.
+pub const INDIRECT: u32 = 1;
 
 /// What is said against a trace, and where.
 #[derive(Clone, Copy, PartialEq, Eq, Debug)]
@@ -53,8 +55,8 @@ fn said(answer: u64, at: impl FnOnce() -> u64) -> Result<(), Judged> {
     })
 }
 
-/// Accepts a trace exactly when some readings and some budget make the turns write that very trace. `mode` is [`DIRECT`], and any other number
-/// is [`Refusal::InvalidParam`]; then come [`Refusal::BadTrace`], over the whole trace, and [`Refusal::NotARun`].
+/// Accepts a trace exactly when some readings and some budget make the turns write that very trace. `mode` is [`DIRECT`] or [`INDIRECT`], and
+/// any other number is [`Refusal::InvalidParam`]; then come [`Refusal::BadTrace`], over the whole trace, and [`Refusal::NotARun`].
 pub fn judge(mode: u32, trace: &[u8]) -> Result<(), Judged> {
     said(ffi::snd_judge(mode, trace), || ffi::snd_judge_at(mode, trace))
 }

@@ -46,6 +46,11 @@ fn a_new_ring_is_what_the_archive_writes() {
     let mut written = [0xff; RING_SIZE];
     assert_eq!(ffi::snd_ring_new(&mut written), 0);
     assert_eq!(*Ring::new().store(), written);
+    assert!(!Ring::new().indirect());
+    assert_eq!(ffi::snd_ring_new_indirect(&mut written), 0);
+    assert_eq!(*Ring::new_indirect().store(), written);
+    assert_eq!(*Ring::new_indirect_in([0xff; RING_SIZE]).store(), written);
+    assert!(Ring::new_indirect().indirect());
 }
 
 static SOUND: Mutex<Sound> = Mutex::new(Sound::new(2, 2, 0));

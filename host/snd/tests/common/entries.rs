@@ -16,7 +16,7 @@ macro_rules! entries {
     };
 }
 
-/// The 69 entries, in the header's order.
+/// The 70 entries, in the header's order.
 pub const ENTRIES: &[Entry] = entries! {
     snd_state_size [] |_l| ();
     snd_ring_size [] |_l| ();
@@ -27,6 +27,7 @@ pub const ENTRIES: &[Entry] = entries! {
     snd_new [State] |l| (&mut l.state, l.numbers[0], l.numbers[1], l.numbers[2]);
     snd_new_guarded [State] |l| (&mut l.state, l.numbers[0], l.numbers[1], l.numbers[2]);
     snd_ring_new [Ring] |l| (&mut l.ring);
+    snd_ring_new_indirect [Ring] |l| (&mut l.ring);
     snd_jacks [State Result] |l| (&l.state, &mut l.result);
     snd_streams [State Result] |l| (&l.state, &mut l.result);
     snd_chmaps [State Result] |l| (&l.state, &mut l.result);
