@@ -9,7 +9,7 @@ struct stores {
     uint64_t answer;
     uint8_t state[SND_STATE_SIZE], ring[SND_RING_SIZE], message[SND_MESSAGE_SIZE], result[SND_RESULT_SIZE];
     uint8_t page[SND_PAGE_SIZE], model[SND_MODEL_SIZE], status[8], file[64];
-    uint8_t places[SND_PLACES * (4 + PERIOD) + 5];
+    uint8_t places[SND_PLACES_INDIRECT * (4 + PERIOD) + 5];
     uint8_t recording[RECORDED * PERIOD + 3];
     uint8_t room[19 + 20 * 4 + 3]; /* for the trace of four periods */
     uint8_t list[3 * SND_ENTRY_SIZE + 1];
@@ -254,6 +254,26 @@ static void traces(void) {
     judged(19); /* no run has this answer */
 }
 
+/* A ring for indirect descriptors: more than ten in flight, the first of 32 places, and a transfer that ends with slots owed. */
+static void indirect(void) {
+    CALL(snd_ring_new_indirect, RING);
+    CALL(snd_pcm_xfer_nb, STATE, RING, 0, frames, PERIOD, s.places, sizeof s.places - 5 - 1, MESSAGE, RESULT); /* no room */
+    submitted(1);
+    CALL(snd_pcm_xfer_mark, STATE, 1, 0, 0x8000);
+    CALL(snd_pcm_xfer_ok, STATE, 0);
+    CALL(snd_pcm_xfer_start, STATE, RING, 0, frames, 12 * PERIOD, 13, MESSAGE);
+    for (int i = 0; i < 12; i++) {
+        CALL(snd_offered, RING, frames, 12 * PERIOD, RESULT);
+        CALL(snd_turn, RING, frames, 12 * PERIOD, 0, 0, 0);
+    }
+    CALL(snd_ring_free_descriptors, RING, RESULT);
+    CALL(snd_turn, RING, frames, 12 * PERIOD, 1, 0, 0x8003); /* the device failed it */
+    for (int i = 1; i < 12; i++)
+        CALL(snd_drain_turn, RING, 1, i, 0x8000);
+    CALL(snd_ring_accepted, RING, RESULT);
+    CALL(snd_ring_new, RING);
+}
+
 /* Two traces compared: every kind of difference, and each way to be refused. */
 static void compared(void) {
     uint8_t first[] = {3, 1, 0, 0, 2, 5, 0, 1, 0, 0x80, 0, 0}, second[] = {3, 1, 0, 2, 3, 1, 0, 9};
@@ -355,6 +375,7 @@ static void session(void) {
     transfer(5, ~0u);
     go_on();
     traces();
+    indirect();
     compared();
     record();
     others();

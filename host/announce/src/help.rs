@@ -29,6 +29,8 @@ other on one device that is set up once: a page for each, and a closing line.
   --strict           read of each answer only what the device wrote
   --guard            send no command, and take no transfer, that the standard's
                      lifecycle of a stream does not permit
+  --indirect         the queue has indirect descriptors: a submission takes one,
+                     so that 32 periods may be out, and not ten
   --short-jacks      the device answers the query of its jack by a header alone,
                      in a page that holds an old jack; a remap is then asked for
   --virtio V         the device follows VirtIO 1.2 or 1.3 (1.2): the page says

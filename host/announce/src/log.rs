@@ -49,6 +49,7 @@ fn before(to: &mut Object, report: &Report) {
     to.texts("warnings", &recording.warnings(options));
     to.truth("strict", options.strict);
     to.truth("guard", options.guard);
+    to.truth("indirect", options.indirect);
     match &told.virtio {
         Some(told) => to.object("virtio", |to| virtio(to, told)),
         None => to.null("virtio"),

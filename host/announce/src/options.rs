@@ -67,6 +67,8 @@ pub struct Options {
     pub strict: bool,
     /// The state is made with the guard over its streams' lifecycle.
     pub guard: bool,
+    /// The ring is made for indirect descriptors.
+    pub indirect: bool,
     /// The jack query is answered by its header alone.
     pub short_jacks: bool,
     /// Where to write what a microphone hears, in place of speaking.
@@ -111,6 +113,7 @@ impl Options {
             budget: None,
             strict: false,
             guard: false,
+            indirect: false,
             short_jacks: false,
             record: None,
             periods: 0,
@@ -173,10 +176,11 @@ pub fn parse(words: &[OsString]) -> Result<Asked, String> {
             "--help" | "-h" if value.is_none() => return Ok(Asked::Help(HELP)),
             "--strict" if value.is_none() => options.strict = true,
             "--guard" if value.is_none() => options.guard = true,
+            "--indirect" if value.is_none() => options.indirect = true,
             "--short-jacks" if value.is_none() => options.short_jacks = true,
             "--go-on" if value.is_none() => options.go_on = true,
             "--join" if value.is_none() => options.join = true,
-            "--help" | "-h" | "--strict" | "--guard" | "--short-jacks" | "--go-on" | "--join" => {
+            "--help" | "-h" | "--strict" | "--guard" | "--indirect" | "--short-jacks" | "--go-on" | "--join" => {
                 return Err(format!("{name} takes no value"));
             }
             "--" if value.is_none() => words.by_ref().try_for_each(|word| take_file(&mut options, word))?,
@@ -207,7 +211,7 @@ pub fn parse(words: &[OsString]) -> Result<Asked, String> {
         if options.wrong_slot_at.is_some() {
             return Err("--wrong-slot-at goes with a transfer: what does not wait may come back in any order".into());
         }
-        sizes::places(options.period)?;
+        sizes::places(&options)?;
     }
     if options.trace.is_some() {
         traced(&options)?;
@@ -234,7 +238,7 @@ fn traced(options: &Options) -> Result<(), String> {
 }
 
 /// What a recording takes of the options for announcements, and what it has alone.
-const RECORDING: [&str; 13] = [
+const RECORDING: [&str; 14] = [
     "--rate",
     "--channels",
     "--period",
@@ -247,6 +251,7 @@ const RECORDING: [&str; 13] = [
     "--budget",
     "--strict",
     "--guard",
+    "--indirect",
     "--",
 ];
 const RECORDING_ALONE: [&str; 5] = ["--record", "--periods", "--short-every", "--written-at", "--written"];

@@ -117,6 +117,7 @@ impl Recording {
             params: options.form().params(options.buffer, options.period),
             strict: options.strict,
             guard: options.guard,
+            indirect: options.indirect,
             stream: told.stream.map(|number| Stream {
                 number,
                 output: false,

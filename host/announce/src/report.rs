@@ -42,6 +42,7 @@ impl<'r> Report<'r> {
             params: recording.form.params(options.buffer, options.period),
             strict: options.strict,
             guard: options.guard,
+            indirect: options.indirect,
             virtio: told.virtio,
             jacks: told.jacks,
             going_on: told.going_on,

@@ -36,15 +36,24 @@ pub fn tone(options: &Options) -> Result<(), String> {
     ))
 }
 
-/// Whether there can be places for periods that do not wait.
-pub fn places(period: u32) -> Result<(), String> {
-    let bytes = snd::PLACES as u64 * (u64::from(period) + 4);
+/// How many places there are for periods that do not wait.
+pub fn places_of(options: &Options) -> usize {
+    if options.indirect {
+        snd::PLACES_INDIRECT
+    } else {
+        snd::PLACES
+    }
+}
+
+/// Whether there can be places for them.
+pub fn places(options: &Options) -> Result<(), String> {
+    let (places, period) = (places_of(options), options.period);
+    let bytes = places as u64 * (u64::from(period) + 4);
     if bytes <= MOST_TONE {
         return Ok(());
     }
     Err(format!(
-        "{} places for periods of {period} bytes are {bytes} bytes; at most {MOST_TONE} are made",
-        snd::PLACES
+        "{places} places for periods of {period} bytes are {bytes} bytes; at most {MOST_TONE} are made"
     ))
 }
 

@@ -38,6 +38,7 @@ fn bad_options() {
     complaint("--help=3", "--help takes no value");
     complaint("--strict=yes", "--strict takes no value");
     complaint("--guard=on", "--guard takes no value");
+    complaint("--indirect=1", "--indirect takes no value");
     complaint("--short-jacks=1", "--short-jacks takes no value");
     complaint("--virtio 1.1", "--virtio takes 1.2 or 1.3, not '1.1'");
     let needs = "--controls needs --virtio 1.3: VirtIO 1.2 has no control elements";

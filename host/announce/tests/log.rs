@@ -204,6 +204,11 @@ fn lengths_and_jacks() {
     let guarded = log(&folder, "a.raw --guard");
     let announcement = &guarded.at("announcements").list()[0];
     assert_eq!(announcement.at("guard"), &Json::Truth(true));
+    assert_eq!(announcement.at("indirect"), &Json::Truth(false));
+    let indirect = log(&folder, "a.raw --indirect");
+    let announcement = &indirect.at("announcements").list()[0];
+    assert_eq!(announcement.at("indirect"), &Json::Truth(true));
+    let announcement = &guarded.at("announcements").list()[0];
     assert_eq!(controls(announcement), [&queries(4)[..], &own].concat());
     let log = log(&folder, "a.raw");
     let announcement = &log.at("announcements").list()[0];

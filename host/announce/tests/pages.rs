@@ -236,6 +236,40 @@ fn the_guard() {
     );
 }
 
+/// Nothing else of the page of a quick device is another. Of a slow one 32 periods are out, and not ten.
+#[test]
+fn indirect_descriptors() {
+    page("indirect", "--indirect", 0);
+    good_but_for(
+        "indirect",
+        "descriptors  indirect: one for each submission, so 32 may be out\n",
+    );
+    page("indirect-slow", "--indirect --slow 3", 0);
+    page("indirect-budget", "--indirect --slow 50 --budget 60", 1);
+    page("indirect-fail", "--indirect --slow 40 --fail-at 3 --guard", 1);
+    page("indirect-wrong-slot", "--indirect --slow 33 --wrong-slot-at 2", 1);
+    page("indirect-go-on", "--indirect --go-on --slow 40", 0);
+    page("indirect-go-on-fail", "--indirect --go-on --slow 40 --fail-at 2", 1);
+    let folder = Folder::new("indirect-record");
+    let output = folder.run("--indirect --record yard.raw --periods 40 --slow 35 --budget 36");
+    held(&output, "indirect-record", 1);
+    // what is accepted is the same in both modes
+    folder.write("a.raw", &frames(60_000));
+    for words in [
+        "",
+        "--slow 7",
+        "--slow 40 --fail-at 9",
+        "--slow 3 --budget 60",
+        "--wrong-slot-at 11",
+    ] {
+        let spoken = ["", "--indirect"].map(|mode| {
+            let output = folder.run(&format!("a.raw --period 1000 {words} {mode} --accepted accepted.raw"));
+            (output.status.code(), folder.read("accepted.raw"))
+        });
+        assert_eq!(spoken[0], spoken[1], "{words}");
+    }
+}
+
 /// Without waiting: what the device accepts is the same, and breakers are polled once a turn.
 #[test]
 fn going_on() {

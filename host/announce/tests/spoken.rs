@@ -72,7 +72,7 @@ fn a_device_that_fails_each_period() {
     let folder = folder("spoken-fail");
     for slow in [1, 2, 5] {
         for at in 1..=10 {
-            for more in ["", "--strict --guard", "--fail-status 0x8001"] {
+            for more in ["", "--strict --guard", "--fail-status 0x8001", "--indirect"] {
                 let spoken = heard(&folder, &format!("a.raw --slow {slow} --fail-at {at} {more}"));
                 assert_eq!(spoken, (at <= 9).then_some((at - 1) * PERIOD));
             }

@@ -8,7 +8,7 @@ use std::rc::Rc;
 
 /// The Rust driver as a way to get the work done; none where its text is not at hand.
 pub fn way() -> Option<Box<dyn Way>> {
-    let sound = oracle::sound([0, 1, 0], Tokens::Slots)?;
+    let sound = oracle::sound([0, 1, 0], Tokens::Slots, false)?;
     let turns = Rc::new(Cell::new(0));
     let ok = Rc::new([page(&[])]);
     let mut text = Text {
@@ -111,7 +111,7 @@ impl Way for Text {
     }
 
     fn set_up(&mut self) {
-        let mut full = oracle::sound(FULL, Tokens::Slots).expect("its text is at hand");
+        let mut full = oracle::sound(FULL, Tokens::Slots, false).expect("its text is at hand");
         make(full.as_mut(), Call::OutputStreams, self.full.clone(), &self.turns);
     }
 

@@ -118,6 +118,7 @@ impl Recording {
             params: asked.params,
             strict: true,
             guard: false,
+            indirect: false,
             stream: self.stream,
             turns: self.turns,
             submitted: self.submitted,

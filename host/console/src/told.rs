@@ -213,6 +213,7 @@ impl Told {
             params: asked.params,
             strict: true,
             guard: false,
+            indirect: false,
             virtio: None,
             jacks: None,
             going_on: None,

@@ -18,6 +18,8 @@ pub struct CapturePage<'p> {
     pub strict: bool,
     /// The state was made with the guard.
     pub guard: bool,
+    /// The ring was made for indirect descriptors.
+    pub indirect: bool,
     /// Where one was found.
     pub stream: Option<Stream>,
     /// The turns of the capture.
@@ -110,7 +112,7 @@ fn before(lines: &mut Lines, page: &CapturePage) -> fmt::Result {
     for warning in cuts {
         lines.line("warning", warning)?;
     }
-    modes(lines, page.strict, page.guard)?;
+    modes(lines, page.strict, page.guard, page.indirect)?;
     stream(lines, page.stream)?;
     parameters(lines, &page.params)
 }

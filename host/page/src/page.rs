@@ -26,6 +26,8 @@ pub struct Page<'p> {
     pub strict: bool,
     /// The state was made with the guard.
     pub guard: bool,
+    /// The ring was made for indirect descriptors.
+    pub indirect: bool,
     /// What the device showed of itself, where its version was named.
     pub virtio: Option<Virtio>,
     /// What came of the query of jacks, where the device cut its answer.
@@ -236,7 +238,7 @@ fn before(lines: &mut Lines, page: &Page) -> fmt::Result {
     for warning in warnings(&page.params, page.bytes) {
         lines.line("warning", warning)?;
     }
-    modes(lines, page.strict, page.guard)?;
+    modes(lines, page.strict, page.guard, page.indirect)?;
     if let Some(told) = &page.virtio {
         virtio(lines, told)?;
     }
@@ -249,7 +251,7 @@ fn before(lines: &mut Lines, page: &Page) -> fmt::Result {
 }
 
 /// How the driver was used.
-pub(crate) fn modes(lines: &mut Lines, strict: bool, guard: bool) -> fmt::Result {
+pub(crate) fn modes(lines: &mut Lines, strict: bool, guard: bool, indirect: bool) -> fmt::Result {
     if strict {
         lines.line("mode", "strict: of each answer only what the device wrote was read")?;
     }
@@ -257,6 +259,12 @@ pub(crate) fn modes(lines: &mut Lines, strict: bool, guard: bool) -> fmt::Result
         lines.line(
             "guard",
             "on: nothing was sent that the stream's lifecycle does not permit",
+        )?;
+    }
+    if indirect {
+        lines.line(
+            "descriptors",
+            format_args!("indirect: one for each submission, so {} may be out", snd::SLOTS),
         )?;
     }
     Ok(())
@@ -329,7 +337,7 @@ fn announcement(lines: &mut Lines, page: &Page) -> fmt::Result {
 fn device(lines: &mut Lines, page: &Page) -> fmt::Result {
     turns(lines, &page.turns)?;
     if let Some(told) = &page.going_on {
-        going_on(lines, told)?;
+        going_on(lines, told, page.indirect)?;
     }
     lines.line("submitted", Count(page.submitted, "period"))?;
     accepted(lines, page)?;
@@ -533,7 +541,7 @@ fn sum(lines: &mut Lines, name: &str, part: &Part) -> fmt::Result {
 }
 
 /// Whether the console was kept from its other work.
-fn going_on(lines: &mut Lines, told: &GoingOn) -> fmt::Result {
+fn going_on(lines: &mut Lines, told: &GoingOn, indirect: bool) -> fmt::Result {
     let polled = Count(told.polled, "time");
     match told.opened {
         None => lines.line("going on", format_args!("polled breakers {polled}; none opened"))?,
@@ -542,9 +550,10 @@ fn going_on(lines: &mut Lines, told: &GoingOn) -> fmt::Result {
             format_args!("polled breakers {polled}; one was seen to open at poll {poll}"),
         )?,
     }
+    let places = if indirect { snd::PLACES_INDIRECT } else { snd::PLACES };
     lines.line(
         "pending",
-        format_args!("at most {} of {} places were taken at a time", told.most, snd::PLACES),
+        format_args!("at most {} of {places} places were taken at a time", told.most),
     )?;
     match told.filled {
         0 => Ok(()),

@@ -1,14 +1,14 @@
 //! What is said of one trace.
-use snd::trace::{self, DIRECT, Field, Fields, HEAD, Judged};
+use snd::trace::{self, Field, Fields, HEAD, Judged};
 use snd::{Answer, Refusal};
 
 /// Exit status of a trace that is accepted, and of one that is not.
 const ACCEPTED: u8 = 0;
 const REFUSED: u8 = 1;
 
-/// The lines, and the exit status.
-pub fn of(trace: &[u8]) -> (String, u8) {
-    match trace::judge(DIRECT, trace) {
+/// The lines, and the exit status, by the turns of this mode.
+pub fn of(mode: u32, trace: &[u8]) -> (String, u8) {
+    match trace::judge(mode, trace) {
         Ok(()) => (accepted(trace), ACCEPTED),
         Err(judged) => (refused(trace, judged), REFUSED),
     }
