@@ -134,9 +134,10 @@ fn step(
     match verb {
         Verb::Speak(name, asked) => return speak(console, files, name, asked, count),
         Verb::Record(periods, asked) => return record(console, files, periods, &asked, count),
-        Verb::Reset => {
-            console.reset().map_err(stopped)?;
-            say!("reset        the device; state and ring are new\n");
+        Verb::Reset { indirect } => {
+            console.reset(indirect).map_err(stopped)?;
+            let with = if indirect { ", with indirect descriptors" } else { "" };
+            say!("reset        the device{with}; state and ring are new\n");
         }
         Verb::Release(stream) => {
             let refused = console.release(stream).err();

@@ -47,8 +47,9 @@ const DRIVER: u32 = 2;
 const DRIVER_OK: u32 = 4;
 const FEATURES_OK: u32 = 8;
 const NEEDS_RESET: u32 = 0x40;
-/// The one feature that the console uses: bit 32, a device of VirtIO 1.
+/// The features that the console uses: bit 32, a device of VirtIO 1; and where it is asked for, bit 28, indirect descriptors.
 const VERSION_1: u64 = 1 << 32;
+const INDIRECT: u64 = 1 << 28;
 
 /// Why there is no device to speak through.
 #[derive(Clone, Copy, Debug)]
@@ -56,6 +57,7 @@ pub enum Fault {
     NoDevice,
     OtherVersion(u32),
     OldDevice,
+    NoIndirect,
     FeatureRefused,
     NoReset,
     NoMemory,
@@ -70,7 +72,8 @@ impl fmt::Display for Fault {
             Self::NoDevice => write!(f, "no window has a sound device"),
             Self::OtherVersion(version) => write!(f, "the window is of version {version}; {VERSION} is known"),
             Self::OldDevice => write!(f, "the device is none of VirtIO 1"),
-            Self::FeatureRefused => write!(f, "the device does not agree to VirtIO 1"),
+            Self::NoIndirect => write!(f, "the device has no indirect descriptors"),
+            Self::FeatureRefused => write!(f, "the device does not agree to the features"),
             Self::NoReset => write!(f, "the device does not come out of its reset"),
             Self::NoMemory => write!(f, "there is no memory for a queue"),
             Self::QueueShort(index) => write!(f, "queue {index} is too short"),
@@ -122,8 +125,8 @@ impl Mmio {
         unsafe { write_volatile((self.base + register as usize) as *mut u32, value) }
     }
 
-    /// Resets the device and agrees on VirtIO 1 and nothing else. Tells what was on offer.
-    pub fn reset(&mut self) -> Result<u64, Fault> {
+    /// Resets the device and agrees on VirtIO 1, on indirect descriptors where they are asked for, and on nothing else. Tells what was on offer.
+    pub fn reset(&mut self, indirect: bool) -> Result<u64, Fault> {
         self.write(Register::Status, 0);
         let timer = self.timer;
         let done = timer.within(SECOND, || (self.read(Register::Status) == 0).then_some(()));
@@ -138,7 +141,11 @@ impl Mmio {
         if offered & VERSION_1 == 0 {
             return Err(Fault::OldDevice);
         }
-        for (half, taken) in [(0, VERSION_1 as u32), (1, (VERSION_1 >> 32) as u32)] {
+        let taken = if indirect { VERSION_1 | INDIRECT } else { VERSION_1 };
+        if offered & taken != taken {
+            return Err(Fault::NoIndirect);
+        }
+        for (half, taken) in [(0, taken as u32), (1, (taken >> 32) as u32)] {
             self.write(Register::TakenSelect, half);
             self.write(Register::Taken, taken);
         }
@@ -149,11 +156,12 @@ impl Mmio {
         }
     }
 
-    /// Hands the device, just reset, an empty queue.
+    /// Hands the device, just reset, an empty queue, with the descriptors that were agreed on.
     pub fn hand<const CHAINS: usize, const ANSWER: usize>(
         &mut self,
         index: u32,
         queue: &mut Queue<CHAINS, ANSWER>,
+        indirect: bool,
     ) -> Result<(), Fault> {
         self.write(Register::QueueSelect, index);
         if self.read(Register::QueueReady) != 0 {
@@ -167,7 +175,11 @@ impl Mmio {
             descriptors,
             available,
             used,
-        } = queue.empty();
+        } = if indirect {
+            queue.empty_indirect()
+        } else {
+            queue.empty()
+        };
         for (low, high, place) in [
             (Register::Descriptors, Register::DescriptorsHigh, descriptors),
             (Register::Available, Register::AvailableHigh, available),

@@ -19,6 +19,8 @@ pub struct Recording {
     submitted: u64,
     heard: Heard,
     faults: List<Fault, LISTED>,
+    /// The ring is for indirect descriptors.
+    indirect: bool,
     completions: u64,
     owed: u64,
     drain: (u64, u64),
@@ -40,6 +42,7 @@ impl Recording {
                 ..Heard::default()
             },
             faults: List::new(FAULT),
+            indirect: false,
             completions: 0,
             owed: 0,
             drain: (0, 0),
@@ -118,7 +121,7 @@ impl Recording {
             params: asked.params,
             strict: true,
             guard: false,
-            indirect: false,
+            indirect: self.indirect,
             stream: self.stream,
             turns: self.turns,
             submitted: self.submitted,
@@ -140,6 +143,7 @@ impl Console {
     pub fn record(&mut self, asked: &Asked, periods: u64, room: &'static mut [u8]) -> Recording {
         let bytes = periods.saturating_mul(asked.params.period.into());
         let mut told = Recording::new(turns(asked, bytes), periods);
+        told.indirect = self.ring.indirect();
         room.fill(BEFORE);
         told.refused = self.heard(asked, periods, room, &mut told).err();
         told.kept = self.ring.kept().unwrap_or_default();

@@ -22,7 +22,10 @@ pub enum Verb<'s> {
     Speak(&'s str, Asked),
     /// So many periods.
     Record(u64, Asked),
-    Reset,
+    /// With indirect descriptors, or direct ones.
+    Reset {
+        indirect: bool,
+    },
     Release(u32),
     Unstick(u32),
     Wait(u64),
@@ -55,7 +58,11 @@ pub fn verb(line: &str) -> Result<Verb<'_>, Unread<'_>> {
             let periods = number(words.next().ok_or(Unread(line))?)?;
             return Ok(Verb::Record(periods, asked(words)?));
         }
-        Some("reset") => Verb::Reset,
+        Some("reset") => match words.next() {
+            None => Verb::Reset { indirect: false },
+            Some("indirect") => Verb::Reset { indirect: true },
+            Some(word) => return Err(Unread(word)),
+        },
         Some("release") => Verb::Release(number(words.next().ok_or(Unread(line))?)?),
         Some("unstick") => Verb::Unstick(number(words.next().ok_or(Unread(line))?)?),
         Some("wait") => Verb::Wait(number(words.next().ok_or(Unread(line))?)?),

@@ -6,8 +6,9 @@ use snd::{Offer, Reading, SLOTS, STATUS_OK};
 
 /// Faults that a page lists; more are counted.
 pub(crate) const LISTED: usize = 16;
-/// The periods behind those that were accepted are at most ten in flight and one that failed, each a gap of its own, and the rest, one gap more.
-const GAPS: usize = 12;
+/// The periods behind those that were accepted are at most as many in flight as there are slots and one that failed, each a gap of its own, and the rest,
+/// one gap more.
+const GAPS: usize = SLOTS + 2;
 
 /// Things that were told, as many as there is room for.
 pub struct List<T, const N: usize> {
@@ -50,6 +51,8 @@ struct Carried {
 }
 
 pub struct Told {
+    /// The ring is for indirect descriptors.
+    pub indirect: bool,
     pub stream: Option<Stream>,
     pub refused: Option<Refused>,
     pub turns: Turns,
@@ -98,6 +101,7 @@ const GAP: Gap = Gap {
 impl Told {
     pub const fn new() -> Self {
         Self {
+            indirect: false,
             stream: None,
             refused: None,
             turns: Turns {
@@ -213,7 +217,7 @@ impl Told {
             params: asked.params,
             strict: true,
             guard: false,
-            indirect: false,
+            indirect: self.indirect,
             virtio: None,
             jacks: None,
             going_on: None,

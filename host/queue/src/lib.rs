@@ -1,4 +1,4 @@
-//! A split virtqueue of 32 descriptors. Requests are copied in and answers out, a payload is lent for good, and nothing that the device writes is believed
+//! A split virtqueue of 32 descriptors, direct or indirect. Requests are copied in and answers out, a payload is lent for good, and nothing that the device writes is believed
 //! before it was checked: so its edge is safe, whatever the device writes into the memory that it was given.
 #![no_std]
 #![deny(clippy::undocumented_unsafe_blocks)]
@@ -16,8 +16,10 @@ pub const LENGTH: usize = 32;
 /// Descriptors of a chain: request, payload, answer.
 const PARTS: usize = 3;
 /// Sets of heads: a queue uses the next one after each reset. QEMU 10.0.2's sound device keeps its periods over a reset, and completes them into the new
-/// ring: by their heads they are seen to be none of the new ones.
+/// ring: by their heads they are seen to be none of the new ones. With indirect descriptors every head may be in use, and each set has the same ones.
 const SETS: usize = PARTS;
+/// Chains that fit with direct descriptors, so that every set of heads has its own; with indirect ones there are as many as descriptors.
+pub const DIRECT_CHAINS: usize = (LENGTH + 1 - SETS) / PARTS;
 /// Bytes of a request at most.
 const REQUEST: usize = 32;
 
@@ -25,12 +27,18 @@ const REQUEST: usize = 32;
 const NO_INTERRUPT: u16 = 1;
 const NEXT: u64 = 1;
 const WRITE: u64 = 2;
+/// A descriptor of descriptors: those of a whole chain stand where it points.
+const INDIRECT: u64 = 4;
+/// Bytes of a descriptor.
+const DESCRIPTOR: usize = 16;
 
 /// What the device reads and writes, but for payloads. Each set of heads has requests and answers of its own, so that a period which the device kept over
 /// a reset is answered in no place that is in use again.
 #[repr(C, align(4096))]
 pub struct Memory<const CHAINS: usize, const ANSWER: usize> {
     descriptors: [[u64; 2]; LENGTH],
+    /// The descriptors of each chain, where they are indirect.
+    table: [[[[u64; 2]; PARTS]; CHAINS]; SETS],
     available: Available,
     used: Used,
     request: [[[u8; REQUEST]; CHAINS]; SETS],
@@ -72,6 +80,7 @@ impl<const CHAINS: usize, const ANSWER: usize> Memory<CHAINS, ANSWER> {
     pub const fn new() -> Self {
         Self {
             descriptors: [[0; 2]; LENGTH],
+            table: [[[[0; 2]; PARTS]; CHAINS]; SETS],
             available: Available::EMPTY,
             used: Used::EMPTY,
             request: [[[0; REQUEST]; CHAINS]; SETS],
@@ -119,10 +128,12 @@ pub struct Done {
 #[derive(Clone, Copy, PartialEq, Eq, Debug)]
 pub struct Odd;
 
-/// A queue of `CHAINS` chains, with answers of at most `ANSWER` bytes.
+/// A queue of `CHAINS` chains, of which no more than `DIRECT_CHAINS` are in use with direct descriptors, with answers of at most `ANSWER` bytes.
 pub struct Queue<const CHAINS: usize, const ANSWER: usize> {
     /// This queue's alone, and the device's: by volatile accesses only.
     memory: *mut Memory<CHAINS, ANSWER>,
+    /// As it was agreed on with the device.
+    indirect: bool,
     set: usize,
     available: u16,
     used: u16,
@@ -133,9 +144,10 @@ pub struct Queue<const CHAINS: usize, const ANSWER: usize> {
 impl<const CHAINS: usize, const ANSWER: usize> Queue<CHAINS, ANSWER> {
     /// A queue in memory that is its own for good. `empty` comes before its first use.
     pub fn new(memory: &'static mut Memory<CHAINS, ANSWER>) -> Self {
-        const { assert!(PARTS * CHAINS + SETS - 1 <= LENGTH, "every set of heads has its chains") };
+        const { assert!(CHAINS <= LENGTH, "every chain has a head") };
         Self {
             memory,
+            indirect: false,
             set: 0,
             available: 0,
             used: 0,
@@ -144,8 +156,20 @@ impl<const CHAINS: usize, const ANSWER: usize> Queue<CHAINS, ANSWER> {
     }
 
     /// Empties the queue, for a device that was just reset, and goes on to the next set of heads. Tells the device's places. The device should have let go of
-    /// the memory at its reset; one that has not writes into nothing else, since the memory is this queue's for good.
+    /// the memory at its reset; one that has not writes into nothing else, since the memory is this queue's for good. Its descriptors are direct.
     pub fn empty(&mut self) -> Places {
+        self.emptied(false)
+    }
+
+    /// The same with indirect descriptors, where the device has agreed to them: each chain takes one, so that all `CHAINS` may be out. The heads are then the
+    /// same after each reset: what a device kept is not seen to be none of the new ones, but its answer stands in no place that is read again, so that it is
+    /// taken for a chain that came back with zeros.
+    pub fn empty_indirect(&mut self) -> Places {
+        self.emptied(true)
+    }
+
+    fn emptied(&mut self, indirect: bool) -> Places {
+        self.indirect = indirect;
         self.set = (self.set + 1) % SETS;
         (self.available, self.used) = (0, 0);
         self.out = [None; CHAINS];
@@ -162,15 +186,32 @@ impl<const CHAINS: usize, const ANSWER: usize> Queue<CHAINS, ANSWER> {
         }
     }
 
+    /// How many chains may be out.
+    fn most(&self) -> usize {
+        if self.indirect {
+            CHAINS
+        } else {
+            CHAINS.min(DIRECT_CHAINS)
+        }
+    }
+
     fn head(&self, chain: usize) -> usize {
-        PARTS * chain + self.set
+        if self.indirect { chain } else { PARTS * chain + self.set }
+    }
+
+    /// The chain of a head, if it is of this set.
+    fn chain(&self, head: usize) -> Option<usize> {
+        if self.indirect {
+            return Some(head);
+        }
+        (head % PARTS == self.set).then_some(head / PARTS)
     }
 
     /// Makes a request the device's, with a payload that stays as it is for good, and room for an answer; parts of no bytes are left out. Tells the chain, and
     /// the device is to be told then that there is something new; `None`: no chain is free, or a length cannot be.
     #[must_use = "the device is not told yet"]
     pub fn send(&mut self, request: &[u8], payload: &'static [u8], room: usize) -> Option<usize> {
-        let chain = self.out.iter().position(Option::is_none)?;
+        let chain = self.out.iter().take(self.most()).position(Option::is_none)?;
         let lengths = request.len() <= REQUEST && room <= ANSWER && u32::try_from(payload.len()).is_ok();
         if !lengths || request.len() + payload.len() + room == 0 {
             return None;
@@ -201,24 +242,35 @@ impl<const CHAINS: usize, const ANSWER: usize> Queue<CHAINS, ANSWER> {
         Some(chain)
     }
 
-    /// Writes the descriptors of a chain that is not out: address, length and flags of each part that has bytes.
+    /// Writes the descriptors of a chain that is not out: address, length and flags of each part that has bytes. Indirect ones stand in the chain's own table,
+    /// and the one of the queue points there.
     fn describe(&mut self, chain: usize, parts: [(usize, usize, u64); PARTS]) {
-        let first = self.head(chain);
-        let mut parts = parts.into_iter().filter(|(_, length, _)| *length > 0);
-        let mut part = parts.next();
-        for at in first..first + PARTS {
-            let Some((address, length, flags)) = part else {
-                return;
-            };
-            part = parts.next();
-            let (next, flags) = match part {
-                Some(_) => (at as u64 + 1, flags | NEXT),
-                None => (0, flags),
+        let (memory, set) = (self.memory, self.set);
+        let first = if self.indirect { 0 } else { self.head(chain) };
+        let count = parts.iter().filter(|(_, length, _)| *length > 0).count();
+        let parts = parts.into_iter().filter(|(_, length, _)| *length > 0);
+        for (number, (address, length, flags)) in parts.enumerate() {
+            let (next, flags) = if number + 1 < count {
+                ((first + number + 1) as u64, flags | NEXT)
+            } else {
+                (0, flags)
             };
             // SAFETY: a place of this queue's memory, of a chain that is not out.
             unsafe {
-                let place = &raw mut (*self.memory).descriptors[at];
+                let place = if self.indirect {
+                    &raw mut (*memory).table[set][chain][number]
+                } else {
+                    &raw mut (*memory).descriptors[first + number]
+                };
                 write_volatile(place, [address as u64, length as u64 | flags << 32 | next << 48]);
+            }
+        }
+        if self.indirect {
+            // SAFETY: as above.
+            unsafe {
+                let table = (&raw const (*memory).table[set][chain]).addr() as u64;
+                let place = &raw mut (*memory).descriptors[self.head(chain)];
+                write_volatile(place, [table, (DESCRIPTOR * count) as u64 | INDIRECT << 32]);
             }
         }
     }
@@ -255,10 +307,9 @@ impl<const CHAINS: usize, const ANSWER: usize> Queue<CHAINS, ANSWER> {
         let [head, written] = unsafe { read_volatile(&raw const (*memory).used.entries[place]) };
         self.used = self.used.wrapping_add(1);
         let (head, written) = (head as usize, written as usize);
-        let chain = head / PARTS;
         // what is odd leaves every chain as it was
-        let ours = new <= LENGTH && head % PARTS == self.set;
-        let out = self.out.get_mut(chain).filter(|_| ours);
+        let chain = self.chain(head).filter(|_| new <= LENGTH).ok_or(Odd)?;
+        let out = self.out.get_mut(chain);
         let out = out.filter(|out| out.is_some_and(|room| written <= room));
         let room = out.and_then(Option::take).ok_or(Odd)?;
         for (at, byte) in answer.iter_mut().enumerate().take(room) {

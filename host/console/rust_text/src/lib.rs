@@ -38,8 +38,10 @@ trait Hal {}
 struct NoHal;
 impl Hal for NoHal {}
 
-/// What the guest's queues do for the driver. The device was reset, with VirtIO 1 and no other feature.
+/// What the guest's queues do for the driver. The device was reset, with VirtIO 1 and, where they are indirect, with indirect descriptors.
 pub trait Queues {
+    /// Whether descriptors are indirect.
+    fn indirect(&self) -> bool;
     /// Jacks, streams, channel maps.
     fn counts(&self) -> [u32; 3];
     /// Sends a request and waits for its answer; false: the queue failed.

@@ -1,5 +1,5 @@
 //! The crate's virtqueue, as the text calls it, over the guest's. A token is a slot, given out in turn; a submission takes three descriptors of 32, as in the
-//! guest's queue. `pcm_xfer` asks `available_desc` once at the top of each iteration and nowhere else, so a turn begins there.
+//! guest's queue, or an indirect one: then 32 are said to be free while one is, as in host/oracle. `pcm_xfer` asks `available_desc` once at the top of each iteration and nowhere else, so a turn begins there.
 use crate::transport::Transport;
 use crate::{Error, Hal, Result, Shared};
 use alloc::collections::VecDeque;
@@ -11,6 +11,7 @@ const PARTS: usize = 3;
 
 pub struct VirtQueue<H: Hal, const SIZE: usize> {
     queues: Shared,
+    indirect: bool,
     next: u16,
     out: VecDeque<u16>,
     /// What was seen, until it is taken.
@@ -19,9 +20,10 @@ pub struct VirtQueue<H: Hal, const SIZE: usize> {
 }
 
 impl<H: Hal, const SIZE: usize> VirtQueue<H, SIZE> {
-    pub fn new<T: Transport>(transport: &mut T, _index: u16, _indirect: bool, _event_idx: bool) -> Result<Self> {
+    pub fn new<T: Transport>(transport: &mut T, _index: u16, indirect: bool, _event_idx: bool) -> Result<Self> {
         Ok(Self {
             queues: transport.queues(),
+            indirect,
             next: 0,
             out: VecDeque::new(),
             reading: Cell::new(None),
@@ -37,7 +39,11 @@ impl<H: Hal, const SIZE: usize> VirtQueue<H, SIZE> {
 
     pub fn available_desc(&self) -> usize {
         self.queues.borrow_mut().turn();
-        SIZE - PARTS * self.out.len()
+        match self.out.len() {
+            out if !self.indirect => SIZE - PARTS * out,
+            out if out < SIZE => SIZE,
+            _all => 0,
+        }
     }
 
     /// # Safety

@@ -18,7 +18,13 @@ pub struct Guest(pub Shared);
 
 impl Transport for Guest {
     fn begin_init(&mut self, supported: Feature) -> Feature {
-        supported.intersection(Feature::VERSION_1)
+        let indirect = self.0.borrow().indirect();
+        let more = if indirect {
+            Feature::RING_INDIRECT_DESC
+        } else {
+            Feature::empty()
+        };
+        supported.intersection(Feature::VERSION_1.union(more))
     }
     fn finish_init(&mut self) {}
     fn notify(&mut self, _queue: u16) {}
