@@ -47,7 +47,7 @@ build() { # ARCHIVE WORD..
 
 # isa-debug-exit: QEMU ends with 2 * code + 1.
 boot() {
-    timeout 120 qemu-system-x86_64 -machine microvm,pic=off,pit=off,rtc=off,isa-serial=on -accel tcg -cpu qemu64 -m 64 -nodefaults -no-user-config \
+    timeout 300 qemu-system-x86_64 -machine microvm,pic=off,pit=off,rtc=off,isa-serial=on -accel tcg -cpu qemu64 -m 64 -nodefaults -no-user-config \
         -no-reboot -display none -serial stdio -device isa-debug-exit,iobase=0xf4,iosize=4 -kernel "$made/guest" >"$made/said" 2>"$made/qemu"
     local status=$?
     cat "$made/said"
@@ -55,7 +55,7 @@ boot() {
     33) return 0 ;;
     35) echo "an interrupt on the same stack changes what these calls do; the first of them in $(where)" ;;
     37 | 39) ;; # the guest has said why
-    124) echo "the guest did not end within two minutes" ;;
+    124) echo "the guest did not end within five minutes" ;;
     *) echo "QEMU ended with status $status: $(cat "$made/qemu")" ;;
     esac
     return 1
