@@ -5,7 +5,7 @@ cd "$(dirname "$0")/.." || exit 2
 for tool in gcc objcopy objdump; do
     command -v $tool >/dev/null || { echo "$tool is not there: install gcc and binutils"; exit 1; }
 done
-archive=${VSND_LIB:-target/staticlib/libvsnd.a}
+archive=${SND_LIB:-target/staticlib/libconsole.a}
 [ -r "$archive" ] || { echo "$archive is not there: make it by tools/staticlib"; exit 1; }
 made=$(mktemp -d) || exit 2
 trap 'rm -rf "$made"' EXIT

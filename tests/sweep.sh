@@ -2,7 +2,7 @@
 # its instructions, interrupted there (tests/sweep.c). A function that keeps numbers below its stack pointer is seen at the three instructions where it does.
 # The form without SSE, where it stands, runs on a processor that refuses SSE. Where there is no QEMU, tests/redzone.sh is the simulation.
 cd "$(dirname "$0")/.." || exit 2
-archive=${VSND_LIB:-target/staticlib/libvsnd.a}
+archive=${SND_LIB:-target/staticlib/libconsole.a}
 made=$(mktemp -d) || exit 2
 trap 'rm -rf "$made"' EXIT
 
@@ -62,19 +62,19 @@ boot() {
 }
 
 # The function in which the first wrong outcome was interrupted.
-where() { addr2line -f -e "$made/guest" "$(sed -nE '/^vsnd_/s/.* interrupted at (0x[0-9a-f]+)$/\1/p' "$made/said" | head -n 1)" | head -n 1; }
+where() { addr2line -f -e "$made/guest" "$(sed -nE '/^snd_/s/.* interrupted at (0x[0-9a-f]+)$/\1/p' "$made/said" | head -n 1)" | head -n 1; }
 
 sweep() { # ARCHIVE WORD..
     local unswept
     build "$@" && boot || return 1
-    unswept=$(comm -23 <(sed -nE 's/^uint64_t (vsnd_[a-z0-9_]+)\(.*/\1/p' host/include/vsnd.h | sort -u) <(awk '{ print $1 }' "$made/said" | sort -u))
-    [ -z "$unswept" ] || { echo "entries of vsnd.h that the session does not call: ${unswept//$'\n'/ }" && return 1; }
+    unswept=$(comm -23 <(sed -nE 's/^uint64_t (snd_[a-z_]+)\(.*/\1/p' host/include/snd.h | sort -u) <(awk '{ print $1 }' "$made/said" | sort -u))
+    [ -z "$unswept" ] || { echo "entries of snd.h that the session does not call: ${unswept//$'\n'/ }" && return 1; }
 }
 
 [ -r "$archive" ] || { echo "$archive is not there: make it by tools/staticlib"; exit 1; }
 command -v ar >/dev/null || { echo "ar is not there: install binutils"; exit 1; }
 [ "$(ar p "$archive" 2>/dev/null | od -An -tu1 -j18 -N1 | tr -d ' ')" = 62 ] ||
-    skip "the red zone is x86-64's, and the archive is for another processor; VSND_LIB may name one for x86-64"
+    skip "the red zone is x86-64's, and the archive is for another processor; SND_LIB may name one for x86-64"
 compiler
 at_hand || fetch || skip "qemu-system-x86_64 is not there and was not installed (Debian's package qemu-system-x86): the sweep was not made"
 sweep "$archive" || exit 1

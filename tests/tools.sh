@@ -85,7 +85,7 @@ done
 "$made/rests/tools/rests" small:odd >/dev/null 2>&1 && fault "tools/rests takes a name that is not there"
 said=$(tools/rests --unknown) || fault "tools/rests cannot place every name of the tree: $said"
 for path in $(tools/rests --demand | grep -oE 'crates/\w+/specs/\w+\.antt' | sort -u); do
-    grep -q "$(basename "$path")" docs/MAP.md || fault "docs/MAP.md, an hour's reading, does not name $path, on which demand 3 rests"
+    grep -q "$(basename "$path")" README.md || fault "README.md, an hour's reading, does not name $path, on which demand 3 rests"
 done
 
 for tool in skel paths; do
@@ -95,15 +95,11 @@ done
 # A repository of three crates, a kit of empty files, and an rt that says what the files beside it tell it to.
 stand=$made/stand
 machine=$(uname -m)
-mkdir -p "$stand/bin" "$stand/kit/on/$machine/bin" "$stand/kit/on/$machine/toolchain/bin" "$stand/repo/.ci" "$stand/repo/tools" "$stand/repo/tests" "$stand/repo/host/vsnd"
+mkdir -p "$stand/bin" "$stand/kit/on/$machine/bin" "$stand/kit/on/$machine/toolchain/bin" "$stand/repo/.ci" "$stand/repo/tools" "$stand/repo/tests" "$stand/repo/host/snd"
 echo stand-in-1 | tee "$stand/kit/KIT-ID" >"$stand/repo/.ci/kit"
-printf '%s\n' '#!/bin/sh' 'while [ $# -gt 0 ]; do [ "$1" != -o ] || out=$2; shift; done' '[ "$out" = - ] || : >"$out"' >"$stand/kit/on/$machine/toolchain/bin/clang"
-printf '%s\n' '#!/bin/sh' 'printf "!<arch>\nvsnd_version_0_13_0\0" >"$2"' >"$stand/kit/on/$machine/toolchain/bin/llvm-ar"
-: >"$stand/kit/on/$machine/bin/rattle"
-chmod +x "$stand/kit/on/$machine/bin/rattle" "$stand/kit/on/$machine/toolchain/bin/"*
-for crate in base one other alone console; do
-    mkdir -p "$stand/repo/crates/$crate/src"
-    echo "// $crate" >"$stand/repo/crates/$crate/src/lib.rt"
+for part in bin/rattle toolchain/bin/clang toolchain/bin/llvm-ar; do
+    : >"$stand/kit/on/$machine/$part"
+    chmod +x "$stand/kit/on/$machine/$part"
 done
 cp tools/staticlib "$stand/repo/tools"
 cp .ci/run "$stand/repo/.ci"
@@ -114,17 +110,12 @@ cat >"$stand/bin/rt" <<'RT'
 echo "$*" >>"$STAND/asked"
 case $1 in
 check) echo "rt: base proved (1 s)" && exit "$(cat "$STAND/check")" ;;
-staticlib)
-    tools=$RATTLE_HOME/on/$(uname -m)/toolchain/bin
-    mkdir -p target/staticlib
-    echo module >"$STAND/$2.bc"
-    "$tools/clang" -c "$STAND/$2.bc" -o "$STAND/$2.o" && "$tools/llvm-ar" rcs "target/staticlib/lib$2.a" "$STAND/$2.o" && echo "fn f: proved"
-    ;;
+staticlib) mkdir -p target/staticlib && printf '!<arch>\nsnd_new\0' >"target/staticlib/lib$2.a" && echo "fn f: proved" ;;
 ci) rm -rf target && echo "3 passed, 0 failed" ;;
 esac
 RT
-# The kit's folder is named as a user's is, and VSND_LIB as one's who has an archive from elsewhere.
-beside() { env PATH="$stand/bin:$PATH" STAND="$stand" RATTLE_HOME="$stand/kit" VSND_LIB=/elsewhere.a "$@" 2>&1; }
+# The kit's folder is named as a user's is, and SND_LIB as one's who has an archive from elsewhere.
+beside() { env PATH="$stand/bin:$PATH" STAND="$stand" RATTLE_HOME="$stand/kit" SND_LIB=/elsewhere.a "$@" 2>&1; }
 afresh() {
     rm -rf "$stand/repo/target" "$stand/asked"
     echo 0 >"$stand/check"
@@ -140,15 +131,6 @@ said=$(beside "$stand/repo/tools/staticlib") || fault "tools/staticlib fails ove
     fault "tools/staticlib does not say first how many crates it proves: $said"
 takes=$(sed -nE 's/^tools\/staticlib: from nothing that takes (about [0-9]+ minutes on two cores) .*/\1/p' <<<"$said")
 [ -n "$takes" ] && grep -q "$takes" docs/BENCH.md || fault "tools/staticlib does not say how long it takes, in words of docs/BENCH.md: $said"
-# While the sources stay, another form is made of the module that was kept, and nothing is proved; where one changes, all is asked for again.
-beside "$stand/repo/tools/staticlib" >/dev/null || fault "tools/staticlib fails where the module is kept"
-[ "$(wc -l <"$stand/asked")" -eq 2 ] || fault "tools/staticlib has something proved again that did not change: $(cat "$stand/asked")"
-[ -s "$stand/repo/target/staticlib/libvsnd.a" ] || fault "tools/staticlib makes no archive of the kept module"
-[ ! -e "$stand/repo/target/staticlib/libconsole.a" ] || fault "tools/staticlib leaves an archive under another name"
-echo 1 >"$stand/repo/crates/one/src/changed"
-beside "$stand/repo/tools/staticlib" >/dev/null
-[ "$(wc -l <"$stand/asked")" -eq 4 ] || fault "tools/staticlib takes a module that is older than a source: $(cat "$stand/asked")"
-rm "$stand/repo/crates/one/src/changed"
 afresh
 said=$(beside "$stand/repo/tools/staticlib" alone) || fault "tools/staticlib fails of a crate with none below it: $said"
 [ "$(cat "$stand/asked")" = "staticlib alone" ] || fault "tools/staticlib asks rt to check crates that are not below: $(cat "$stand/asked")"
@@ -179,15 +161,15 @@ early "a full disk" "20 MB are free where target/ stands: proving may take 1000 
 rm "$stand/bin/df"
 
 # The gate is of this tree and of this kit: no archive from elsewhere, and a kit of another name is one failure more.
-printf '%s\n' '#!/bin/sh' 'echo "test result: ok. 2 passed; 0 failed; 0 ignored; VSND_LIB=${VSND_LIB-none}"' >"$stand/bin/cargo"
+printf '%s\n' '#!/bin/sh' 'echo "test result: ok. 2 passed; 0 failed; 0 ignored; SND_LIB=${SND_LIB-none}"' >"$stand/bin/cargo"
 chmod +x "$stand/bin/cargo"
-echo 'echo "a test sees VSND_LIB=${VSND_LIB-none}"' >"$stand/repo/tests/sees.sh"
+echo 'echo "a test sees SND_LIB=${SND_LIB-none}"' >"$stand/repo/tests/sees.sh"
 afresh
 said=$(beside bash "$stand/repo/.ci/run") || fault "the gate fails over a stand-in for rt: $said"
 [ "$(tail -n 1 <<<"$said")" = "6 passed, 0 failed" ] || fault "the gate counts otherwise over a stand-in for rt: $said"
-[ "$(grep -c 'VSND_LIB=none$' <<<"$said")" -eq 2 ] || fault "the gate's tests see VSND_LIB: $said"
-sum=$(sha256sum <"$stand/repo/target/staticlib/libvsnd.a" | cut -d' ' -f1)
-grep -qx "archive sha256 $sum  target/staticlib/libvsnd.a" <<<"$said" || fault "the gate does not tell the archive's sha256, $sum: $said"
+[ "$(grep -c 'SND_LIB=none$' <<<"$said")" -eq 2 ] || fault "the gate's tests see SND_LIB: $said"
+sum=$(sha256sum <"$stand/repo/target/staticlib/libconsole.a" | cut -d' ' -f1)
+grep -qx "archive sha256 $sum  target/staticlib/libconsole.a" <<<"$said" || fault "the gate does not tell the archive's sha256, $sum: $said"
 afresh
 echo stand-in-2 >"$stand/kit/KIT-ID"
 said=$(beside bash "$stand/repo/.ci/run") && fault "the gate passes with another kit"
@@ -196,9 +178,10 @@ grep -qx "the kit at hand is 'stand-in-2'; this repository is proved with 'stand
 
 # The host's build script shows how far the proof is, on the terminal if there is one, else by two warnings of cargo's.
 if command -v rustc >/dev/null; then
-    rustc --edition 2024 -o "$stand/build" host/vsnd/build.rs || fault "host/vsnd/build.rs does not compile by itself"
-    mkdir -p "$stand/out"
-    build=(env -u VSND_LIB CARGO_PKG_VERSION=0.13.0 "CARGO_MANIFEST_DIR=$stand/repo/host/vsnd" "OUT_DIR=$stand/out" "$stand/build")
+    rustc --edition 2024 -o "$stand/build" host/snd/build.rs || fault "host/snd/build.rs does not compile by itself"
+    mkdir -p "$stand/out" "$stand/repo/crates"
+    echo x >"$stand/repo/crates/x"
+    build=(env -u SND_LIB "CARGO_MANIFEST_DIR=$stand/repo/host/snd" "OUT_DIR=$stand/out" "$stand/build")
     afresh
     said=$(beside setsid -w "${build[@]}") || fault "the build script fails over a stand-in for rt: $said"
     [ "$(grep -c '^cargo:warning=' <<<"$said")" -eq 2 ] && grep -q '^cargo:warning=proved and made in [0-9]* s$' <<<"$said" || fault "the build script leaves no two warnings where there is no terminal: $said"

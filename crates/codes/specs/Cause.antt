@@ -10,7 +10,7 @@ use Rattle.codes.specs.declared.answers.Cause.TheVariants as cause
 use Rattle.codes.specs.declared.answers.Refusal.{Refusal}
 use Rattle.codes.specs.declared.answers.Refusal.TheVariants as refusal
 
--- the two halves of an answer (`VSND_NUMBER`, `VSND_STATUS`)
+-- the two halves of an answer (`SND_NUMBER`, `SND_STATUS`)
 abbrev pub number_in : ℕ → ℕ
 number_in answer = answer % 4294967296
 

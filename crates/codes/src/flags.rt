@@ -131,6 +131,56 @@ pub struct PcmFormats {
 }
 
 impl PcmFormats {
+    pub const IMA_ADPCM: u64 = 1 << 0;
+
+    pub const MU_LAW: u64 = 1 << 1;
+
+    pub const A_LAW: u64 = 1 << 2;
+
+    pub const S8: u64 = 1 << 3;
+
+    pub const U8: u64 = 1 << 4;
+
+    pub const S16: u64 = 1 << 5;
+
+    pub const U16: u64 = 1 << 6;
+
+    pub const S18_3: u64 = 1 << 7;
+
+    pub const U18_3: u64 = 1 << 8;
+
+    pub const S20_3: u64 = 1 << 9;
+
+    pub const U20_3: u64 = 1 << 10;
+
+    pub const S24_3: u64 = 1 << 11;
+
+    pub const U24_3: u64 = 1 << 12;
+
+    pub const S20: u64 = 1 << 13;
+
+    pub const U20: u64 = 1 << 14;
+
+    pub const S24: u64 = 1 << 15;
+
+    pub const U24: u64 = 1 << 16;
+
+    pub const S32: u64 = 1 << 17;
+
+    pub const U32: u64 = 1 << 18;
+
+    pub const FLOAT: u64 = 1 << 19;
+
+    pub const FLOAT64: u64 = 1 << 20;
+
+    pub const DSD_U8: u64 = 1 << 21;
+
+    pub const DSD_U16: u64 = 1 << 22;
+
+    pub const DSD_U32: u64 = 1 << 23;
+
+    pub const IEC958_SUBFRAME: u64 = 1 << 24;
+
     pub fn from_bits_retain(bits: u64) -> PcmFormats
         ensures { result.bits ≡ bits }
     {

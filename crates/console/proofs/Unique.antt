@@ -9,78 +9,76 @@ use Rattle.ring_store.specs.Calls.{Caught, caught}
 use Rattle.state_store.specs.Calls.{Told, left}
 use Rattle.state_store.specs.Tokens.{Submitted, submitted}
 use Rattle.console.specs.Entries.{Begun, began}
-use Rattle.console.proofs.sizes.vsnd_version.Reads as version
-use Rattle.console.proofs.sizes.vsnd_version_0_13_0.Reads as version-0-13-0
-use Rattle.console.proofs.sizes.vsnd_state_size.Reads as state-size
-use Rattle.console.proofs.sizes.vsnd_ring_size.Reads as ring-size
-use Rattle.console.proofs.sizes.vsnd_message_size.Reads as message-size
-use Rattle.console.proofs.sizes.vsnd_result_size.Reads as result-size
-use Rattle.console.proofs.sizes.vsnd_page_size.Reads as page-size
-use Rattle.console.proofs.sizes.vsnd_model_size.Reads as model-size
-use Rattle.console.proofs.stores.vsnd_new.Reads as new
-use Rattle.console.proofs.stores.vsnd_new_guarded.Reads as new-guarded
-use Rattle.console.proofs.stores.vsnd_jacks.Reads as jacks
-use Rattle.console.proofs.stores.vsnd_streams.Reads as streams
-use Rattle.console.proofs.stores.vsnd_chmaps.Reads as chmaps
-use Rattle.console.proofs.calls.vsnd_jack_remap.Reads as jack-remap
-use Rattle.console.proofs.calls.vsnd_pcm_set_params.Reads as pcm-set-params
-use Rattle.console.proofs.calls.vsnd_pcm_prepare.Reads as pcm-prepare
-use Rattle.console.proofs.calls.vsnd_pcm_release.Reads as pcm-release
-use Rattle.console.proofs.calls.vsnd_pcm_start.Reads as pcm-start
-use Rattle.console.proofs.calls.vsnd_pcm_stop.Reads as pcm-stop
-use Rattle.console.proofs.calls.vsnd_output_streams.Reads as output-streams
-use Rattle.console.proofs.calls.vsnd_input_streams.Reads as input-streams
-use Rattle.console.proofs.calls.vsnd_rates_supported.Reads as rates-supported
-use Rattle.console.proofs.calls.vsnd_formats_supported.Reads as formats-supported
-use Rattle.console.proofs.calls.vsnd_channel_range_supported.Reads as channel-range-supported
-use Rattle.console.proofs.calls.vsnd_features_supported.Reads as features-supported
-use Rattle.console.proofs.calls.vsnd_feed.Reads as feed
-use Rattle.console.proofs.calls.vsnd_feed_written.Reads as feed-written
-use Rattle.console.proofs.calls.vsnd_feed_failure.Reads as feed-failure
-use Rattle.console.proofs.transfer.vsnd_pcm_xfer_start.Reads as pcm-xfer-start
-use Rattle.console.proofs.transfer.vsnd_pcm_xfer_start_traced.Reads as pcm-xfer-start-traced
-use Rattle.console.proofs.capture.vsnd_pcm_capture_start.Reads as pcm-capture-start
-use Rattle.console.proofs.nonblocking.vsnd_pcm_xfer_nb.Reads as pcm-xfer-nb
-use Rattle.console.proofs.nonblocking.vsnd_pcm_xfer_mark.Reads as pcm-xfer-mark
-use Rattle.console.proofs.nonblocking.vsnd_pcm_xfer_ok.Reads as pcm-xfer-ok
-use Rattle.console.proofs.nonblocking.vsnd_pending_count.Reads as pending-count
-use Rattle.console.proofs.nonblocking.vsnd_pending_token.Reads as pending-token
-use Rattle.console.proofs.ring.vsnd_ring_new.Reads as ring-new
-use Rattle.console.proofs.ring.vsnd_ring_new_indirect.Reads as ring-new-indirect
-use Rattle.console.proofs.ring.vsnd_offered.Reads as offered
-use Rattle.console.proofs.ring.vsnd_turn.Reads as turn
-use Rattle.console.proofs.ring.vsnd_turn_traced.Reads as turn-traced
-use Rattle.console.proofs.ring.vsnd_capture_offered.Reads as capture-offered
-use Rattle.console.proofs.ring.vsnd_capture_turn.Reads as capture-turn
-use Rattle.console.proofs.ring.vsnd_drain_turn.Reads as drain-turn
-use Rattle.console.proofs.ring.vsnd_ring_running.Reads as ring-running
-use Rattle.console.proofs.ring.vsnd_ring_in_flight.Reads as ring-in-flight
-use Rattle.console.proofs.ring.vsnd_ring_free_descriptors.Reads as ring-free-descriptors
-use Rattle.console.proofs.ring.vsnd_ring_turns_run.Reads as ring-turns-run
-use Rattle.console.proofs.ring.vsnd_ring_stream.Reads as ring-stream
-use Rattle.console.proofs.ring.vsnd_ring_kept.Reads as ring-kept
-use Rattle.console.proofs.ring.vsnd_ring_accepted.Reads as ring-accepted
-use Rattle.console.proofs.ring.vsnd_trace_length.Reads as trace-length
-use Rattle.console.proofs.ring.vsnd_ring_carried.Reads as ring-carried
-use Rattle.console.proofs.ring.vsnd_ring_oldest.Reads as ring-oldest
-use Rattle.console.proofs.event.vsnd_latest_notification.Reads as latest-notification
-use Rattle.console.proofs.versions.vsnd_config.Reads as config
-use Rattle.console.proofs.versions.vsnd_latest_notification_in.Reads as latest-notification-in
-use Rattle.console.proofs.device.vsnd_model_new.Reads as model-new
-use Rattle.console.proofs.device.vsnd_model_control.Reads as model-control
-use Rattle.console.proofs.device.vsnd_model_transfer.Reads as model-transfer
-use Rattle.console.proofs.device.vsnd_model_payload.Reads as model-payload
-use Rattle.console.proofs.device.vsnd_model_params.Reads as model-params
-use Rattle.console.proofs.device.vsnd_model_played.Reads as model-played
-use Rattle.console.proofs.wave.vsnd_wav_read.Reads as wav-read
-use Rattle.console.proofs.wave.vsnd_wav_write.Reads as wav-write
-use Rattle.console.proofs.traces.vsnd_trace_scan.Reads as trace-scan
-use Rattle.console.proofs.traces.vsnd_trace_scan_at.Reads as trace-scan-at
-use Rattle.console.proofs.traces.vsnd_judge.Reads as judge
-use Rattle.console.proofs.traces.vsnd_judge_at.Reads as judge-at
-use Rattle.console.proofs.compare.vsnd_entry_size.Reads as entry-size
-use Rattle.console.proofs.compare.vsnd_differences.Reads as differences
-use Rattle.console.proofs.compare.vsnd_compare.Reads as compare
+use Rattle.console.proofs.sizes.snd_state_size.Reads as state-size
+use Rattle.console.proofs.sizes.snd_ring_size.Reads as ring-size
+use Rattle.console.proofs.sizes.snd_message_size.Reads as message-size
+use Rattle.console.proofs.sizes.snd_result_size.Reads as result-size
+use Rattle.console.proofs.sizes.snd_page_size.Reads as page-size
+use Rattle.console.proofs.sizes.snd_model_size.Reads as model-size
+use Rattle.console.proofs.stores.snd_new.Reads as new
+use Rattle.console.proofs.stores.snd_new_guarded.Reads as new-guarded
+use Rattle.console.proofs.stores.snd_jacks.Reads as jacks
+use Rattle.console.proofs.stores.snd_streams.Reads as streams
+use Rattle.console.proofs.stores.snd_chmaps.Reads as chmaps
+use Rattle.console.proofs.calls.snd_jack_remap.Reads as jack-remap
+use Rattle.console.proofs.calls.snd_pcm_set_params.Reads as pcm-set-params
+use Rattle.console.proofs.calls.snd_pcm_prepare.Reads as pcm-prepare
+use Rattle.console.proofs.calls.snd_pcm_release.Reads as pcm-release
+use Rattle.console.proofs.calls.snd_pcm_start.Reads as pcm-start
+use Rattle.console.proofs.calls.snd_pcm_stop.Reads as pcm-stop
+use Rattle.console.proofs.calls.snd_output_streams.Reads as output-streams
+use Rattle.console.proofs.calls.snd_input_streams.Reads as input-streams
+use Rattle.console.proofs.calls.snd_rates_supported.Reads as rates-supported
+use Rattle.console.proofs.calls.snd_formats_supported.Reads as formats-supported
+use Rattle.console.proofs.calls.snd_channel_range_supported.Reads as channel-range-supported
+use Rattle.console.proofs.calls.snd_features_supported.Reads as features-supported
+use Rattle.console.proofs.calls.snd_feed.Reads as feed
+use Rattle.console.proofs.calls.snd_feed_written.Reads as feed-written
+use Rattle.console.proofs.calls.snd_feed_failure.Reads as feed-failure
+use Rattle.console.proofs.transfer.snd_pcm_xfer_start.Reads as pcm-xfer-start
+use Rattle.console.proofs.transfer.snd_pcm_xfer_start_traced.Reads as pcm-xfer-start-traced
+use Rattle.console.proofs.capture.snd_pcm_capture_start.Reads as pcm-capture-start
+use Rattle.console.proofs.nonblocking.snd_pcm_xfer_nb.Reads as pcm-xfer-nb
+use Rattle.console.proofs.nonblocking.snd_pcm_xfer_mark.Reads as pcm-xfer-mark
+use Rattle.console.proofs.nonblocking.snd_pcm_xfer_ok.Reads as pcm-xfer-ok
+use Rattle.console.proofs.nonblocking.snd_pending_count.Reads as pending-count
+use Rattle.console.proofs.nonblocking.snd_pending_token.Reads as pending-token
+use Rattle.console.proofs.ring.snd_ring_new.Reads as ring-new
+use Rattle.console.proofs.ring.snd_ring_new_indirect.Reads as ring-new-indirect
+use Rattle.console.proofs.ring.snd_offered.Reads as offered
+use Rattle.console.proofs.ring.snd_turn.Reads as turn
+use Rattle.console.proofs.ring.snd_turn_traced.Reads as turn-traced
+use Rattle.console.proofs.ring.snd_capture_offered.Reads as capture-offered
+use Rattle.console.proofs.ring.snd_capture_turn.Reads as capture-turn
+use Rattle.console.proofs.ring.snd_drain_turn.Reads as drain-turn
+use Rattle.console.proofs.ring.snd_ring_running.Reads as ring-running
+use Rattle.console.proofs.ring.snd_ring_in_flight.Reads as ring-in-flight
+use Rattle.console.proofs.ring.snd_ring_free_descriptors.Reads as ring-free-descriptors
+use Rattle.console.proofs.ring.snd_ring_turns_run.Reads as ring-turns-run
+use Rattle.console.proofs.ring.snd_ring_stream.Reads as ring-stream
+use Rattle.console.proofs.ring.snd_ring_kept.Reads as ring-kept
+use Rattle.console.proofs.ring.snd_ring_accepted.Reads as ring-accepted
+use Rattle.console.proofs.ring.snd_trace_length.Reads as trace-length
+use Rattle.console.proofs.ring.snd_ring_carried.Reads as ring-carried
+use Rattle.console.proofs.ring.snd_ring_oldest.Reads as ring-oldest
+use Rattle.console.proofs.event.snd_latest_notification.Reads as latest-notification
+use Rattle.console.proofs.versions.snd_config.Reads as config
+use Rattle.console.proofs.versions.snd_latest_notification_in.Reads as latest-notification-in
+use Rattle.console.proofs.device.snd_model_new.Reads as model-new
+use Rattle.console.proofs.device.snd_model_control.Reads as model-control
+use Rattle.console.proofs.device.snd_model_transfer.Reads as model-transfer
+use Rattle.console.proofs.device.snd_model_payload.Reads as model-payload
+use Rattle.console.proofs.device.snd_model_params.Reads as model-params
+use Rattle.console.proofs.device.snd_model_played.Reads as model-played
+use Rattle.console.proofs.wave.snd_wav_read.Reads as wav-read
+use Rattle.console.proofs.wave.snd_wav_write.Reads as wav-write
+use Rattle.console.proofs.traces.snd_trace_scan.Reads as trace-scan
+use Rattle.console.proofs.traces.snd_trace_scan_at.Reads as trace-scan-at
+use Rattle.console.proofs.traces.snd_judge.Reads as judge
+use Rattle.console.proofs.traces.snd_judge_at.Reads as judge-at
+use Rattle.console.proofs.compare.snd_entry_size.Reads as entry-size
+use Rattle.console.proofs.compare.snd_differences.Reads as differences
+use Rattle.console.proofs.compare.snd_compare.Reads as compare
 
 left_one : {x : Told} {a b : ℕ} {s t m n r u : List ℕ} → left a s m r ≡ x → left b t n u ≡ x → (a ≡ b) × (s ≡ t) × (m ≡ n) × (r ≡ u)
 left_one p q = let e = same p q in (ap (λ (y : Told). y.answer) e, ap (λ (y : Told). y.state) e, ap (λ (y : Told). y.message) e, ap (λ (y : Told). y.result) e)
@@ -101,12 +99,6 @@ shown-one p q = let e = same p q in (ap (λ (y : Shown). y.answer) e, ap (λ (y 
 
 caught-one : {x : Caught} {a b : ℕ} {s t k l : List ℕ} → caught a s k ≡ x → caught b t l ≡ x → (a ≡ b) × (s ≡ t) × (k ≡ l)
 caught-one p q = let e = same p q in (ap (λ (y : Caught). y.answer) e, ap (λ (y : Caught). y.ring) e, ap (λ (y : Caught). y.lent) e)
-
-pub version-one : (κs : _) (a : _) (r₁ r₂ : _) (e₁ e₂ : _) → version.Post κs a r₁ e₁ → version.Post κs a r₂ e₂ → r₁ ≡ r₂
-version-one κs a r₁ r₂ e₁ e₂ p q = same p q
-
-pub version-0-13-0-one : (κs : _) (a : _) (r₁ r₂ : _) (e₁ e₂ : _) → version-0-13-0.Post κs a r₁ e₁ → version-0-13-0.Post κs a r₂ e₂ → r₁ ≡ r₂
-version-0-13-0-one κs a r₁ r₂ e₁ e₂ p q = same p q
 
 pub state-size-one : (κs : _) (a : _) (r₁ r₂ : _) (e₁ e₂ : _) → state-size.Post κs a r₁ e₁ → state-size.Post κs a r₂ e₂ → r₁ ≡ r₂
 state-size-one κs a r₁ r₂ e₁ e₂ p q = same p q

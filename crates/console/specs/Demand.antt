@@ -1,4 +1,4 @@
--- DEMAND 3 of the C entries: `vsnd_pcm_xfer_start`, then `vsnd_turn` after `vsnd_turn` on what it left, as long as they answer 512. The premises on numbers are the widths
+-- DEMAND 3 of the C entries: `snd_pcm_xfer_start`, then `snd_turn` after `snd_turn` on what it left, as long as they answer 512. The premises on numbers are the widths
 -- in which the entries take them; a store is bytes, and as long as its size.
 -- Assumes nothing.
 use Rattle.std.specs.Prelude.{◌≡◌, ℕ, ◌+◌, ◌*◌, ◌^◌, ◌<◌, ◌≤◌, false, List, map, length, refl}
@@ -45,19 +45,19 @@ abbrev pub plays_in : List ℕ → List ℕ → List ℕ → ℕ → ℕ → Lis
 plays_in s ring m stream budget frames script = turn_by_turn_in (length frames) budget (starts_in s ring m stream budget frames).ring script
 
 -- 0 is said by Done alone, and 512 at a start by Going alone
-pub done-by : (said : Said) → said_word said ≡ 0 → said ≡ Done
+done-by : (said : Said) → said_word said ≡ 0 → said ≡ Done
 done-by Going e = absurd (omega arith)
 done-by Done e = refl
 done-by (Ended r) e = absurd (omega (arith, (numbered r).least))
 done-by (Refused r) e = absurd (omega (arith, (numbered r).least))
 
-pub going-by : (said : Said) → said_word said ≡ 512 → said ≡ Going
+going-by : (said : Said) → said_word said ≡ 512 → said ≡ Going
 going-by Going e = refl
 going-by Done e = absurd (omega arith)
 going-by (Ended r) e = absurd (omega (arith, (numbered r).small))
 going-by (Refused r) e = absurd (omega (arith, (numbered r).small))
 
-pub goes_on : (x : Sound) (y : Ring) (stream len budget n : ℕ) → xfer_word (start_of x y stream len budget n).reply ≡ 512 → (start_of x y stream len budget n).reply ≡ Says Going
+goes_on : (x : Sound) (y : Ring) (stream len budget n : ℕ) → xfer_word (start_of x y stream len budget n).reply ≡ 512 → (start_of x y stream len budget n).reply ≡ Says Going
 goes_on x y stream len budget n =
     start-by (λ z. xfer_word z.reply ≡ 512 → z.reply ≡ Says Going) x y stream len budget n
     (λ w e. absurd (omega (arith, (numbered w).small))) (λ _ _ _ e. absurd (omega arith)) (λ e. ap Says (going-by _ e))
@@ -76,19 +76,19 @@ module _ (s ring m : List ℕ) (b : Bytes s) (c : Bytes ring) (h : state_size �
   opening-again (opening.Open period) st after = start-again ring stream (length frames) period budget c
 
   -- what the start leaves is a ring's store again
-  pub again : Again ring (starts_in s ring m stream budget frames).ring
+  again : Again ring (starts_in s ring m stream budget frames).ring
   unfolding open_in start_entry start_of ring_of
   again =
       let x = open_in s (track_at ring) stream m in
       subst (λ (z : Begun). Again ring z.ring) (start_is false begin s ring stream m b (le-leb ring_size (length ring) k)) (opening-again x.opening x.state x.message)
 
-  pub run_is : Holds (plays_in s ring m stream budget frames script) (playing (sound_of s) (ring_of ring) stream budget (length m) frames readings)
+  run_is : Holds (plays_in s ring m stream budget frames script) (playing (sound_of s) (ring_of ring) stream budget (length m) frames readings)
   run_is =
       subst (λ (x : Ring). Holds (plays_in s ring m stream budget frames script) (turn_by_turn (length frames) budget x readings))
       (start-entry-holds s ring m b c h k stream (length frames) budget p q r)
       (run_holds (starts_in s ring m stream budget frames).ring again.0 (omega (arith, again.1)) (length frames) budget script)
 
-  pub start-says : (starts_in s ring m stream budget frames).answer ≡ xfer_word (starting (sound_of s) (ring_of ring) stream budget (length m) frames).reply
+  start-says : (starts_in s ring m stream budget frames).answer ≡ xfer_word (starting (sound_of s) (ring_of ring) stream budget (length m) frames).reply
   start-says = ap (λ (x : Begun). x.answer) (entry-is s ring m b c h k stream (length frames) budget)
 
   -- THE FIRST HALF: the start answers 512, and then a turn answers 0, no later than turn n * g + 1

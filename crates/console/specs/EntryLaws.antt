@@ -67,15 +67,15 @@ module _ (capture : Bool) (begin : ℕ → Step) (s ring : List ℕ) (stream : �
         λ i. began (p i).answer (sym (unchanged s bytes) i) (p i).store m
 
     ends : (a b : Bool)
-        → start_by (xfer_as capture (a && b) true (none_in (sound_of s).pending) (sound_of s) (track_at ring) stream (shut s m) (setting_up_with s (waiting_as capture stream) m) (λ period. record { opening = opening.Open period; state = s; message = m }))
+        → start_by (xfer_as capture (a && b) (none_in (sound_of s).pending) (sound_of s) (track_at ring) stream (shut s m) (setting_up_with s (waiting_as capture stream) m) (λ period. record { opening = opening.Open period; state = s; message = m }))
         ≡ guard (a && nat_le ring_size (length ring)) (began 10 s ring m)
-        (begun s ring stream m (xfer_as capture b true (none_in (sound_of s).pending) (sound_of s) (track_at ring) stream (refused_step (sound_of s) (ring_of ring)) (set_up_step_with (sound_of s) (ring_of ring) (waiting_as capture stream)) (λ period. start_step (sound_of s) (ring_of ring) (started_of (ring_of ring) (begin period)))))
+        (begun s ring stream m (xfer_as capture b (none_in (sound_of s).pending) (sound_of s) (track_at ring) stream (refused_step (sound_of s) (ring_of ring)) (set_up_step_with (sound_of s) (ring_of ring) (waiting_as capture stream)) (λ period. start_step (sound_of s) (ring_of ring) (started_of (ring_of ring) (begin period)))))
     unfolding guard
     ends true b =
         passes _ _ _ room
-        (xfer-as-ap start_by capture b true (none_in (sound_of s).pending) (sound_of s) (track_at ring) stream (shut s m) (setting_up_with s (waiting_as capture stream) m) (λ period. record { opening = opening.Open period; state = s; message = m })
-        ∙ (λ i. xfer_as capture b true (none_in (sound_of s).pending) (sound_of s) (track_at ring) stream (λ x. refused_end x i) (set-up-end i) (λ p. open-end p i))
-        ∙ sym (xfer-as-ap (begun s ring stream m) capture b true (none_in (sound_of s).pending) (sound_of s) (track_at ring) stream (refused_step (sound_of s) (ring_of ring)) (set_up_step_with (sound_of s) (ring_of ring) (waiting_as capture stream)) (λ period. start_step (sound_of s) (ring_of ring) (started_of (ring_of ring) (begin period)))))
+        (xfer-as-ap start_by capture b (none_in (sound_of s).pending) (sound_of s) (track_at ring) stream (shut s m) (setting_up_with s (waiting_as capture stream) m) (λ period. record { opening = opening.Open period; state = s; message = m })
+        ∙ (λ i. xfer_as capture b (none_in (sound_of s).pending) (sound_of s) (track_at ring) stream (λ x. refused_end x i) (set-up-end i) (λ p. open-end p i))
+        ∙ sym (xfer-as-ap (begun s ring stream m) capture b (none_in (sound_of s).pending) (sound_of s) (track_at ring) stream (refused_step (sound_of s) (ring_of ring)) (set_up_step_with (sound_of s) (ring_of ring) (waiting_as capture stream)) (λ period. start_step (sound_of s) (ring_of ring) (started_of (ring_of ring) (begin period)))))
     ends false b = refl
 
     pub start_is : start_by (open_as capture (waiting_as capture stream) s (track_at ring) stream m) ≡ entry_of s ring stream m (start_as capture begin (sound_of s) (ring_of ring) stream (length m))

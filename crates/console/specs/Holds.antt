@@ -31,7 +31,7 @@ use Rattle.console.specs.Entries.{Begun, begun, entry_of, start_entry, start_tra
 use Rattle.console.specs.EntryLaws.{start_opening, start_by, start_is, plays, writes, records}
 
 -- a period that a store holds fits 4 bytes
-pub period-below : (s : List ℕ) (i : ℕ) → Bytes s → (params_of (sound_of s) i).period < 256 ^ 4
+period-below : (s : List ℕ) (i : ℕ) → Bytes s → (params_of (sound_of s) i).period < 256 ^ 4
 unfolding params_at
 period-below s i b = by (nat_le 127 i) refl
   where

@@ -1,13 +1,12 @@
 // The calls: state and ring as lent stores, a message to send, a result.
-ghost use Rattle.std.specs.Prelude.{◌≡◌, length, nat_lt};
-ghost use Rattle.codes.specs.Says.{pick};
+ghost use Rattle.std.specs.Prelude.{◌≡◌, length};
+ghost use Rattle.std.specs.State.{asked_params};
 ghost use Rattle.std.specs.declared.state.Kind.TheVariants.{Prepare, Release, Start, Stop};
 ghost use Rattle.std.specs.declared.state.Field.TheVariants.{Rates, Formats, Channels, Features};
 ghost use Rattle.std.specs.declared.state.Call.TheVariants as calls;
 ghost use Rattle.tables.specs.declared.verdict.Written.TheVariants.{InFull, Bytes};
 ghost use Rattle.state_store.specs.Calls.{left, feed_in, fail_in};
 ghost use Rattle.console.specs.Entries.{call_entry};
-ghost use Rattle.console.specs.Numbers.{byte_or, params_of};
 
 use codes::direction;
 use sound_core::{Call, Field, Kind, Params};
@@ -26,7 +25,7 @@ fn call(state: &mut [u8], ring: &[u8], asked: Call, message: &mut [u8], res: &mu
 }
 
 #[unsafe(no_mangle)]
-pub extern "C" fn vsnd_jack_remap(
+pub extern "C" fn snd_jack_remap(
     state: &mut [u8],
     ring: &[u8],
     jack: u32,
@@ -45,69 +44,37 @@ pub extern "C" fn vsnd_jack_remap(
     call(state, ring, asked, message, res)
 }
 
-// A number that a byte holds, else another one.
-fn byte_or(other: u8, v: u32) -> u8
-    ensures { result ≡ byte_or other v }
-{
-    if v < 256 { v as u8 } else { other }
-}
-
-// Channels that no byte holds take a format that is none.
-fn format_byte(channels: u32, format: u32) -> u8
-    ensures { result ≡ pick (nat_lt channels 256) (byte_or 255 format) 255 }
-{
-    if 256 <= channels {
-        return 255;
-    }
-    byte_or(255, format)
-}
-
-// The parameters asked for; a number that no byte holds is out of range, as format 255 is.
-fn asked_params(
-    buffer: u32,
-    period: u32,
-    features: u32,
-    channels: u32,
-    format: u32,
-    rate: u32,
-) -> Params
-    ensures { result ≡ params_of buffer period features channels format rate }
-{
-    Params {
-        known: 0,
-        buffer,
-        period,
-        features,
-        channels: byte_or(0, channels),
-        format: format_byte(channels, format),
-        rate: byte_or(255, rate),
-    }
-}
-
-// Channels above 255 are out of range, as a format above 24 and a rate above 13 are.
 #[unsafe(no_mangle)]
-pub extern "C" fn vsnd_pcm_set_params(
+pub extern "C" fn snd_pcm_set_params(
     state: &mut [u8],
     ring: &[u8],
     stream: u32,
     buffer: u32,
     period: u32,
     features: u32,
-    channels: u32,
-    format: u32,
-    rate: u32,
+    channels: u8,
+    format: u8,
+    rate: u8,
     message: &mut [u8],
     res: &mut [u8],
 ) -> u64
-    ensures { left result state.new message.new res.new ≡ call_entry state.old ring.now (calls.SetParams stream (params_of buffer period features channels format rate)) message.old res.old }
+    ensures { left result state.new message.new res.new ≡ call_entry state.old ring.now (calls.SetParams stream (asked_params buffer period features channels format rate)) message.old res.old }
 {
-    let to = asked_params(buffer, period, features, channels, format, rate);
+    let to = Params {
+        known: 0,
+        buffer,
+        period,
+        features,
+        channels,
+        format,
+        rate,
+    };
     let asked = Call::SetParams { stream, to };
     call(state, ring, asked, message, res)
 }
 
 #[unsafe(no_mangle)]
-pub extern "C" fn vsnd_pcm_prepare(
+pub extern "C" fn snd_pcm_prepare(
     state: &mut [u8],
     ring: &[u8],
     stream: u32,
@@ -122,7 +89,7 @@ pub extern "C" fn vsnd_pcm_prepare(
 }
 
 #[unsafe(no_mangle)]
-pub extern "C" fn vsnd_pcm_release(
+pub extern "C" fn snd_pcm_release(
     state: &mut [u8],
     ring: &[u8],
     stream: u32,
@@ -137,7 +104,7 @@ pub extern "C" fn vsnd_pcm_release(
 }
 
 #[unsafe(no_mangle)]
-pub extern "C" fn vsnd_pcm_start(
+pub extern "C" fn snd_pcm_start(
     state: &mut [u8],
     ring: &[u8],
     stream: u32,
@@ -152,7 +119,7 @@ pub extern "C" fn vsnd_pcm_start(
 }
 
 #[unsafe(no_mangle)]
-pub extern "C" fn vsnd_pcm_stop(
+pub extern "C" fn snd_pcm_stop(
     state: &mut [u8],
     ring: &[u8],
     stream: u32,
@@ -167,7 +134,7 @@ pub extern "C" fn vsnd_pcm_stop(
 }
 
 #[unsafe(no_mangle)]
-pub extern "C" fn vsnd_output_streams(
+pub extern "C" fn snd_output_streams(
     state: &mut [u8],
     ring: &[u8],
     message: &mut [u8],
@@ -181,7 +148,7 @@ pub extern "C" fn vsnd_output_streams(
 }
 
 #[unsafe(no_mangle)]
-pub extern "C" fn vsnd_input_streams(
+pub extern "C" fn snd_input_streams(
     state: &mut [u8],
     ring: &[u8],
     message: &mut [u8],
@@ -195,7 +162,7 @@ pub extern "C" fn vsnd_input_streams(
 }
 
 #[unsafe(no_mangle)]
-pub extern "C" fn vsnd_rates_supported(
+pub extern "C" fn snd_rates_supported(
     state: &mut [u8],
     ring: &[u8],
     stream: u32,
@@ -210,7 +177,7 @@ pub extern "C" fn vsnd_rates_supported(
 }
 
 #[unsafe(no_mangle)]
-pub extern "C" fn vsnd_formats_supported(
+pub extern "C" fn snd_formats_supported(
     state: &mut [u8],
     ring: &[u8],
     stream: u32,
@@ -225,7 +192,7 @@ pub extern "C" fn vsnd_formats_supported(
 }
 
 #[unsafe(no_mangle)]
-pub extern "C" fn vsnd_channel_range_supported(
+pub extern "C" fn snd_channel_range_supported(
     state: &mut [u8],
     ring: &[u8],
     stream: u32,
@@ -240,7 +207,7 @@ pub extern "C" fn vsnd_channel_range_supported(
 }
 
 #[unsafe(no_mangle)]
-pub extern "C" fn vsnd_features_supported(
+pub extern "C" fn snd_features_supported(
     state: &mut [u8],
     ring: &[u8],
     stream: u32,
@@ -256,12 +223,7 @@ pub extern "C" fn vsnd_features_supported(
 
 // The answer page to the request that is out.
 #[unsafe(no_mangle)]
-pub extern "C" fn vsnd_feed(
-    state: &mut [u8],
-    page: &[u8],
-    message: &mut [u8],
-    res: &mut [u8],
-) -> u64
+pub extern "C" fn snd_feed(state: &mut [u8], page: &[u8], message: &mut [u8], res: &mut [u8]) -> u64
     ensures { left result state.new message.new res.new ≡ feed_in InFull state.old page.now message.old res.old }
 {
     state_store::feed(state, page, message, res)
@@ -269,7 +231,7 @@ pub extern "C" fn vsnd_feed(
 
 // The same with the length that the device wrote.
 #[unsafe(no_mangle)]
-pub extern "C" fn vsnd_feed_written(
+pub extern "C" fn snd_feed_written(
     state: &mut [u8],
     page: &[u8],
     written: u64,
@@ -283,7 +245,7 @@ pub extern "C" fn vsnd_feed_written(
 
 // The queue reports that the request that is out has failed.
 #[unsafe(no_mangle)]
-pub extern "C" fn vsnd_feed_failure(state: &mut [u8], message: &mut [u8], res: &mut [u8]) -> u64
+pub extern "C" fn snd_feed_failure(state: &mut [u8], message: &mut [u8], res: &mut [u8]) -> u64
     ensures { left result state.new message.new res.new ≡ fail_in state.old message.old res.old }
 {
     state_store::feed_failure(state, message, res)

@@ -7,7 +7,7 @@ use state_store::Opening;
 
 // So many periods are captured into the recording.
 #[unsafe(no_mangle)]
-pub extern "C" fn vsnd_pcm_capture_start(
+pub extern "C" fn snd_pcm_capture_start(
     state: &mut [u8],
     ring: &mut [u8],
     stream: u32,

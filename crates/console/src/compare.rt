@@ -31,7 +31,7 @@ fn counted(c: Compared) -> u64
 
 // The bytes of one entry of a list of differences.
 #[unsafe(no_mangle)]
-pub extern "C" fn vsnd_entry_size() -> u64
+pub extern "C" fn snd_entry_size() -> u64
     ensures { result ≡ size row_widths }
 {
     ROW as u64
@@ -39,7 +39,7 @@ pub extern "C" fn vsnd_entry_size() -> u64
 
 // How many differences two traces have; 0 where one is refused.
 #[unsafe(no_mangle)]
-pub extern "C" fn vsnd_differences(first: &[u8], second: &[u8]) -> u64
+pub extern "C" fn snd_differences(first: &[u8], second: &[u8]) -> u64
     ensures { result ≡ count_of (tallied_of first.now second.now) }
 {
     let c = trace::differences(first, second);
@@ -48,7 +48,7 @@ pub extern "C" fn vsnd_differences(first: &[u8], second: &[u8]) -> u64
 
 // The differences of two traces, as entries at the front of the list: 0, 18 or 20.
 #[unsafe(no_mangle)]
-pub extern "C" fn vsnd_compare(first: &[u8], second: &[u8], list: &mut [u8]) -> u64
+pub extern "C" fn snd_compare(first: &[u8], second: &[u8], list: &mut [u8]) -> u64
     ensures { made result list.new ≡ compare_entry first.now second.now list.old }
 {
     let c = trace::compare(first, second, list);

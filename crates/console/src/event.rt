@@ -33,7 +33,7 @@ pub(crate) fn tell(notice: Notice, res: &mut [u8]) -> u64
 }
 
 #[unsafe(no_mangle)]
-pub extern "C" fn vsnd_latest_notification(event: &[u8], res: &mut [u8]) -> u64
+pub extern "C" fn snd_latest_notification(event: &[u8], res: &mut [u8]) -> u64
     ensures { shown result res.new ≡ notice_entry event.now res.old }
 {
     if res.len() < state_store::RESULT {

@@ -8,7 +8,7 @@ use crate::calls::BAD_LENGTH;
 
 // One whole period is copied into a place; its token stands in the result.
 #[unsafe(no_mangle)]
-pub extern "C" fn vsnd_pcm_xfer_nb(
+pub extern "C" fn snd_pcm_xfer_nb(
     state: &mut [u8],
     ring: &[u8],
     stream: u32,
@@ -28,7 +28,7 @@ pub extern "C" fn vsnd_pcm_xfer_nb(
 
 // Kind 0 is quiet, and every other kind is completed.
 #[unsafe(no_mangle)]
-pub extern "C" fn vsnd_pcm_xfer_mark(state: &mut [u8], kind: u32, token: u32, status: u32) -> u64
+pub extern "C" fn snd_pcm_xfer_mark(state: &mut [u8], kind: u32, token: u32, status: u32) -> u64
     ensures { made result state.new ≡ mark_in state.old kind token status }
 {
     state_store::pcm_xfer_mark(state, kind, token, status)
@@ -36,21 +36,21 @@ pub extern "C" fn vsnd_pcm_xfer_mark(state: &mut [u8], kind: u32, token: u32, st
 
 // A marked token is finished, and its place free again.
 #[unsafe(no_mangle)]
-pub extern "C" fn vsnd_pcm_xfer_ok(state: &mut [u8], token: u32) -> u64
+pub extern "C" fn snd_pcm_xfer_ok(state: &mut [u8], token: u32) -> u64
     ensures { made result state.new ≡ finish_in state.old token }
 {
     state_store::pcm_xfer_ok(state, token)
 }
 
 #[unsafe(no_mangle)]
-pub extern "C" fn vsnd_pending_count(state: &[u8], res: &mut [u8]) -> u64
+pub extern "C" fn snd_pending_count(state: &[u8], res: &mut [u8]) -> u64
     ensures { shown result res.new ≡ pending_in state.now res.old }
 {
     state_store::pending_count(state, res)
 }
 
 #[unsafe(no_mangle)]
-pub extern "C" fn vsnd_pending_token(state: &[u8], token: usize, res: &mut [u8]) -> u64
+pub extern "C" fn snd_pending_token(state: &[u8], token: usize, res: &mut [u8]) -> u64
     ensures { shown result res.new ≡ seen_in state.now token res.old }
 {
     state_store::pending_token(state, token, res)

@@ -27,7 +27,7 @@ fn place(j: Judgement) -> u64
 
 // Whether a trace is whole fields: 0 or 18.
 #[unsafe(no_mangle)]
-pub extern "C" fn vsnd_trace_scan(trace: &[u8]) -> u64
+pub extern "C" fn snd_trace_scan(trace: &[u8]) -> u64
     ensures { result ≡ (says_judgement (scan_of trace.now)).number }
 {
     let j = trace::scan(trace);
@@ -36,7 +36,7 @@ pub extern "C" fn vsnd_trace_scan(trace: &[u8]) -> u64
 
 // The offset of its 18.
 #[unsafe(no_mangle)]
-pub extern "C" fn vsnd_trace_scan_at(trace: &[u8]) -> u64
+pub extern "C" fn snd_trace_scan_at(trace: &[u8]) -> u64
     ensures { result ≡ place_of (scan_of trace.now) }
 {
     let j = trace::scan(trace);
@@ -45,7 +45,7 @@ pub extern "C" fn vsnd_trace_scan_at(trace: &[u8]) -> u64
 
 // Whether a run of the turns writes a trace: 0, 18 or 19, and 1 for a mode that is none.
 #[unsafe(no_mangle)]
-pub extern "C" fn vsnd_judge(mode: u32, trace: &[u8]) -> u64
+pub extern "C" fn snd_judge(mode: u32, trace: &[u8]) -> u64
     ensures { result ≡ (says_judged (judged_of mode trace.now)).number }
 {
     let said = trace::judge(mode as usize, trace);
@@ -57,7 +57,7 @@ pub extern "C" fn vsnd_judge(mode: u32, trace: &[u8]) -> u64
 
 // The offset of its 18 or 19.
 #[unsafe(no_mangle)]
-pub extern "C" fn vsnd_judge_at(mode: u32, trace: &[u8]) -> u64
+pub extern "C" fn snd_judge_at(mode: u32, trace: &[u8]) -> u64
     ensures { result ≡ place_of_judged (judged_of mode trace.now) }
 {
     let said = trace::judge(mode as usize, trace);

@@ -6,7 +6,7 @@ use crate::calls::BAD_LENGTH;
 use state_store::Opening;
 
 #[unsafe(no_mangle)]
-pub extern "C" fn vsnd_pcm_xfer_start(
+pub extern "C" fn snd_pcm_xfer_start(
     state: &mut [u8],
     ring: &mut [u8],
     stream: u32,
@@ -35,7 +35,7 @@ pub extern "C" fn vsnd_pcm_xfer_start(
 
 // The transfer writes a trace into the room, from its first turn on.
 #[unsafe(no_mangle)]
-pub extern "C" fn vsnd_pcm_xfer_start_traced(
+pub extern "C" fn snd_pcm_xfer_start_traced(
     state: &mut [u8],
     ring: &mut [u8],
     stream: u32,

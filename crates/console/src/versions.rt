@@ -26,7 +26,7 @@ fn put_config(res: &mut [u8], c: Config, controls: bool)
 }
 
 #[unsafe(no_mangle)]
-pub extern "C" fn vsnd_config(config: &[u8], version: u32, features: u64, res: &mut [u8]) -> u64
+pub extern "C" fn snd_config(config: &[u8], version: u32, features: u64, res: &mut [u8]) -> u64
     ensures { shown result res.new ≡ config_entry config.now version features res.old }
 {
     if res.len() < state_store::RESULT {
@@ -44,7 +44,7 @@ pub extern "C" fn vsnd_config(config: &[u8], version: u32, features: u64, res: &
 }
 
 #[unsafe(no_mangle)]
-pub extern "C" fn vsnd_latest_notification_in(
+pub extern "C" fn snd_latest_notification_in(
     event: &[u8],
     version: u32,
     features: u64,

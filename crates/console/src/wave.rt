@@ -24,7 +24,7 @@ fn put_wave(res: &mut [u8], w: Wave)
 }
 
 #[unsafe(no_mangle)]
-pub extern "C" fn vsnd_wav_read(file: &[u8], res: &mut [u8]) -> u64
+pub extern "C" fn snd_wav_read(file: &[u8], res: &mut [u8]) -> u64
     ensures { shown result res.new ≡ wave_entry file.now res.old }
 {
     if res.len() < state_store::RESULT {
@@ -42,10 +42,10 @@ pub extern "C" fn vsnd_wav_read(file: &[u8], res: &mut [u8]) -> u64
 }
 
 #[unsafe(no_mangle)]
-pub extern "C" fn vsnd_wav_write(
-    channels: u32,
-    format: u32,
-    rate: u32,
+pub extern "C" fn snd_wav_write(
+    channels: u8,
+    format: u8,
+    rate: u8,
     frames: &[u8],
     file: &mut [u8],
 ) -> u64

@@ -40,7 +40,6 @@ use Rattle.exchange.proofs.nonblocking.pcm_xfer_mark.Reads as pcm-xfer-mark
 use Rattle.exchange.proofs.nonblocking.pcm_xfer_ok.Reads as pcm-xfer-ok
 use Rattle.exchange.proofs.nonblocking.pending_count.Reads as pending-count
 use Rattle.exchange.proofs.nonblocking.pending_token.Reads as pending-token
-use Rattle.exchange.proofs.nonblocking.mode_of.Reads as Mode-of
 use Rattle.exchange.proofs.nonblocking.places_of.Reads as places_of
 
 pub new-one : (κs : _) (a : _) (r₁ r₂ : _) (e₁ e₂ : _) → new.Post κs a r₁ e₁ → new.Post κs a r₂ e₂ → r₁ ≡ r₂
@@ -138,9 +137,6 @@ pending-count-one κs a r₁ r₂ e₁ e₂ p q = one says_configured un_configu
 
 pub pending-token-one : (κs : _) (a : _) (r₁ r₂ : _) (e₁ e₂ : _) → pending-token.Post κs a r₁ e₁ → pending-token.Post κs a r₂ e₂ → r₁ ≡ r₂
 pending-token-one κs a r₁ r₂ e₁ e₂ p q = same p q
-
-pub mode-of-one : (κs : _) (a : _) (r₁ r₂ : _) (e₁ e₂ : _) → Mode-of.Post κs a r₁ e₁ → Mode-of.Post κs a r₂ e₂ → r₁ ≡ r₂
-mode-of-one κs a r₁ r₂ e₁ e₂ p q = same p q
 
 pub places-of-one : (κs : _) (a : _) (r₁ r₂ : _) (e₁ e₂ : _) → places_of.Post κs a r₁ e₁ → places_of.Post κs a r₂ e₂ → r₁ ≡ r₂
 places-of-one κs a r₁ r₂ e₁ e₂ p q = same p q

@@ -45,7 +45,7 @@ pub capture-keeps : (t : Track) (len : ℕ) (c : Catch) → Consistent t → Con
 unfolding capture_call
 capture-keeps t len c k =
     guarded-by Leaves _ _ _
-    (λ _. guarded-by Leaves _ _ _ (λ _. guarded-by Leaves _ _ _ (λ on. guarded-by Leaves _ _ _ (λ _. caught-keeps t c k (both t.running t.capture on).0) (λ _. k)) (λ _. k)) (λ _. k))
+    (λ _. guarded-by Leaves _ _ _ (λ _. guarded-by Leaves _ _ _ (λ _. guarded-by Leaves _ _ _ (λ on. caught-keeps t c k (both t.running t.capture on).0) (λ _. k)) (λ _. k)) (λ _. k))
     (λ _. k)
 
 start-untouched : (t : Track) (stream periods period lent budget : ℕ) → Untouched t (capture_start t stream periods period lent budget)

@@ -14,7 +14,7 @@ use Rattle.pending.specs.CallLaws.{mark-by, finish-by}
 use Rattle.pending.specs.Count.{none_then, AboveFree, other, completes-above, finishes-above, few-pending}
 use Rattle.turns.specs.Ring.{indirect}
 use Rattle.turns.specs.Calls as calls
-use Rattle.turns.specs.Calls.{idle_of, traced_call, drain_call}
+use Rattle.turns.specs.Calls.{idle_of, traced_call, drain_call, start_call}
 use Rattle.turns.specs.Capture.{capture_call}
 use Rattle.turns.specs.declared.capture.Catch.{Catch}
 use Rattle.turns.specs.Script.{transfer_of}
@@ -25,12 +25,12 @@ use Rattle.turns.specs.declared.reading.Reading.TheVariants.{Quiet, Completed}
 use Rattle.exchange.specs.Tables.{sound_after}
 use Rattle.exchange.specs.Exchange.{call_of}
 use Rattle.exchange.specs.Feed.{plan_of, page_of}
-use Rattle.exchange.specs.Xfer.{refused_step, set_up_step, done_step, start_as, xfer_of}
-use Rattle.exchange.specs.XferLaws.{xfer-by, start-as-by, script-by}
-use Rattle.exchange.specs.Submit.{places_of, mode_of, nb_of, mark_step, mark_by, finish_step}
+use Rattle.exchange.specs.Xfer.{refused_step, set_up_step, done_step, start_of, start_traced_of, xfer_of, capture_of}
+use Rattle.exchange.specs.XferLaws.{xfer-by, start-as-by, start-by, script-by, traced-by, capture-by}
+use Rattle.exchange.specs.Submit.{places_of, nb_of, mark_step, mark_by, finish_step}
 use Rattle.exchange.specs.SubmitLaws.{few-places}
 use Rattle.exchange.specs.Submitted.{nb-ends, effect-pending}
-use Rattle.exchange.specs.Reached.{RingCall, turned, penned, received, drained, renewed, begun, ran, Reached, fresh, remade, called, fed, started, scripted, submitted, marked, finished, alone, reached-kept}
+use Rattle.exchange.specs.Reached.{Reached, fresh, called, fed, started, scripted, turned, traced, penned, captured, received, drained, submitted, marked, finished, begun, listened, logged, ran, renewed, reached-kept}
 use Rattle.exchange.specs.Types.{Track, Ring, Reading, Pending, Judged, Core, Effect, Sound, XferStep, NbStep, NbEnd}
 
 -- nothing is pending, or no transfer runs and no slot is in flight
@@ -38,26 +38,26 @@ abbrev pub Exclusive : Pending → Track → Type 0
 Exclusive p t = (none_in p ≡ true) ⊎ (idle_of t ≡ true)
 
 -- the ring was never started by itself, beside the state
-abbrev pub Unstarted : {r q : Ring} → RingCall r q → Type 0
-Unstarted (turned len room reading) = Unit {0}
-Unstarted (penned written) = Unit {0}
-Unstarted (received len c) = Unit {0}
-Unstarted (drained reading) = Unit {0}
-Unstarted (renewed descriptors mode) = Unit {0}
-Unstarted (begun stream period w) = ⊥
-Unstarted (ran stream period budget frames script) = ⊥
-
 abbrev pub ByCalls : {s : Sound} {r : Ring} → Reached s r → Type 0
 ByCalls (fresh descriptors mode guard jacks streams maps) = Unit {0}
-ByCalls (remade guard jacks streams maps h) = Unit {0}
 ByCalls (called call n h) = ByCalls h
 ByCalls (fed f h) = ByCalls h
-ByCalls (started stream n w h) = ByCalls h
+ByCalls (started stream len budget n h) = ByCalls h
 ByCalls (scripted stream frames budget script n h) = ByCalls h
+ByCalls (turned len room reading h) = ByCalls h
+ByCalls (traced stream len budget room n h) = ByCalls h
+ByCalls (penned written h) = ByCalls h
+ByCalls (captured stream periods lent budget n h) = ByCalls h
+ByCalls (received len c h) = ByCalls h
+ByCalls (drained reading h) = ByCalls h
 ByCalls (submitted stream n len m h) = ByCalls h
 ByCalls (marked reading h) = ByCalls h
 ByCalls (finished token h) = ByCalls h
-ByCalls (alone w h) = Unstarted w × ByCalls h
+ByCalls (begun stream len period budget h) = ⊥
+ByCalls (listened stream periods period lent budget h) = ⊥
+ByCalls (logged stream len period budget room h) = ⊥
+ByCalls (ran stream period budget frames script h) = ⊥
+ByCalls (renewed descriptors mode h) = ByCalls h
 
 -- ---- turns of a ring where nothing runs and nothing is in flight leave it
 
@@ -83,7 +83,9 @@ module _ (t : Track) (idle : idle_of t ≡ true) where
   unfolding capture_call
   capture-idle len c =
       let P : ring.Step → Type 0 = λ x. x.track ≡ t in
-      guarded-by P _ _ _ (λ _. guarded-by P _ _ _ (λ _. guarded-by P _ _ _ (λ e. absurd (running-not (both t.running t.capture e).0)) (λ _. refl)) (λ _. refl)) (λ _. refl)
+      guarded-by P _ _ _
+      (λ _. guarded-by P _ _ _ (λ _. guarded-by P _ _ _ (λ _. guarded-by P _ _ _ (λ e. absurd (running-not (both t.running t.capture e).0)) (λ _. refl)) (λ _. refl)) (λ _. refl))
+      (λ _. refl)
 
   none-oldest : (slot : ℕ) → is_oldest t slot ≢ true
   unfolding is_oldest
@@ -117,14 +119,24 @@ module _ (s : Sound) (r : Ring) (h : Exclusive s.pending r.track) where
   turned_by : (u : ring.Step) → (idle_of t ≡ true → u.track ≡ t) → Exclusive s.pending u.track
   turned_by u f = elim h [ inl e ↦ inl e | inr i ↦ inr (ap idle_of (f i) ∙ i) ]
 
-  start-exclusive : (capture : Bool) (begin : ℕ → ring.Step) (stream n : ℕ) → Exclusive (start_as capture begin s r stream n).sound.pending (start_as capture begin s r stream n).ring.track
-  start-exclusive capture begin stream n = start-as-by (λ (x : XferStep). Exclusive x.sound.pending x.ring.track) capture begin s r stream n (λ _. h) (λ _ _ _. h) (λ none. inl none)
+  start-exclusive : (stream len budget n : ℕ) → Exclusive (start_of s r stream len budget n).sound.pending (start_of s r stream len budget n).ring.track
+  unfolding start_of
+  start-exclusive stream len budget n =
+      start-as-by (λ (x : XferStep). Exclusive x.sound.pending x.ring.track) false (λ period. start_call t stream len period budget) s r stream n (λ _. h) (λ _ _ _. h) (λ none. inl none)
 
   script-exclusive : (stream len budget : ℕ) (script : List ℕ) (n : ℕ) → Exclusive (xfer_of s r stream len budget script n).sound.pending (xfer_of s r stream len budget script n).ring.track
   unfolding xfer_of
   script-exclusive stream len budget script n =
       xfer-by (λ (x : XferStep). Exclusive x.sound.pending x.ring.track) (nat_le message_size n && length script % 12 == 0) (none_in s.pending) s t stream (refused_step s r) (set_up_step s r stream)
       (λ period. done_step s (transfer_of r stream len period budget script)) (λ _. h) (λ _ _ _. h) (λ c _. inl c)
+
+  traced-exclusive : (stream len budget room n : ℕ) → Exclusive (start_traced_of s r stream len budget room n).sound.pending (start_traced_of s r stream len budget room n).ring.track
+  traced-exclusive stream len budget room n =
+      traced-by (λ (x : XferStep). Exclusive x.sound.pending x.ring.track) s r stream len budget room n (λ _. h) (λ _ _ _. h) (λ none. inl none)
+
+  capture-exclusive : (stream periods lent budget n : ℕ) → Exclusive (capture_of s r stream periods lent budget n).sound.pending (capture_of s r stream periods lent budget n).ring.track
+  capture-exclusive stream periods lent budget n =
+      capture-by (λ (x : XferStep). Exclusive x.sound.pending x.ring.track) s r stream periods lent budget n (λ _. h) (λ _ _ _. h) (λ none. inl none)
 
   nb-exclusive : (stream n len m : ℕ) → Exclusive (nb_of s r stream n len m).sound.pending t
   nb-exclusive stream n len m = nb-ends (λ (u : NbStep). Exclusive u.sound.pending t) s r stream n len m (λ _. h) (λ _ _ _. h) (λ g. inr g.idle)
@@ -141,44 +153,53 @@ module _ (s : Sound) (r : Ring) (h : Exclusive s.pending r.track) where
   unfolding finish_step
   finish-exclusive token = guarded-by (λ (u : NbEnd). Exclusive u.sound.pending t) _ _ _ (λ _. elim h [ inl e ↦ inl (ap none_in (none-finish s.pending e token) ∙ e) | inr i ↦ inr i ]) (λ _. h)
 
-  alone-exclusive : {q : Ring} (w : RingCall r q) → Unstarted w → Exclusive s.pending q.track
-  alone-exclusive (turned len room reading) u = turned_by (traced_call t len room reading) (λ i. turn-idle t i len room reading)
-  alone-exclusive (penned written) u = h
-  alone-exclusive (received len c) u = turned_by (capture_call t len c) (λ i. capture-idle t i len c)
-  alone-exclusive (drained reading) u = turned_by (drain_call t reading) (λ i. drain-idle t i reading)
-  alone-exclusive (renewed descriptors mode) u = inr refl
-  alone-exclusive (begun stream period w) u = absurd u
-  alone-exclusive (ran stream period budget frames script) u = absurd u
-
   effect-exclusive : (x : Effect) (c : Core) (page : List ℕ) → Exclusive (sound_after x c s page).pending t
   effect-exclusive x c page = subst (λ (p : Pending). Exclusive p t) (sym (effect-pending x c s page)) h
 
 -- THE THEOREM. "A blocking transfer while any is pending is Busy, as is a submission while a transfer's slots are owed"
 pub exclusive : {s : Sound} {r : Ring} (h : Reached s r) → ByCalls h → Exclusive s.pending r.track
 exclusive (fresh descriptors mode guard jacks streams maps) b = inl refl
-exclusive (remade guard jacks streams maps h) b = inl refl
 exclusive (called {s} {r} call n h) b = effect-exclusive s r (exclusive h b) (call_of s r.track call n).effect (call_of s r.track call n).core []
 exclusive (fed {s} {r} f h) b = effect-exclusive s r (exclusive h b) (plan_of s f).effect (plan_of s f).core (page_of f)
-exclusive (started {s} {r} {capture} {begin} stream n w h) b = start-exclusive s r (exclusive h b) capture begin stream n
+exclusive (started {s} {r} stream len budget n h) b = start-exclusive s r (exclusive h b) stream len budget n
 exclusive (scripted {s} {r} stream frames budget script n h) b = script-exclusive s r (exclusive h b) stream (length frames) budget script n
+exclusive (turned {s} {r} len room reading h) b = turned_by s r (exclusive h b) (traced_call r.track len room reading) (λ i. turn-idle r.track i len room reading)
+exclusive (traced {s} {r} stream len budget room n h) b = traced-exclusive s r (exclusive h b) stream len budget room n
+exclusive (penned written h) b = exclusive h b
+exclusive (captured {s} {r} stream periods lent budget n h) b = capture-exclusive s r (exclusive h b) stream periods lent budget n
+exclusive (received {s} {r} len c h) b = turned_by s r (exclusive h b) (capture_call r.track len c) (λ i. capture-idle r.track i len c)
+exclusive (drained {s} {r} reading h) b = turned_by s r (exclusive h b) (drain_call r.track reading) (λ i. drain-idle r.track i reading)
 exclusive (submitted {s} {r} stream n len m h) b = nb-exclusive s r (exclusive h b) stream n len m
 exclusive (marked {s} {r} reading h) b = mark-exclusive s r (exclusive h b) reading
 exclusive (finished {s} {r} token h) b = finish-exclusive s r (exclusive h b) token
-exclusive (alone {s} {r} w h) b = alone-exclusive s r (exclusive h b.1) w b.0
+exclusive (begun stream len period budget h) b = absurd b
+exclusive (listened stream periods period lent budget h) b = absurd b
+exclusive (logged stream len period budget room h) b = absurd b
+exclusive (ran stream period budget frames script h) b = absurd b
+exclusive (renewed descriptors mode h) b = inr refl
 
 -- ---- tokens past the places stay free, where every submission was handed a ring with so many
 
 abbrev pub Placed : {s : Sound} {r : Ring} → ℕ → Reached s r → Type 0
 Placed n (fresh descriptors mode guard jacks streams maps) = Unit {0}
-Placed n (remade guard jacks streams maps h) = Unit {0}
 Placed n (called call k h) = Placed n h
 Placed n (fed f h) = Placed n h
-Placed n (started stream k w h) = Placed n h
+Placed n (started stream len budget k h) = Placed n h
 Placed n (scripted stream frames budget script k h) = Placed n h
+Placed n (turned len room reading h) = Placed n h
+Placed n (traced stream len budget room k h) = Placed n h
+Placed n (penned written h) = Placed n h
+Placed n (captured stream periods lent budget k h) = Placed n h
+Placed n (received len c h) = Placed n h
+Placed n (drained reading h) = Placed n h
 Placed n (submitted {r} stream k len m h) = (places_of r.track.descriptors ≡ n) × Placed n h
 Placed n (marked reading h) = Placed n h
 Placed n (finished token h) = Placed n h
-Placed n (alone w h) = Placed n h
+Placed n (begun stream len period budget h) = Placed n h
+Placed n (listened stream periods period lent budget h) = Placed n h
+Placed n (logged stream len period budget room h) = Placed n h
+Placed n (ran stream period budget frames script h) = Placed n h
+Placed n (renewed descriptors mode h) = Placed n h
 
 module _ (places : ℕ) where
   abbrev Above : Sound → Type 0
@@ -191,17 +212,26 @@ module _ (places : ℕ) where
   pub above : {s : Sound} {r : Ring} (h : Reached s r) → Placed places h → AboveFree places s.pending
   unfolding mark_step finish_step
   above (fresh descriptors mode guard jacks streams maps) p = λ k _. none_then new_pending refl k
-  above (remade guard jacks streams maps h) p = λ k _. none_then new_pending refl k
   above (called {s} {r} call n h) p = subst (AboveFree places) (sym (effect-pending (call_of s r.track call n).effect (call_of s r.track call n).core s [])) (above h p)
   above (fed {s} f h) p = subst (AboveFree places) (sym (effect-pending (plan_of s f).effect (plan_of s f).core s (page_of f))) (above h p)
-  above (started {s} {r} {capture} {begin} stream n w h) p = start-as-by (λ (x : XferStep). Above x.sound) capture begin s r stream n (λ _. above h p) (λ _ _ _. above h p) (λ _. above h p)
+  above (started {s} {r} stream len budget n h) p = start-by (λ (x : XferStep). Above x.sound) s r stream len budget n (λ _. above h p) (λ _ _ _. above h p) (above h p)
   above (scripted {s} {r} stream frames budget script n h) p = script-by (λ (x : XferStep). Above x.sound) s r stream (length frames) budget n (λ _. above h p) (λ _ _ _. above h p) script (above h p)
+  above (turned len room reading h) p = above h p
+  above (traced {s} {r} stream len budget room n h) p = traced-by (λ (x : XferStep). Above x.sound) s r stream len budget room n (λ _. above h p) (λ _ _ _. above h p) (λ _. above h p)
+  above (penned written h) p = above h p
+  above (captured {s} {r} stream periods lent budget n h) p = capture-by (λ (x : XferStep). Above x.sound) s r stream periods lent budget n (λ _. above h p) (λ _ _ _. above h p) (λ _. above h p)
+  above (received len c h) p = above h p
+  above (drained reading h) p = above h p
   above (submitted {s} {r} stream n len m h) p =
       nb-ends (λ (u : NbStep). Above u.sound) s r stream n len m (λ _. above h p.1) (λ _ _ _. above h p.1)
-      (λ g. other places s.pending (above h p.1) (lowest_in s.pending (places_of r.track.descriptors)) (waits (mode_of r.track.descriptors)) (omega (arith, g.free, p.0)))
+      (λ g. other places s.pending (above h p.1) (lowest_in s.pending (places_of r.track.descriptors)) waits (omega (arith, g.free, p.0)))
   above (marked {s} reading h) p = guarded-by (λ (u : NbEnd). Above u.sound) _ _ _ (λ _. above-by s reading (above h p)) (λ _. above h p)
   above (finished {s} token h) p = guarded-by (λ (u : NbEnd). Above u.sound) _ _ _ (λ _. finishes-above places s.pending (above h p) token) (λ _. above h p)
-  above (alone w h) p = above h p
+  above (begun stream len period budget h) p = above h p
+  above (listened stream periods period lent budget h) p = above h p
+  above (logged stream len period budget room h) p = above h p
+  above (ran stream period budget frames script h) p = above h p
+  above (renewed descriptors mode h) p = above h p
 
   -- no more than so many are pending
   pub few-tokens : {s : Sound} {r : Ring} (h : Reached s r) → places ≤ 32 → Placed places h → count_in s.pending ≤ places

@@ -24,11 +24,9 @@ pub mod Submitted
 pub mod Reached
 pub mod Exclusive
 pub mod SubmitFull
-pub mod OneMode
 pub mod Sequence
 pub mod Demand
 pub mod CaptureDemand
-pub mod CaptureMet
 pub mod Lifecycle
 pub mod Carries
 pub mod TracedStart

@@ -1,5 +1,5 @@
--- Theorems of the guard. "For any sequence of calls the state is the one the table gives for the ok commands." A command that was sent was permitted; the
--- guard never changes; and without it no state moves.
+-- Theorems of the guard. "For any sequence of calls the state is the one the table gives for the ok commands." A command that was sent was permitted; the guard never
+-- changes; and without it no state moves.
 -- Assumes nothing.
 use Rattle.std.specs.Prelude.{◌≡◌, ℕ, ◌-◌, ◌<◌, ◌≤◌, Bool, true, false, ◌&&◌, List, [], ◌∷◌, ◌++◌, length, set, replicate, ◌==◌, nat_le, slice_index, slice_index_or, slice_set, refl}
 use Rattle.std.proofs.Common.{sym, ap, ap₂, ◌∙◌, subst, append-nil, inl, arith, get_or-set_other, get_or-set_same, eqb-true, leb-true, ltb-true}
@@ -16,6 +16,7 @@ use Rattle.std.specs.State.{with_stage}
 use Rattle.exchange.specs.State.{new_sound, params_of, life_of, with_core}
 use Rattle.exchange.specs.Tables.{look_of, pending_look, moved, sound_after}
 use Rattle.exchange.specs.Exchange.{step_of, call_of, feed_of, fail_of}
+use Rattle.exchange.specs.Xfer.{start_of, xfer_of}
 use Rattle.exchange.specs.Feed.{Feed, paged, failed, page_of, plan_of, fed_of, verdict_of}
 use Rattle.exchange.specs.Kept.{Kept, Playable}
 use Rattle.exchange.specs.KeptLaws.{zero-life}
@@ -23,9 +24,9 @@ use Rattle.exchange.specs.ConsistentLaws.{facts_at, full, ready-tables}
 use Rattle.exchange.specs.OwnLaws.{Own, sets, commands, remaps, lists, tells, refuses}
 use Rattle.exchange.specs.PlanLaws.{Begun, bars, asks, goes as begins, begun, Answered, short, idle, asks-streams, asks-maps, cuts, finishes, ends, fails, fed as answers}
 use Rattle.exchange.specs.StayLaws.{called-stays, called-quiet, fed-stays, after-core}
-use Rattle.exchange.specs.XferLaws.{start-as-by, script-by}
+use Rattle.exchange.specs.XferLaws.{start-by, script-by, traced-by, capture-by}
 use Rattle.exchange.specs.Submitted.{nb-sound, mark-sound, finish-sound}
-use Rattle.exchange.specs.Reached.{Reached, fresh, remade, called, fed, started, scripted, submitted, marked, finished, alone, reached-kept, reached-playable}
+use Rattle.exchange.specs.Reached.{Reached, fresh, called, fed, started, scripted, turned, traced, penned, captured, received, drained, submitted, marked, finished, begun as restarted, listened, logged, ran, renewed, reached-kept, reached-playable}
 use Rattle.exchange.specs.Ends.{after}
 use Rattle.turns.specs.Consistent.{placed_of, paced_of}
 use Rattle.turns.specs.Ring.{direct, new_track, new_ring}
@@ -80,15 +81,24 @@ ok_of s f i = ok_in (plan_of s f).say (out_to i s.core.stage)
 
 unfoldable pub oks_of : {s : Sound} {r : Ring} → Reached s r → ℕ → List ℕ
 oks_of (fresh descriptors mode guard jacks streams maps) i = []
-oks_of (remade guard jacks streams maps h) i = []
 oks_of (called call n h) i = oks_of h i
 oks_of (fed {s} f h) i = oks_of h i ++ ok_of s f i
-oks_of (started stream n w h) i = oks_of h i
+oks_of (started stream len budget n h) i = oks_of h i
 oks_of (scripted stream frames budget script n h) i = oks_of h i
+oks_of (turned len room reading h) i = oks_of h i
+oks_of (traced stream len budget room n h) i = oks_of h i
+oks_of (penned written h) i = oks_of h i
+oks_of (captured stream periods lent budget n h) i = oks_of h i
+oks_of (received len c h) i = oks_of h i
+oks_of (drained reading h) i = oks_of h i
 oks_of (submitted stream n len m h) i = oks_of h i
 oks_of (marked reading h) i = oks_of h i
 oks_of (finished token h) i = oks_of h i
-oks_of (alone w h) i = oks_of h i
+oks_of (restarted stream len period budget h) i = oks_of h i
+oks_of (listened stream periods period lent budget h) i = oks_of h i
+oks_of (logged stream len period budget room h) i = oks_of h i
+oks_of (ran stream period budget frames script h) i = oks_of h i
+oks_of (renewed descriptors mode h) i = oks_of h i
 
 -- ---- a test that was made under the guard
 
@@ -264,15 +274,24 @@ module _ (s : Sound) (page : List ℕ) (i l : ℕ) {ks : List ℕ} (h : Walk l k
 
 unfoldable pub guard_of : {s : Sound} {r : Ring} → Reached s r → Bool
 guard_of (fresh descriptors mode guard jacks streams maps) = guard
-guard_of (remade guard jacks streams maps h) = guard
 guard_of (called call n h) = guard_of h
 guard_of (fed f h) = guard_of h
-guard_of (started stream n w h) = guard_of h
+guard_of (started stream len budget n h) = guard_of h
 guard_of (scripted stream frames budget script n h) = guard_of h
+guard_of (turned len room reading h) = guard_of h
+guard_of (traced stream len budget room n h) = guard_of h
+guard_of (penned written h) = guard_of h
+guard_of (captured stream periods lent budget n h) = guard_of h
+guard_of (received len c h) = guard_of h
+guard_of (drained reading h) = guard_of h
 guard_of (submitted stream n len m h) = guard_of h
 guard_of (marked reading h) = guard_of h
 guard_of (finished token h) = guard_of h
-guard_of (alone w h) = guard_of h
+guard_of (restarted stream len period budget h) = guard_of h
+guard_of (listened stream periods period lent budget h) = guard_of h
+guard_of (logged stream len period budget room h) = guard_of h
+guard_of (ran stream period budget frames script h) = guard_of h
+guard_of (renewed descriptors mode h) = guard_of h
 
 called-guard : (s : Sound) (t : Track) (call : Call) (n : ℕ) → (step_of (call_of s t call n) s []).sound.core.guard ≡ s.core.guard
 called-guard s t call n = let p = call_of s t call n in ap (λ (c : Core). c.guard) (after-core p.effect p.core s []) ∙ (called-stays s t call n).guard
@@ -283,17 +302,28 @@ fed-guard s f = let p = plan_of s f in ap (λ (c : Core). c.guard) (after-core p
 pub guard-stays : {s : Sound} {r : Ring} (h : Reached s r) → s.core.guard ≡ guard_of h
 unfolding guard_of
 guard-stays (fresh descriptors mode guard jacks streams maps) = refl
-guard-stays (remade guard jacks streams maps h) = refl
 guard-stays (called {s} {r} call n h) = called-guard s r.track call n ∙ guard-stays h
 guard-stays (fed {s} f h) = fed-guard s f ∙ guard-stays h
-guard-stays (started {s} {r} {capture} {begin} stream n w h) =
-    start-as-by (λ (x : XferStep). x.sound.core.guard ≡ guard_of h) capture begin s r stream n (λ _. guard-stays h) (λ _ _ _. guard-stays h) (λ _. guard-stays h)
+guard-stays (started {s} {r} stream len budget n h) =
+    start-by (λ (x : XferStep). x.sound.core.guard ≡ guard_of h) s r stream len budget n (λ _. guard-stays h) (λ _ _ _. guard-stays h) (guard-stays h)
 guard-stays (scripted {s} {r} stream frames budget script n h) =
     script-by (λ (x : XferStep). x.sound.core.guard ≡ guard_of h) s r stream (length frames) budget n (λ _. guard-stays h) (λ _ _ _. guard-stays h) script (guard-stays h)
+guard-stays (turned len room reading h) = guard-stays h
+guard-stays (traced {s} {r} stream len budget room n h) =
+    traced-by (λ (x : XferStep). x.sound.core.guard ≡ guard_of h) s r stream len budget room n (λ _. guard-stays h) (λ _ _ _. guard-stays h) (λ _. guard-stays h)
+guard-stays (penned written h) = guard-stays h
+guard-stays (captured {s} {r} stream periods lent budget n h) =
+    capture-by (λ (x : XferStep). x.sound.core.guard ≡ guard_of h) s r stream periods lent budget n (λ _. guard-stays h) (λ _ _ _. guard-stays h) (λ _. guard-stays h)
+guard-stays (received len c h) = guard-stays h
+guard-stays (drained reading h) = guard-stays h
 guard-stays (submitted {s} {r} stream n len m h) = nb-sound (λ (x : Sound). x.core.guard ≡ guard_of h) s r stream n len m (guard-stays h) (λ _ _ _. guard-stays h) (λ _. guard-stays h)
 guard-stays (marked {s} reading h) = mark-sound (λ (x : Sound). x.core.guard ≡ guard_of h) s (guard-stays h) (λ _. guard-stays h) reading
 guard-stays (finished {s} token h) = finish-sound (λ (x : Sound). x.core.guard ≡ guard_of h) s (guard-stays h) (λ _. guard-stays h) token
-guard-stays (alone w h) = guard-stays h
+guard-stays (restarted stream len period budget h) = guard-stays h
+guard-stays (listened stream periods period lent budget h) = guard-stays h
+guard-stays (logged stream len period budget room h) = guard-stays h
+guard-stays (ran stream period budget frames script h) = guard-stays h
+guard-stays (renewed descriptors mode h) = guard-stays h
 
 -- ---- A COMMAND THAT WAS SENT WAS PERMITTED, to a stream that there is; at a call and at a feed, in any state
 
@@ -314,7 +344,6 @@ Waiting x = x.core.guard ≡ true → Waits x.lives x.core.stage
 
 reached-waits : {s : Sound} {r : Ring} → Reached s r → Waiting s
 reached-waits (fresh descriptors mode guard jacks streams maps) on = λ i k e. empty e
-reached-waits (remade guard jacks streams maps h) on = λ i k e. empty e
 reached-waits (called {s} {r} call n h) on =
     let c = (call_of s r.track call n).core in
     let was : s.core.guard ≡ true = sym (called-guard s r.track call n) ∙ on in
@@ -323,34 +352,57 @@ reached-waits (fed {s} f h) on =
     let p = plan_of s f in
     let was : s.core.guard ≡ true = sym (fed-guard s f) ∙ on in
     subst (λ (c : Core). Waits (fed_of s f).sound.lives c.stage) (sym (after-core p.effect p.core s (page_of f))) (answered-waits s was refl (page_of f) (reached-waits h was) (answers s f))
-reached-waits (started {s} {r} {capture} {begin} stream n w h) on =
-    start-as-by (λ (x : XferStep). Waiting x.sound) capture begin s r stream n (λ _ o. reached-waits h o) (λ _ _ _ _ i k e. empty e) (λ _ o. reached-waits h o) on
+reached-waits (started {s} {r} stream len budget n h) on =
+    start-by (λ (x : XferStep). Waiting x.sound) s r stream len budget n (λ _ o. reached-waits h o) (λ _ _ _ _ i k e. empty e) (λ o. reached-waits h o) on
 reached-waits (scripted {s} {r} stream frames budget script n h) on =
     script-by (λ (x : XferStep). Waiting x.sound) s r stream (length frames) budget n (λ _ o. reached-waits h o) (λ _ _ _ _ i k e. empty e) script (λ o. reached-waits h o) on
+reached-waits (turned len room reading h) on = reached-waits h on
+reached-waits (traced {s} {r} stream len budget room n h) on =
+    traced-by (λ (x : XferStep). Waiting x.sound) s r stream len budget room n (λ _ o. reached-waits h o) (λ _ _ _ _ i k e. empty e) (λ _ o. reached-waits h o) on
+reached-waits (penned written h) on = reached-waits h on
+reached-waits (captured {s} {r} stream periods lent budget n h) on =
+    capture-by (λ (x : XferStep). Waiting x.sound) s r stream periods lent budget n (λ _ o. reached-waits h o) (λ _ _ _ _ i k e. empty e) (λ _ o. reached-waits h o) on
+reached-waits (received len c h) on = reached-waits h on
+reached-waits (drained reading h) on = reached-waits h on
 reached-waits (submitted {s} {r} stream n len m h) on = nb-sound Waiting s r stream n len m (λ o. reached-waits h o) (λ _ _ _ _ i k e. empty e) (λ _ o. reached-waits h o) on
 reached-waits (marked {s} reading h) on = mark-sound Waiting s (λ o. reached-waits h o) (λ _ o. reached-waits h o) reading on
 reached-waits (finished {s} token h) on = finish-sound Waiting s (λ o. reached-waits h o) (λ _ o. reached-waits h o) token on
-reached-waits (alone w h) on = reached-waits h on
+reached-waits (restarted stream len period budget h) on = reached-waits h on
+reached-waits (listened stream periods period lent budget h) on = reached-waits h on
+reached-waits (logged stream len period budget room h) on = reached-waits h on
+reached-waits (ran stream period budget frames script h) on = reached-waits h on
+reached-waits (renewed descriptors mode h) on = reached-waits h on
 
 -- from "set parameters" each ok command to a stream was permitted where the stream was, and the last of them is where it is
 pub lifecycle : {s : Sound} {r : Ring} (h : Reached s r) (i : ℕ) → s.core.guard ≡ true → Walk 0 (oks_of h i) (life_of s i)
 unfolding oks_of
 lifecycle (fresh descriptors mode guard jacks streams maps) i on = subst (λ (m : ℕ). Walk 0 [] m) (sym (zero-life 127 i)) here
-lifecycle (remade guard jacks streams maps h) i on = subst (λ (m : ℕ). Walk 0 [] m) (sym (zero-life 127 i)) here
 lifecycle (called {s} {r} call n h) i on =
     subst (λ (x : Sound). Walk 0 (oks_of h i) (life_of x i)) (sym (called-as s r.track call n)) (lifecycle h i (sym (called-guard s r.track call n) ∙ on))
 lifecycle (fed {s} f h) i on =
     let was : s.core.guard ≡ true = sym (fed-guard s f) ∙ on in
     answered-walk s (page_of f) i 0 (lifecycle h i was) was (reached-kept h).0.lives (reached-waits h was) (answers s f)
-lifecycle (started {s} {r} {capture} {begin} stream n w h) i on =
-    start-as-by (λ (x : XferStep). x.sound.core.guard ≡ true → Walk 0 (oks_of h i) (life_of x.sound i)) capture begin s r stream n (λ _ o. lifecycle h i o) (λ _ _ _ o. lifecycle h i o) (λ _ o. lifecycle h i o) on
+lifecycle (started {s} {r} stream len budget n h) i on =
+    start-by (λ (x : XferStep). x.sound.core.guard ≡ true → Walk 0 (oks_of h i) (life_of x.sound i)) s r stream len budget n (λ _ o. lifecycle h i o) (λ _ _ _ o. lifecycle h i o) (λ o. lifecycle h i o) on
 lifecycle (scripted {s} {r} stream frames budget script n h) i on =
     script-by (λ (x : XferStep). x.sound.core.guard ≡ true → Walk 0 (oks_of h i) (life_of x.sound i)) s r stream (length frames) budget n (λ _ o. lifecycle h i o) (λ _ _ _ o. lifecycle h i o) script (λ o. lifecycle h i o) on
+lifecycle (turned len room reading h) i on = lifecycle h i on
+lifecycle (traced {s} {r} stream len budget room n h) i on =
+    traced-by (λ (x : XferStep). x.sound.core.guard ≡ true → Walk 0 (oks_of h i) (life_of x.sound i)) s r stream len budget room n (λ _ o. lifecycle h i o) (λ _ _ _ o. lifecycle h i o) (λ _ o. lifecycle h i o) on
+lifecycle (penned written h) i on = lifecycle h i on
+lifecycle (captured {s} {r} stream periods lent budget n h) i on =
+    capture-by (λ (x : XferStep). x.sound.core.guard ≡ true → Walk 0 (oks_of h i) (life_of x.sound i)) s r stream periods lent budget n (λ _ o. lifecycle h i o) (λ _ _ _ o. lifecycle h i o) (λ _ o. lifecycle h i o) on
+lifecycle (received len c h) i on = lifecycle h i on
+lifecycle (drained reading h) i on = lifecycle h i on
 lifecycle (submitted {s} {r} stream n len m h) i on =
     nb-sound (λ (x : Sound). x.core.guard ≡ true → Walk 0 (oks_of h i) (life_of x i)) s r stream n len m (λ o. lifecycle h i o) (λ _ _ _ o. lifecycle h i o) (λ _ o. lifecycle h i o) on
 lifecycle (marked {s} reading h) i on = mark-sound (λ (x : Sound). x.core.guard ≡ true → Walk 0 (oks_of h i) (life_of x i)) s (λ o. lifecycle h i o) (λ _ o. lifecycle h i o) reading on
 lifecycle (finished {s} token h) i on = finish-sound (λ (x : Sound). x.core.guard ≡ true → Walk 0 (oks_of h i) (life_of x i)) s (λ o. lifecycle h i o) (λ _ o. lifecycle h i o) token on
-lifecycle (alone w h) i on = lifecycle h i on
+lifecycle (restarted stream len period budget h) i on = lifecycle h i on
+lifecycle (listened stream periods period lent budget h) i on = lifecycle h i on
+lifecycle (logged stream len period budget room h) i on = lifecycle h i on
+lifecycle (ran stream period budget frames script h) i on = lifecycle h i on
+lifecycle (renewed descriptors mode h) i on = lifecycle h i on
 
 -- ---- WITHOUT THE GUARD no effect moves a stream: "Guard off, all reads as before"
 

@@ -10,7 +10,6 @@ use Rattle.tables.specs.Tables.{judged}
 use Rattle.turns.specs.Calls.{traced_call, drain_call, turned_of, start_call, start_traced, started_of, written_in}
 use Rattle.turns.specs.Capture.{capture_start, capture_call}
 use Rattle.turns.specs.declared.capture.Catch.{Catch}
-use Rattle.turns.specs.declared.ring.Step.{Step}
 use Rattle.exchange.specs.CaptureLaws.{capture-start-keeps, capture-keeps}
 use Rattle.turns.specs.Script.{transfer_of}
 use Rattle.turns.specs.Consistent as ring
@@ -25,60 +24,59 @@ use Rattle.exchange.specs.State.{new_sound, params_of, life_of}
 use Rattle.std.specs.Consistent.{consistent_of}
 use Rattle.std.specs.Plan.{own_set, begin_of, after_jacks, after_streams, after_maps, after_sent, answer_of}
 use Rattle.exchange.specs.Exchange.{step_of, call_of, feed_of, fail_of}
-use Rattle.exchange.specs.Xfer.{start_as, xfer_of}
+use Rattle.exchange.specs.Xfer.{start_of, start_traced_of, xfer_of, capture_of}
 use Rattle.exchange.specs.Submit.{nb_of, mark_step, finish_step}
 use Rattle.exchange.specs.Submitted.{nb-kept, mark-kept, finish-kept}
 use Rattle.exchange.specs.Kept.{Kept, Playable}
 use Rattle.exchange.specs.KeptLaws.{new-kept, call_kept, feed-kept}
 use Rattle.exchange.specs.Ends.{after}
-use Rattle.exchange.specs.XferLaws.{start-as-by, script-by, start-as-kept, xfer-kept}
+use Rattle.exchange.specs.XferLaws.{start-by, script-by, traced-by, capture-by, start-kept, xfer-kept, traced-kept, capture-kept}
 use Rattle.exchange.specs.Feed.{Feed, paged, failed, fed_of}
-use Rattle.exchange.specs.Types.{InFull, Track, Ring, Reading, Call, SetParams, Idle, Sound}
+use Rattle.exchange.specs.Types.{InFull, Ring, Reading, Call, SetParams, Idle, Sound}
 
 -- a ring whose trace is so long: nothing else of it changes where the writer of a turn notes that
 abbrev pub penned_in : ℕ → Ring → Ring
 penned_in written r = record { track = written_in written r.track; slots = r.slots }
 
--- how a transfer begins on a ring where a period is so long: a playback, one that writes a trace, a capture
-pub data Start (t : Track) (stream : ℕ) : Bool → (ℕ → Step) → Type 0 where
-  plays : (len budget : ℕ) → Start t stream false (λ period. start_call t stream len period budget)
-  writes : (len budget room : ℕ) → Start t stream false (λ period. start_traced t stream len period budget room)
-  records : (periods lent budget : ℕ) → Start t stream true (λ period. capture_start t stream periods period lent budget)
-
--- a call of the ring alone, beside a state that it does not see
-pub data RingCall : Ring → Ring → Type 0 where
-  -- a turn, lent room for a trace, or none; what it writes there, the ring keeps the length of
-  turned : {r : Ring} (len room : ℕ) (reading : Reading) → RingCall r (turned_of r (traced_call r.track len room reading)).ring
-  penned : {r : Ring} (written : ℕ) → RingCall r (penned_in written r)
-  received : {r : Ring} (len : ℕ) (c : Catch) → RingCall r (turned_of r (capture_call r.track len c)).ring
-  drained : {r : Ring} (reading : Reading) → RingCall r (turned_of r (drain_call r.track reading)).ring
-  -- a new one, of either mode
-  renewed : {r : Ring} (descriptors : ℕ) → Mode descriptors → RingCall r (new_ring descriptors)
-  -- `start`, `traced_start`, `capture_start` and `transfer` of turns
-  begun : {r : Ring} {capture : Bool} {begin : ℕ → Step} (stream period : ℕ) → Start r.track stream capture begin → RingCall r (started_of r (begin period)).ring
-  ran : {r : Ring} (stream period budget : ℕ) (frames script : List ℕ) → RingCall r (transfer_of r stream (length frames) period budget script).ring
-
 pub data Reached : Sound → Ring → Type 0 where
   fresh : (descriptors : ℕ) → Mode descriptors → (guard : Bool) (jacks streams maps : ℕ) → Reached (new_sound guard jacks streams maps) (new_ring descriptors)
-  -- a new state beside a ring that was kept
-  remade : {s : Sound} {r : Ring} (guard : Bool) (jacks streams maps : ℕ) → Reached s r → Reached (new_sound guard jacks streams maps) r
   called : {s : Sound} {r : Ring} (call : Call) (n : ℕ) → Reached s r → Reached (step_of (call_of s r.track call n) s []).sound r
   fed : {s : Sound} {r : Ring} (f : Feed) → Reached s r → Reached (fed_of s f).sound r
-  started : {s : Sound} {r : Ring} {capture : Bool} {begin : ℕ → Step} (stream n : ℕ) → Start r.track stream capture begin → Reached s r
-      → Reached (start_as capture begin s r stream n).sound (start_as capture begin s r stream n).ring
+  started : {s : Sound} {r : Ring} (stream len budget n : ℕ) → Reached s r → Reached (start_of s r stream len budget n).sound (start_of s r stream len budget n).ring
   scripted : {s : Sound} {r : Ring} (stream : ℕ) (frames : List ℕ) (budget : ℕ) (script : List ℕ) (n : ℕ) → Reached s r
       → Reached (xfer_of s r stream (length frames) budget script n).sound (xfer_of s r stream (length frames) budget script n).ring
+  -- a turn, lent room for a trace, or none; what it writes there, the ring keeps the length of
+  turned : {s : Sound} {r : Ring} (len room : ℕ) (reading : Reading) → Reached s r → Reached s (turned_of r (traced_call r.track len room reading)).ring
+  traced : {s : Sound} {r : Ring} (stream len budget room n : ℕ) → Reached s r → Reached (start_traced_of s r stream len budget room n).sound (start_traced_of s r stream len budget room n).ring
+  penned : {s : Sound} {r : Ring} (written : ℕ) → Reached s r → Reached s (penned_in written r)
+  captured : {s : Sound} {r : Ring} (stream periods lent budget n : ℕ) → Reached s r → Reached (capture_of s r stream periods lent budget n).sound (capture_of s r stream periods lent budget n).ring
+  received : {s : Sound} {r : Ring} (len : ℕ) (c : Catch) → Reached s r → Reached s (turned_of r (capture_call r.track len c)).ring
+  drained : {s : Sound} {r : Ring} (reading : Reading) → Reached s r → Reached s (turned_of r (drain_call r.track reading)).ring
   submitted : {s : Sound} {r : Ring} (stream n len m : ℕ) → Reached s r → Reached (nb_of s r stream n len m).sound r
   marked : {s : Sound} {r : Ring} (reading : Reading) → Reached s r → Reached (mark_step s reading).sound r
   finished : {s : Sound} {r : Ring} (token : ℕ) → Reached s r → Reached (finish_step s token).sound r
-  alone : {s : Sound} {r q : Ring} → RingCall r q → Reached s r → Reached s q
+  -- the ring by itself: `start`, `capture_start`, `traced_start` and `transfer` of turns, and a new one, of either mode, beside a state that was kept
+  begun : {s : Sound} {r : Ring} (stream len period budget : ℕ) → Reached s r → Reached s (started_of r (start_call r.track stream len period budget)).ring
+  listened : {s : Sound} {r : Ring} (stream periods period lent budget : ℕ) → Reached s r → Reached s (started_of r (capture_start r.track stream periods period lent budget)).ring
+  logged : {s : Sound} {r : Ring} (stream len period budget room : ℕ) → Reached s r → Reached s (started_of r (start_traced r.track stream len period budget room)).ring
+  ran : {s : Sound} {r : Ring} (stream period budget : ℕ) (frames script : List ℕ) → Reached s r → Reached s (transfer_of r stream (length frames) period budget script).ring
+  renewed : {s : Sound} {r : Ring} (descriptors : ℕ) → Mode descriptors → Reached s r → Reached s (new_ring descriptors)
 
--- ---- what calls left has the invariant
+module _ (s : Sound) (r : Ring) (stream budget n : ℕ) (c : Consistent r.track) where
+  start-ring : (len : ℕ) → Consistent (start_of s r stream len budget n).ring.track
+  start-ring len = start-by (λ x. Consistent x.ring.track) s r stream len budget n (λ _. c) (λ _ _ _. c) (start-keeps r.track stream len (params_of s stream).period budget c)
 
-begin-keeps : {t : Track} {stream : ℕ} {capture : Bool} {begin : ℕ → Step} → Start t stream capture begin → Consistent t → (period : ℕ) → Consistent (begin period).track
-begin-keeps {t} {stream} (plays len budget) c period = start-keeps t stream len period budget c
-begin-keeps {t} {stream} (writes len budget room) c period = traced-start-keeps t stream len period budget room c
-begin-keeps {t} {stream} (records periods lent budget) c period = capture-start-keeps t stream periods period lent budget c
+  traced-ring : (len room : ℕ) → Consistent (start_traced_of s r stream len budget room n).ring.track
+  traced-ring len room =
+      traced-by (λ x. Consistent x.ring.track) s r stream len budget room n (λ _. c) (λ _ _ _. c) (λ _. traced-start-keeps r.track stream len (params_of s stream).period budget room c)
+
+  capture-ring : (periods lent : ℕ) → Consistent (capture_of s r stream periods lent budget n).ring.track
+  capture-ring periods lent =
+      capture-by (λ x. Consistent x.ring.track) s r stream periods lent budget n (λ _. c) (λ _ _ _. c) (λ _. capture-start-keeps r.track stream periods (params_of s stream).period lent budget c)
+
+  script-ring : (frames script : List ℕ) → Consistent (xfer_of s r stream (length frames) budget script n).ring.track
+  script-ring frames script =
+      script-by (λ x. Consistent x.ring.track) s r stream (length frames) budget n (λ _. c) (λ _ _ _. c) script (script-keeps r stream (params_of s stream).period budget frames script c)
 
 penned-keeps : (r : Ring) (written : ℕ) → Consistent r.track → Consistent (penned_in written r).track
 penned-keeps r written c =
@@ -91,36 +89,27 @@ penned-keeps r written c =
       good = c.good;
     }
 
-alone-keeps : {r q : Ring} → RingCall r q → Consistent r.track → Consistent q.track
-alone-keeps {r} (turned len room reading) c = traced-keeps r.track len room reading c
-alone-keeps {r} (penned written) c = penned-keeps r written c
-alone-keeps {r} (received len x) c = capture-keeps r.track len x c
-alone-keeps {r} (drained reading) c = drain-keeps r.track reading c
-alone-keeps (renewed descriptors mode) c = consistent-facts (new_track descriptors) (new-passes descriptors mode)
-alone-keeps (begun stream period w) c = begin-keeps w c period
-alone-keeps {r} (ran stream period budget frames script) c = script-keeps r stream period budget frames script c
-
+-- what calls left has the invariant
 pub reached-kept : {s : Sound} {r : Ring} → Reached s r → Kept s × Consistent r.track
 reached-kept (fresh descriptors mode guard jacks streams maps) = (new-kept guard jacks streams maps, consistent-facts (new_track descriptors) (new-passes descriptors mode))
-reached-kept (remade guard jacks streams maps h) = (new-kept guard jacks streams maps, (reached-kept h).1)
 reached-kept (called {s} {r} call n h) = let k = reached-kept h in (call_kept s r.track call n k.0, k.1)
 reached-kept (fed {s} f h) = let k = reached-kept h in (feed-kept s f k.0, k.1)
-reached-kept (started {s} {r} {capture} {begin} stream n w h) =
-    let k = reached-kept h in
-    let c : Consistent r.track = k.1 in (
-      start-as-kept capture begin s r stream n k.0,
-      start-as-by (λ x. Consistent x.ring.track) capture begin s r stream n (λ _. c) (λ _ _ _. c) (λ _. begin-keeps w c (params_of s stream).period),
-    )
-reached-kept (scripted {s} {r} stream frames budget script n h) =
-    let k = reached-kept h in
-    let c : Consistent r.track = k.1 in (
-      xfer-kept s r stream (length frames) budget n k.0 script,
-      script-by (λ x. Consistent x.ring.track) s r stream (length frames) budget n (λ _. c) (λ _ _ _. c) script (script-keeps r stream (params_of s stream).period budget frames script c),
-    )
+reached-kept (started {s} {r} stream len budget n h) = let k = reached-kept h in (start-kept s r stream len budget n k.0, start-ring s r stream budget n k.1 len)
+reached-kept (scripted {s} {r} stream frames budget script n h) = let k = reached-kept h in (xfer-kept s r stream (length frames) budget n k.0 script, script-ring s r stream budget n k.1 frames script)
+reached-kept (turned {r} len room reading h) = let k = reached-kept h in (k.0, traced-keeps r.track len room reading k.1)
+reached-kept (traced {s} {r} stream len budget room n h) = let k = reached-kept h in (traced-kept s r stream len budget room n k.0, traced-ring s r stream budget n k.1 len room)
+reached-kept (penned {r} written h) = let k = reached-kept h in (k.0, penned-keeps r written k.1)
+reached-kept (captured {s} {r} stream periods lent budget n h) = let k = reached-kept h in (capture-kept s r stream periods lent budget n k.0, capture-ring s r stream budget n k.1 periods lent)
+reached-kept (received {r} len c h) = let k = reached-kept h in (k.0, capture-keeps r.track len c k.1)
+reached-kept (drained {r} reading h) = let k = reached-kept h in (k.0, drain-keeps r.track reading k.1)
 reached-kept (submitted {s} {r} stream n len m h) = let k = reached-kept h in (nb-kept s r stream n len m k.0, k.1)
 reached-kept (marked {s} reading h) = let k = reached-kept h in (mark-kept s reading k.0, k.1)
 reached-kept (finished {s} token h) = let k = reached-kept h in (finish-kept s token k.0, k.1)
-reached-kept (alone w h) = let k = reached-kept h in (k.0, alone-keeps w k.1)
+reached-kept (begun {r} stream len period budget h) = let k = reached-kept h in (k.0, start-keeps r.track stream len period budget k.1)
+reached-kept (listened {r} stream periods period lent budget h) = let k = reached-kept h in (k.0, capture-start-keeps r.track stream periods period lent budget k.1)
+reached-kept (logged {r} stream len period budget room h) = let k = reached-kept h in (k.0, traced-start-keeps r.track stream len period budget room k.1)
+reached-kept (ran {r} stream period budget frames script h) = let k = reached-kept h in (k.0, script-keeps r stream period budget frames script k.1)
+reached-kept (renewed descriptors mode h) = ((reached-kept h).0, consistent-facts (new_track descriptors) (new-passes descriptors mode))
 
 -- so demand 3 speaks of every state and ring that calls left
 pub reached-playable : {s : Sound} {r : Ring} (stream : ℕ) → Reached s r → ((params_of s stream).known ≢ 0) → (s.core.guard ≡ true → takes_of (life_of s stream) ≡ true) → s.core.stage ≡ Idle → r.track.running ≡ false

@@ -8,7 +8,7 @@ use Rattle.layout.specs.Bytes.{un, bytes_at, num_at}
 use Rattle.codes.specs.Says.{pick, guard}
 use Rattle.codes.specs.SaysLaws.{guarded-by}
 use Rattle.pending.specs.declared.table.Token.{Token as PendingToken}
-use Rattle.pending.specs.Table.{free_token, new_pending, waits, marked as mark, token_at, pending_at, put, none_in, lowest_in, mark_token, finish_token, finish_of}
+use Rattle.pending.specs.Table.{free_token, new_pending, waits, marked as mark, pending_at, put, none_in, lowest_in, mark_token, finish_token, finish_of}
 use Rattle.pending.specs.TableLaws.{put_other, put-notes, waits-pending}
 use Rattle.pending.specs.CallLaws.{mark-by, finish-by}
 use Rattle.pending.specs.Places.{size_of, start_of as place_of, message_of, placed_in}
@@ -23,12 +23,12 @@ use Rattle.std.specs.Consistent.{consistent_of, stream_ok}
 use Rattle.std.specs.Plan.{own_set, begin_of, after_jacks, after_streams, after_maps, after_sent, answer_of}
 use Rattle.exchange.specs.Exchange.{call_of, feed_of, fail_of}
 use Rattle.exchange.specs.Feed.{plan_of, page_of}
-use Rattle.exchange.specs.XferLaws.{start-as-by, script-by}
-use Rattle.exchange.specs.Submit.{places_of, mode_of, nb_of, nb_store, mark_by, mark_step, finish_step}
+use Rattle.exchange.specs.XferLaws.{start-by, script-by, traced-by, capture-by}
+use Rattle.exchange.specs.Submit.{places_of, nb_of, nb_store, mark_by, mark_step, finish_step}
 use Rattle.exchange.specs.SubmitLaws.{few-places}
 use Rattle.exchange.specs.Submitted.{Given, nb-ends, effect-pending}
 use Rattle.exchange.specs.Ends.{after}
-use Rattle.exchange.specs.Reached.{Reached, fresh, remade, called, fed, started, scripted, submitted, marked, finished, alone, reached-kept, parameters_set, reached-set}
+use Rattle.exchange.specs.Reached.{Reached, fresh, called, fed, started, scripted, turned, traced, penned, captured, received, drained, submitted, marked, finished, begun, listened, logged, ran, renewed, reached-kept, parameters_set, reached-set}
 use Rattle.exchange.specs.declared.nonblocking.NbReply.TheVariants.{Send, Token, Refused}
 use Rattle.exchange.specs.Types.{Ring, Reading, Pending, Judged, Sound, XferStep, NbReply, NbStep, NbEnd}
 
@@ -41,15 +41,24 @@ nb_entry (Refused x) = neither
 
 unfoldable pub held_by : {s : Sound} {r : Ring} → Reached s r → ℕ → Bool
 held_by (fresh descriptors mode guard jacks streams maps) k = false
-held_by (remade guard jacks streams maps h) k = false
 held_by (called call n h) k = held_by h k
 held_by (fed f h) k = held_by h k
-held_by (started stream n w h) k = held_by h k
+held_by (started stream len budget n h) k = held_by h k
 held_by (scripted stream frames budget script n h) k = held_by h k
+held_by (turned len room reading h) k = held_by h k
+held_by (traced stream len budget room n h) k = held_by h k
+held_by (penned written h) k = held_by h k
+held_by (captured stream periods lent budget n h) k = held_by h k
+held_by (received len c h) k = held_by h k
+held_by (drained reading h) k = held_by h k
 held_by (submitted {s} {r} stream n len m h) k = noted (nb_entry (nb_of s r stream n len m).reply) k (held_by h k)
 held_by (marked reading h) k = held_by h k
 held_by (finished {s} token h) k = noted (ends_entry (finish_step s token).said token) k (held_by h k)
-held_by (alone w h) k = held_by h k
+held_by (begun stream len period budget h) k = held_by h k
+held_by (listened stream periods period lent budget h) k = held_by h k
+held_by (logged stream len period budget room h) k = held_by h k
+held_by (ran stream period budget frames script h) k = held_by h k
+held_by (renewed descriptors mode h) k = held_by h k
 
 module _ (s : Sound) (k : ℕ) (b : Bool) (size : length s.pending.tokens ≡ 32) (e : pending_at s.pending k ≡ b) where
   submits-held : (r : Ring) (stream n len m : ℕ) → pending_at (nb_of s r stream n len m).sound.pending k ≡ noted (nb_entry (nb_of s r stream n len m).reply) k b
@@ -58,7 +67,7 @@ module _ (s : Sound) (k : ℕ) (b : Bool) (size : length s.pending.tokens ≡ 32
       (λ g.
       let j = lowest_in s.pending (places_of r.track.descriptors) in
       let f = g.free in
-      put-notes s.pending j k (waits (mode_of r.track.descriptors)) true (omega (arith, f, few-places r.track.descriptors, size)) refl (j == k) refl ∙ ap (pick (j == k) true) e)
+      put-notes s.pending j k waits true (omega (arith, f, few-places r.track.descriptors, size)) refl (j == k) refl ∙ ap (pick (j == k) true) e)
 
   marks-held : (reading : Reading) → pending_at (mark_by s reading).sound.pending k ≡ b
   marks-held Quiet = e
@@ -78,17 +87,28 @@ module _ (s : Sound) (k : ℕ) (b : Bool) (size : length s.pending.tokens ≡ 32
 pub pending-exactly : {s : Sound} {r : Ring} (h : Reached s r) (k : ℕ) → pending_at s.pending k ≡ held_by h k
 unfolding held_by
 pending-exactly (fresh descriptors mode guard jacks streams maps) k = none_then new_pending refl k
-pending-exactly (remade guard jacks streams maps h) k = none_then new_pending refl k
 pending-exactly (called {s} {r} call n h) k = ap (λ (p : Pending). pending_at p k) (effect-pending (call_of s r.track call n).effect (call_of s r.track call n).core s []) ∙ pending-exactly h k
 pending-exactly (fed {s} f h) k = ap (λ (p : Pending). pending_at p k) (effect-pending (plan_of s f).effect (plan_of s f).core s (page_of f)) ∙ pending-exactly h k
-pending-exactly (started {s} {r} {capture} {begin} stream n w h) k =
-    start-as-by (λ (x : XferStep). pending_at x.sound.pending k ≡ held_by h k) capture begin s r stream n (λ _. pending-exactly h k) (λ _ _ _. pending-exactly h k) (λ _. pending-exactly h k)
+pending-exactly (started {s} {r} stream len budget n h) k =
+    start-by (λ (x : XferStep). pending_at x.sound.pending k ≡ held_by h k) s r stream len budget n (λ _. pending-exactly h k) (λ _ _ _. pending-exactly h k) (pending-exactly h k)
 pending-exactly (scripted {s} {r} stream frames budget script n h) k =
     script-by (λ (x : XferStep). pending_at x.sound.pending k ≡ held_by h k) s r stream (length frames) budget n (λ _. pending-exactly h k) (λ _ _ _. pending-exactly h k) script (pending-exactly h k)
+pending-exactly (turned len room reading h) k = pending-exactly h k
+pending-exactly (traced {s} {r} stream len budget room n h) k =
+    traced-by (λ (x : XferStep). pending_at x.sound.pending k ≡ held_by h k) s r stream len budget room n (λ _. pending-exactly h k) (λ _ _ _. pending-exactly h k) (λ _. pending-exactly h k)
+pending-exactly (penned written h) k = pending-exactly h k
+pending-exactly (captured {s} {r} stream periods lent budget n h) k =
+    capture-by (λ (x : XferStep). pending_at x.sound.pending k ≡ held_by h k) s r stream periods lent budget n (λ _. pending-exactly h k) (λ _ _ _. pending-exactly h k) (λ _. pending-exactly h k)
+pending-exactly (received len c h) k = pending-exactly h k
+pending-exactly (drained reading h) k = pending-exactly h k
 pending-exactly (submitted {s} {r} stream n len m h) k = submits-held s k (held_by h k) (reached-kept h).0.pending (pending-exactly h k) r stream n len m
 pending-exactly (marked {s} reading h) k = mark-held s k (held_by h k) (reached-kept h).0.pending (pending-exactly h k) reading
 pending-exactly (finished {s} token h) k = finish-held s k (held_by h k) (reached-kept h).0.pending (pending-exactly h k) token
-pending-exactly (alone w h) k = pending-exactly h k
+pending-exactly (begun stream len period budget h) k = pending-exactly h k
+pending-exactly (listened stream periods period lent budget h) k = pending-exactly h k
+pending-exactly (logged stream len period budget room h) k = pending-exactly h k
+pending-exactly (ran stream period budget frames script h) k = pending-exactly h k
+pending-exactly (renewed descriptors mode h) k = pending-exactly h k
 
 -- ---- THE BYTES. A sequence with one lent store of so many places, whose length stays and which nothing but the submissions writes. Rings of one mode, which tells the places
 
@@ -137,7 +157,7 @@ module _ (s : Sound) (k : ℕ) (store l : List ℕ) (r : Ring) (h : pending_at s
     fit : 4 + length payload ≤ size_of (length store) places
     fit = let z = g.room in omega arith
 
-    given_by : (b : Bool) → (j == k) ≡ b → pending_at (put s.pending j (waits (mode_of r.track.descriptors))) k ≡ true → Holds places new k (pick b (message_of stream payload) l)
+    given_by : (b : Bool) → (j == k) ≡ b → pending_at (put s.pending j waits) k ≡ true → Holds places new k (pick b (message_of stream payload) l)
     given_by true q p =
         let z : j ≡ k = eqb-true j k q in
         let n = length-message stream payload in
@@ -150,7 +170,7 @@ module _ (s : Sound) (k : ℕ) (store l : List ℕ) (r : Ring) (h : pending_at s
         }
     given_by false q p =
         let d : k ≡ j → ⊥ = λ z. eqb-false j k q (sym z) in
-        let o = h (sym (ap (λ (t : PendingToken). not (t.state == 0)) (put_other s.pending j k (waits (mode_of r.track.descriptors)) d)) ∙ p) in
+        let o = h (sym (ap (λ (t : PendingToken). not (t.state == 0)) (put_other s.pending j k waits d)) ∙ p) in
         record {
           place = o.place;
           fits = subst (λ (i : ℕ). length l ≤ size_of i places) (sym same) o.fits;
@@ -178,7 +198,7 @@ module _ (s : Sound) (k : ℕ) where
   marks-was : (reading : Reading) → Was (mark_by s reading).sound.pending
   marks-was Quiet = λ e. e
   marks-was (Completed slot status) =
-      mark-by (λ (j : Judged). Was j.table) s.pending slot status (λ w. was-by s.pending slot k (mark (token_at s.pending slot).mode status) (slot == k) refl (waits-pending s.pending slot w)) (λ e. e)
+      mark-by (λ (j : Judged). Was j.table) s.pending slot status (λ w. was-by s.pending slot k (mark status) (slot == k) refl (waits-pending s.pending slot w)) (λ e. e)
 
   mark_was : (reading : Reading) → Was (mark_step s reading).sound.pending
   unfolding mark_step
@@ -208,9 +228,9 @@ abbrev once : Reached (nb_of parameters_set (new_ring direct) 1 2048 32832 24).s
 once = submitted 1 2048 32832 24 reached-set
 
 pub held-once : held_by once 0 ≡ true
-unfolding held_by reached-set places_of mode_of nb_of after call_of feed_of fail_of begin_of answer_of after_jacks after_streams after_maps after_sent own_set consistent_of stream_ok placed_of paced_of guard judged num_at bytes_at un lowest_in
+unfolding held_by reached-set places_of nb_of after call_of feed_of fail_of begin_of answer_of after_jacks after_streams after_maps after_sent own_set consistent_of stream_ok placed_of paced_of guard judged num_at bytes_at un lowest_in
 held-once = refl
 
 pub held-no-more : held_by (finished 0 (marked (Completed 0 0x8000) once)) 0 ≡ false
-unfolding held_by reached-set places_of mode_of nb_of mark_step finish_step mark_token finish_token after call_of feed_of fail_of begin_of answer_of after_jacks after_streams after_maps after_sent own_set consistent_of stream_ok placed_of paced_of guard judged num_at bytes_at un lowest_in
+unfolding held_by reached-set places_of nb_of mark_step finish_step mark_token finish_token after call_of feed_of fail_of begin_of answer_of after_jacks after_streams after_maps after_sent own_set consistent_of stream_ok placed_of paced_of guard judged num_at bytes_at un lowest_in
 held-no-more = refl

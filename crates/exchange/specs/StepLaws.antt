@@ -37,20 +37,20 @@ moved q s page l {n} {r} e h = subst (λ (p : Plan). Stepped p s page l n r) e h
 -- ---- the checks of a transfer
 
 -- what is made of the outcome of the checks is made at each end of them
-pub xfer-as-ap : {A B : Type 0} (f : A → B) (capture lengths fits clear : Bool) (s : Sound) (t : Track) (stream : ℕ) (refuse : Refusal → A) (set_up : A) (go : ℕ → A)
-    → f (xfer_as capture lengths fits clear s t stream refuse set_up go) ≡ xfer_as capture lengths fits clear s t stream (λ x. f (refuse x)) (f set_up) (λ p. f (go p))
-xfer-as-ap f true lengths fits clear s t stream refuse set_up go = simp (guard-ap f)
-xfer-as-ap f false lengths fits clear s t stream refuse set_up go = simp (guard-ap f)
+pub xfer-as-ap : {A B : Type 0} (f : A → B) (capture lengths clear : Bool) (s : Sound) (t : Track) (stream : ℕ) (refuse : Refusal → A) (set_up : A) (go : ℕ → A)
+    → f (xfer_as capture lengths clear s t stream refuse set_up go) ≡ xfer_as capture lengths clear s t stream (λ x. f (refuse x)) (f set_up) (λ p. f (go p))
+xfer-as-ap f true lengths clear s t stream refuse set_up go = simp (guard-ap f)
+xfer-as-ap f false lengths clear s t stream refuse set_up go = simp (guard-ap f)
 
 pub xfer-ap : {A B : Type 0} (f : A → B) (lengths clear : Bool) (s : Sound) (t : Track) (stream : ℕ) (refuse : Refusal → A) (set_up : A) (go : ℕ → A)
     → f (xfer_by lengths clear s t stream refuse set_up go) ≡ xfer_by lengths clear s t stream (λ x. f (refuse x)) (f set_up) (λ p. f (go p))
-xfer-ap f lengths clear s t stream refuse set_up go = xfer-as-ap f false lengths true clear s t stream refuse set_up go
+xfer-ap f lengths clear s t stream refuse set_up go = xfer-as-ap f false lengths clear s t stream refuse set_up go
 
 -- set-up is begun only where the lengths are right
-pub set-up-long : (capture lengths fits clear : Bool) (s : Sound) (t : Track) (stream : ℕ) → SetUp ≡ xfer_as capture lengths fits clear s t stream Shut SetUp Open → lengths ≡ true
+pub set-up-long : (capture lengths clear : Bool) (s : Sound) (t : Track) (stream : ℕ) → SetUp ≡ xfer_as capture lengths clear s t stream Shut SetUp Open → lengths ≡ true
 unfolding guard
-set-up-long capture true fits clear s t stream e = refl
-set-up-long capture false fits clear s t stream e = let z : ◌≡◌ {A = ℕ} 0 1 = cc in absurd (omega arith)
+set-up-long capture true clear s t stream e = refl
+set-up-long capture false clear s t stream e = let z : ◌≡◌ {A = ℕ} 0 1 = cc in absurd (omega arith)
 
 -- the start of either direction
 module _ (capture : Bool) (begin : ℕ → ring.Step) (s : Sound) (r : Ring) (stream : ℕ) where
@@ -59,14 +59,14 @@ module _ (capture : Bool) (begin : ℕ → ring.Step) (s : Sound) (r : Ring) (st
   start_by SetUp = set_up_step_with s r (waiting_as capture stream)
   start_by (Open period) = start_step s r (started_of r (begin period))
 
-  pub started-as : (n : ℕ) (clear : Bool) (g : Gate) → clear ≡ none_in s.pending → g ≡ xfer_as capture (nat_le message_size n) true clear s r.track stream Shut SetUp Open → start_by g ≡ start_as capture begin s r stream n
+  pub started-as : (n : ℕ) (clear : Bool) (g : Gate) → clear ≡ none_in s.pending → g ≡ xfer_as capture (nat_le message_size n) clear s r.track stream Shut SetUp Open → start_by g ≡ start_as capture begin s r stream n
   started-as n clear g z e =
-      ap start_by (e ∙ ap (λ (t : Bool). xfer_as capture (nat_le message_size n) true t s r.track stream Shut SetUp Open) z)
-      ∙ xfer-as-ap start_by capture (nat_le message_size n) true (none_in s.pending) s r.track stream Shut SetUp Open
+      ap start_by (e ∙ ap (λ (t : Bool). xfer_as capture (nat_le message_size n) t s r.track stream Shut SetUp Open) z)
+      ∙ xfer-as-ap start_by capture (nat_le message_size n) (none_in s.pending) s r.track stream Shut SetUp Open
 
   start-as-says : (n : ℕ) → says_xfer (start_as capture begin s r stream n).reply ≡ start_says_as capture begin s r stream n
   start-as-says n =
-      xfer-as-ap (λ (x : XferStep). says_xfer x.reply) capture (nat_le message_size n) true (none_in s.pending) s r.track stream (refused_step s r) (set_up_step_with s r (waiting_as capture stream))
+      xfer-as-ap (λ (x : XferStep). says_xfer x.reply) capture (nat_le message_size n) (none_in s.pending) s r.track stream (refused_step s r) (set_up_step_with s r (waiting_as capture stream))
       (λ period. start_step s r (started_of r (begin period)))
 
 module _ (s : Sound) (r : Ring) (stream len budget : ℕ) where
@@ -111,7 +111,7 @@ module _ (s : Sound) (r : Ring) (stream periods lent budget : ℕ) where
   abbrev pub begins : ℕ → ring.Step
   begins period = capture_start r.track stream periods period lent budget
 
-  pub captured-by : (n : ℕ) (clear : Bool) (g : Gate) → clear ≡ none_in s.pending → g ≡ xfer_as true (nat_le message_size n) true clear s r.track stream Shut SetUp Open
+  pub captured-by : (n : ℕ) (clear : Bool) (g : Gate) → clear ≡ none_in s.pending → g ≡ xfer_as true (nat_le message_size n) clear s r.track stream Shut SetUp Open
       → start_by true begins s r stream g ≡ capture_of s r stream periods lent budget n
   unfolding capture_of
   captured-by n clear g z e = started-as true begins s r stream n clear g z e

@@ -7,7 +7,7 @@ use Rattle.layout.specs.Lent.{message_size}
 use Rattle.codes.specs.SaysLaws.{guarded-by, passes, stops}
 use Rattle.codes.specs.declared.answers.Refusal.TheVariants.{Full}
 use Rattle.codes.specs.Life.{takes_of}
-use Rattle.pending.specs.Table.{pending_at, lowest_in, fits_in}
+use Rattle.pending.specs.Table.{pending_at, lowest_in}
 use Rattle.pending.specs.Places.{size_of}
 use Rattle.pending.specs.TableLaws.{few, bound-is}
 use Rattle.pending.specs.Full.{lowest-below, full-if}
@@ -17,14 +17,14 @@ use Rattle.turns.specs.Consistent as ring
 use Rattle.std.specs.Consistent.{consistent_of, stream_ok, held_to}
 use Rattle.std.specs.Plan.{is_idle}
 use Rattle.exchange.specs.State.{params_of, life_of}
-use Rattle.exchange.specs.Submit.{places_of, mode_of, refused_nb, set_up_nb, submit_of, nb_of, says_nb}
+use Rattle.exchange.specs.Submit.{places_of, refused_nb, set_up_nb, submit_of, nb_of, says_nb}
 use Rattle.exchange.specs.SubmitLaws.{few-places}
 use Rattle.exchange.specs.Types.{Ring, Pending, Sound, NbStep}
 
 -- every test before it is passed: 10, 1, 8, set-up, 1, 12, 2, 1 and 10
 pub record Passed (s : Sound) (r : Ring) (stream n len m : ℕ) : Type 0 where
   pub long : message_size ≤ m
-  pub sound : (consistent_of s.core && (ring.consistent_of r.track && (fits_in (mode_of r.track.descriptors) s.pending && stream_ok s.core (params_of s stream) stream))) ≡ true
+  pub sound : (consistent_of s.core && (ring.consistent_of r.track && stream_ok s.core (params_of s stream) stream)) ≡ true
   pub free : (is_idle s.core.stage && (idle_of r.track && true)) ≡ true
   pub ready : s.core.ready ≡ true
   pub range : ltb stream s.core.counts.streams ≡ true

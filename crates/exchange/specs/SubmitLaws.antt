@@ -8,7 +8,7 @@ use Rattle.codes.specs.Says as answers
 use Rattle.codes.specs.Says.{pick}
 use Rattle.codes.specs.Answers.{says_refusal}
 use Rattle.codes.specs.SaysLaws.{guard-ap, guarded-by, passes, stops}
-use Rattle.pending.specs.Table.{lowest_in, fits_in, mark_of, finish_of, seen_of}
+use Rattle.pending.specs.Table.{lowest_in, mark_of, finish_of, seen_of}
 use Rattle.pending.specs.Places.{spot_by}
 use Rattle.pending.specs.declared.table.Seen.{Seen}
 use Rattle.pending.specs.declared.table.Seen.TheVariants as seen
@@ -17,9 +17,9 @@ use Rattle.pending.specs.declared.place.Spot.TheVariants as spot
 use Rattle.turns.specs.Ring.{indirect}
 use Rattle.turns.specs.declared.reading.Reading.TheVariants.{Quiet, Completed}
 use Rattle.std.specs.Consistent.{consistent_of}
-use Rattle.exchange.specs.Xfer.{xfer_as}
-use Rattle.exchange.specs.StepLaws.{xfer-as-ap}
-use Rattle.exchange.specs.Submit.{places_of, mode_of, nb_checks, refused_nb, set_up_nb, token_nb, submit_of, nb_of, nb_store, nb_message, says_nb, nb_says, Submits, end_by, barred_end, mark_by, mark_step, finish_step, token_seen}
+use Rattle.exchange.specs.Xfer.{xfer_by}
+use Rattle.exchange.specs.StepLaws.{xfer-ap}
+use Rattle.exchange.specs.Submit.{places_of, refused_nb, set_up_nb, token_nb, submit_of, nb_of, nb_store, nb_message, says_nb, nb_says, Submits, end_by, barred_end, mark_by, mark_step, finish_step, token_seen}
 use Rattle.exchange.specs.Types.{Refusal, Ring, Reading, Judged, Spot, Sound, Gate, Shut, SetUp, Open, NbStep, NbEnd}
 
 -- what is made of the outcome of finding a place is made at each end
@@ -36,12 +36,12 @@ pub few-places : (descriptors : ℕ) → places_of descriptors ≤ 32
 unfolding places_of
 few-places descriptors = places-by (descriptors == indirect)
 
-module _ (places mode : ℕ) (s : Sound) (n len : ℕ) where
+module _ (places : ℕ) (s : Sound) (n len : ℕ) where
   abbrev pub submit_by : Spot → NbStep
   submit_by (spot.Shut x) = refused_nb s x
-  submit_by (spot.Place k) = token_nb mode s k
+  submit_by (spot.Place k) = token_nb s k
 
-  pub submitted-by : (period k : ℕ) (g : Spot) → k ≡ lowest_in s.pending places → g ≡ spot_by places k n len period spot.Shut spot.Place → submit_by g ≡ submit_of places mode s n len period
+  pub submitted-by : (period k : ℕ) (g : Spot) → k ≡ lowest_in s.pending places → g ≡ spot_by places k n len period spot.Shut spot.Place → submit_by g ≡ submit_of places s n len period
   submitted-by period k g z e =
       ap submit_by (e ∙ ap (λ (j : ℕ). spot_by places j n len period spot.Shut spot.Place) z)
       ∙ spot-ap submit_by places (lowest_in s.pending places) n len period spot.Shut spot.Place
@@ -50,14 +50,11 @@ module _ (s : Sound) (n len : ℕ) (r : Ring) (stream : ℕ) where
   abbrev pub nb_by : Gate → NbStep
   nb_by (Shut x) = refused_nb s x
   nb_by SetUp = set_up_nb s stream
-  nb_by (Open period) = submit_of (places_of r.track.descriptors) (mode_of r.track.descriptors) s n len period
+  nb_by (Open period) = submit_of (places_of r.track.descriptors) s n len period
 
-  pub nb-by : (m : ℕ) {mode : ℕ} {fit : Bool} (g : Gate) → mode ≡ mode_of r.track.descriptors → fit ≡ fits_in mode s.pending → g ≡ xfer_as false (nat_le message_size m) fit true s r.track stream Shut SetUp Open
-      → nb_by g ≡ nb_of s r stream n len m
+  pub nb-by : (m : ℕ) (g : Gate) → g ≡ xfer_by (nat_le message_size m) true s r.track stream Shut SetUp Open → nb_by g ≡ nb_of s r stream n len m
   unfolding nb_of
-  nb-by m g d f e =
-      ap nb_by (e ∙ ap (λ (b : Bool). xfer_as false (nat_le message_size m) b true s r.track stream Shut SetUp Open) (f ∙ ap (λ (k : ℕ). fits_in k s.pending) d))
-      ∙ xfer-as-ap nb_by false (nat_le message_size m) (fits_in (mode_of r.track.descriptors) s.pending) true s r.track stream Shut SetUp Open
+  nb-by m g e = ap nb_by e ∙ xfer-ap nb_by (nat_le message_size m) true s r.track stream Shut SetUp Open
 
 -- what the checks say is what they come to
 pub nb-says : (s : Sound) (r : Ring) (stream n len m : ℕ) → says_nb (nb_of s r stream n len m).reply ≡ nb_says s r stream n len m
@@ -65,10 +62,9 @@ unfolding nb_of
 nb-says s r stream n len m =
     let said : NbStep → answers.Says = λ x. says_nb x.reply in
     let places = places_of r.track.descriptors in
-    let mode = mode_of r.track.descriptors in
-    xfer-as-ap said false (nat_le message_size m) (fits_in mode s.pending) true s r.track stream (refused_nb s) (set_up_nb s stream) (submit_of places mode s n len)
-    ∙ ap (λ (go : ℕ → answers.Says). nb_checks (nat_le message_size m) s r.track stream says_refusal (answers.says (256 + 16) []) go)
-    (λ i period. spot-ap said places (lowest_in s.pending places) n len period (refused_nb s) (token_nb mode s) i)
+    xfer-ap said (nat_le message_size m) true s r.track stream (refused_nb s) (set_up_nb s stream) (submit_of places s n len)
+    ∙ ap (λ (go : ℕ → answers.Says). xfer_by (nat_le message_size m) true s r.track stream says_refusal (answers.says (256 + 16) []) go)
+    (λ i period. spot-ap said places (lowest_in s.pending places) n len period (refused_nb s) (token_nb s) i)
 
 -- a step, what it says, and the store and the message that go with its reply
 pub nb-replied : (places : ℕ) (s : Sound) (stream : ℕ) (payload a m : List ℕ) {b n : List ℕ} {r x y : NbStep} {said : answers.Says} → r ≡ x → x ≡ y → says_nb y.reply ≡ said
@@ -85,16 +81,16 @@ pub submit-replied : (places stream : ℕ) (payload store : List ℕ) {b : List 
     → (r ≡ y) × (b ≡ nb_store places y.reply stream payload store)
 submit-replied places stream payload store p e q = (p ∙ e, q ∙ ap (λ (x : NbStep). nb_store places x.reply stream payload store) e)
 
--- the same with the number of places and the mode told by calls
-pub submit-placed : {k j places mode : ℕ} (s : Sound) (n len period stream : ℕ) (payload store : List ℕ) {b : List ℕ} {r : NbStep} → k ≡ places → j ≡ mode
-    → (r ≡ submit_of k j s n len period) × (b ≡ nb_store k (submit_of k j s n len period).reply stream payload store)
-    → (r ≡ submit_of places mode s n len period) × (b ≡ nb_store places (submit_of places mode s n len period).reply stream payload store)
-submit-placed s n len period stream payload store e d u =
-    (u.0 ∙ (λ i. submit_of (e i) (d i) s n len period), u.1 ∙ (λ i. nb_store (e i) (submit_of (e i) (d i) s n len period).reply stream payload store))
+-- the same with the number of places told by a call
+pub submit-placed : {k places : ℕ} (s : Sound) (n len period stream : ℕ) (payload store : List ℕ) {b : List ℕ} {r : NbStep} → k ≡ places
+    → (r ≡ submit_of k s n len period) × (b ≡ nb_store k (submit_of k s n len period).reply stream payload store)
+    → (r ≡ submit_of places s n len period) × (b ≡ nb_store places (submit_of places s n len period).reply stream payload store)
+submit-placed s n len period stream payload store e u =
+    (u.0 ∙ ap (λ (k : ℕ). submit_of k s n len period) e, u.1 ∙ ap (λ (k : ℕ). nb_store k (submit_of k s n len period).reply stream payload store) e)
 
 -- a submission that got as far as its place writes no message
-pub submit-silent : (places mode : ℕ) (s : Sound) (n len period stream : ℕ) (l : List ℕ) → l ≡ nb_message (submit_of places mode s n len period).reply s stream l
-submit-silent places mode s n len period stream l =
+pub submit-silent : (places : ℕ) (s : Sound) (n len period stream : ℕ) (l : List ℕ) → l ≡ nb_message (submit_of places s n len period).reply s stream l
+submit-silent places s n len period stream l =
     let P : NbStep → Type 0 = λ u. l ≡ nb_message u.reply s stream l in
     guarded-by P _ _ _ (λ _. guarded-by P _ _ _ (λ _. guarded-by P _ _ _ (λ _. refl) (λ _. refl)) (λ _. refl)) (λ _. refl)
 

@@ -8,7 +8,7 @@ use Rattle.layout.specs.Lent.{message_size}
 use Rattle.codes.specs.Says.{guard}
 use Rattle.codes.specs.SaysLaws.{guarded-by, passes, stops}
 use Rattle.codes.specs.declared.answers.Refusal.TheVariants.{Full}
-use Rattle.pending.specs.Table.{pending_at, none_in, lowest_in, fits_in, mark_of, finish_of}
+use Rattle.pending.specs.Table.{pending_at, none_in, lowest_in, mark_of, finish_of}
 use Rattle.pending.specs.Places.{size_of, start_of as place_of, message_of, placed_in, spot_by}
 use Rattle.pending.specs.Full.{lowest-below, full-if}
 use Rattle.pending.specs.Count.{none_then}
@@ -25,18 +25,17 @@ use Rattle.std.specs.State.{with_stage}
 use Rattle.exchange.specs.State.{params_of, life_of, with_core}
 use Rattle.exchange.specs.Tables.{sound_after}
 use Rattle.exchange.specs.Xfer.{xfer_as, waiting_as, refused_step, set_up_step_with, set_up_step, start_step, done_step, start_as, start_of, start_traced_of, xfer_of, capture_of, set_up_plan}
-use Rattle.exchange.specs.XferLaws.{xfer-as-by, set-up-kept}
+use Rattle.exchange.specs.XferLaws.{xfer-by, set-up-kept}
 use Rattle.exchange.specs.Kept.{Kept}
 use Rattle.exchange.specs.Unrun as unrun
-use Rattle.exchange.specs.Submit.{with_pending, places_of, mode_of, refused_nb, set_up_nb, token_nb, submit_of, nb_of, nb_store, nb_message, says_nb, mark_by, mark_step, finish_step, end_by, barred_end}
+use Rattle.exchange.specs.Submit.{with_pending, places_of, refused_nb, set_up_nb, token_nb, submit_of, nb_of, nb_store, nb_message, says_nb, mark_by, mark_step, finish_step, end_by, barred_end}
 use Rattle.exchange.specs.declared.nonblocking.NbReply.TheVariants.{Send, Token, Refused}
 use Rattle.exchange.specs.Types.{Refusal, InvalidParam, BadLength, Busy, Track, Ring, Reading, Pending, Core, Capture, Idle, Sound, Effect, Nothing, FillJacks, FillStreams, FillMaps, Store, Move, NbReply, NbStep, NbEnd}
 
 -- ---- a submission, by its ends
 
--- a submission that got its token: all that is pending is of the ring's mode, nothing runs or is owed, it is one whole period, its place is long enough, and one is free
+-- a submission that got its token: nothing runs or is owed, it is one whole period, its place is long enough, and one is free
 pub record Given (s : Sound) (r : Ring) (stream n len : ℕ) : Type 0 where
-  pub fits : fits_in (mode_of r.track.descriptors) s.pending ≡ true
   pub idle : idle_of r.track ≡ true
   pub whole : n ≡ (params_of s stream).period
   pub room : n + 4 ≤ size_of len (places_of r.track.descriptors)
@@ -45,18 +44,17 @@ pub record Given (s : Sound) (r : Ring) (stream n len : ℕ) : Type 0 where
 -- what holds at each end holds of what it comes to
 pub nb-ends : (P : NbStep → Type 0) (s : Sound) (r : Ring) (stream n len m : ℕ) → ((x : Refusal) → P (refused_nb s x))
     → (consistent_of s.core ≡ true → s.core.stage ≡ Idle → s.core.ready ≡ false → P (set_up_nb s stream))
-    → (Given s r stream n len → P (token_nb (mode_of r.track.descriptors) s (lowest_in s.pending (places_of r.track.descriptors)))) → P (nb_of s r stream n len m)
+    → (Given s r stream n len → P (token_nb s (lowest_in s.pending (places_of r.track.descriptors)))) → P (nb_of s r stream n len m)
 unfolding nb_of
 nb-ends P s r stream n len m a b g =
-    xfer-as-by P false (nat_le message_size m) (fits_in (mode_of r.track.descriptors) s.pending) true s r.track stream (refused_nb s) (set_up_nb s stream)
-    (submit_of (places_of r.track.descriptors) (mode_of r.track.descriptors) s n len) a b
-    (λ t _ i. guarded-by P _ _ _
+    xfer-by P (nat_le message_size m) true s r.track stream (refused_nb s) (set_up_nb s stream) (submit_of (places_of r.track.descriptors) s n len) a b
+    (λ _ i. guarded-by P _ _ _
     (λ w. guarded-by P _ _ _
     (λ l. guarded-by P _ _ _
     (λ f.
     let e : n ≡ (params_of s stream).period = eqb-true _ _ w in
     let h : (params_of s stream).period + 4 ≤ size_of len (places_of r.track.descriptors) = leb-true _ _ l in
-    g (record { fits = t; idle = i; whole = e; room = subst (λ (k : ℕ). k + 4 ≤ size_of len (places_of r.track.descriptors)) (sym e) h; free = ltb-true _ _ f }))
+    g (record { idle = i; whole = e; room = subst (λ (k : ℕ). k + 4 ≤ size_of len (places_of r.track.descriptors)) (sym e) h; free = ltb-true _ _ f }))
     (λ _. a _)) (λ _. a _)) (λ _. a _))
 
 -- the same of the state alone; of a completion, and of finishing
@@ -142,9 +140,9 @@ submit-writes s r stream m k payload store =
 
 -- ---- what is Busy
 
-module _ (s : Sound) (t : Track) (stream : ℕ) (fits : Bool) (sound : (consistent_of s.core && (ring.consistent_of t && (fits && stream_ok s.core (params_of s stream) stream))) ≡ true) where
+module _ (s : Sound) (t : Track) (stream : ℕ) (sound : (consistent_of s.core && (ring.consistent_of t && stream_ok s.core (params_of s stream) stream)) ≡ true) where
   busy-by : {A : Type 0} (capture lengths clear : Bool) (refuse : Refusal → A) (set_up : A) (go : ℕ → A) → lengths ≡ true → (is_idle s.core.stage && (idle_of t && clear)) ≡ false
-      → refuse Busy ≡ xfer_as capture lengths fits clear s t stream refuse set_up go
+      → refuse Busy ≡ xfer_as capture lengths clear s t stream refuse set_up go
   busy-by capture lengths clear refuse set_up go long taken = passes _ _ _ long (passes _ _ _ sound (stops _ _ _ taken refl))
 
 third : (a b c : Bool) → c ≡ false → (a && (b && c)) ≡ false
@@ -173,7 +171,7 @@ module _ (s : Sound) (r : Ring) (stream len budget n : ℕ) (sound : (consistent
 
   start-as-busy : (capture : Bool) (begin : ℕ → step.Step) → refused_step s r Busy ≡ start_as capture begin s r stream n
   start-as-busy capture begin =
-      busy-by s r.track stream true sound capture (nat_le message_size n) (none_in s.pending) (refused_step s r) (set_up_step_with s r (waiting_as capture stream)) (λ period. start_step s r (started_of r (begin period)))
+      busy-by s r.track stream sound capture (nat_le message_size n) (none_in s.pending) (refused_step s r) (set_up_step_with s r (waiting_as capture stream)) (λ period. start_step s r (started_of r (begin period)))
       (le-leb message_size n long) full
 
   pub start-busy-pending : refused_step s r Busy ≡ start_of s r stream len budget n
@@ -187,21 +185,19 @@ module _ (s : Sound) (r : Ring) (stream len budget n : ℕ) (sound : (consistent
   pub script-busy-pending : (script : List ℕ) → (length script % 12 == 0) ≡ true → refused_step s r Busy ≡ xfer_of s r stream len budget script n
   unfolding xfer_of
   script-busy-pending script whole =
-      busy-by s r.track stream true sound false (nat_le message_size n && length script % 12 == 0) (none_in s.pending) (refused_step s r) (set_up_step s r stream)
+      busy-by s r.track stream sound false (nat_le message_size n && length script % 12 == 0) (none_in s.pending) (refused_step s r) (set_up_step s r stream)
       (λ period. done_step s (transfer_of r stream len period budget script)) (rw (le-leb message_size n long, whole)) full
 
   pub capture-busy-pending : (periods : ℕ) → refused_step s r Busy ≡ capture_of s r stream periods len budget n
   unfolding capture_of
   capture-busy-pending periods = start-as-busy true (λ period. capture_start r.track stream periods period len budget)
 
--- "as is a submission while a transfer's slots are owed": of state and ring that fit together, as where nothing is pending
-pub nb-busy-owed : (s : Sound) (r : Ring) (stream n len m : ℕ)
-    → (consistent_of s.core && (ring.consistent_of r.track && (fits_in (mode_of r.track.descriptors) s.pending && stream_ok s.core (params_of s stream) stream))) ≡ true → message_size ≤ m
+-- "as is a submission while a transfer's slots are owed"
+pub nb-busy-owed : (s : Sound) (r : Ring) (stream n len m : ℕ) → (consistent_of s.core && (ring.consistent_of r.track && stream_ok s.core (params_of s stream) stream)) ≡ true → message_size ≤ m
     → idle_of r.track ≡ false → refused_nb s Busy ≡ nb_of s r stream n len m
 unfolding nb_of
 nb-busy-owed s r stream n len m sound long taken =
-    busy-by s r.track stream (fits_in (mode_of r.track.descriptors) s.pending) sound false (nat_le message_size m) true (refused_nb s) (set_up_nb s stream)
-    (submit_of (places_of r.track.descriptors) (mode_of r.track.descriptors) s n len) (le-leb message_size m long)
+    busy-by s r.track stream sound false (nat_le message_size m) true (refused_nb s) (set_up_nb s stream) (submit_of (places_of r.track.descriptors) s n len) (le-leb message_size m long)
     (second (is_idle s.core.stage) (idle_of r.track) true taken)
 
 -- ---- they keep the invariant

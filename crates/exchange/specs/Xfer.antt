@@ -19,14 +19,13 @@ use Rattle.exchange.specs.declared.xfer.XferReply.TheVariants.{Send}
 use Rattle.exchange.specs.Types.{Refusal, Track, Ring, Turned, Transferred, Call, Xfer, Capture, JacksAsked, Sound, Nothing, Plan, XferReply, Says, XferStep}
 use Rattle.turns.specs.Ring.{says_said, said_word}
 
--- the checks, of a capture or not. `fits`: state and ring fit together, or it plays no part
-abbrev pub xfer_as : {A : Type 0} → Bool → Bool → Bool → Bool → Sound → Track → ℕ → (Refusal → A) → A → (ℕ → A) → A
-xfer_as capture lengths fits clear s t stream refuse set_up go =
-    gate_by capture lengths fits clear s.core (params_of s stream) (life_of s stream) (pcm_of s stream).direction t stream refuse set_up go
+-- the checks, of a capture or not
+abbrev pub xfer_as : {A : Type 0} → Bool → Bool → Bool → Sound → Track → ℕ → (Refusal → A) → A → (ℕ → A) → A
+xfer_as capture lengths clear s t stream refuse set_up go =
+    gate_by capture lengths clear s.core (params_of s stream) (life_of s stream) (pcm_of s stream).direction t stream refuse set_up go
 
--- of the start of a playback: what is pending makes it Busy, whatever its mode is
 abbrev pub xfer_by : {A : Type 0} → Bool → Bool → Sound → Track → ℕ → (Refusal → A) → A → (ℕ → A) → A
-xfer_by lengths clear s t stream refuse set_up go = xfer_as false lengths true clear s t stream refuse set_up go
+xfer_by lengths clear s t stream refuse set_up go = xfer_as false lengths clear s t stream refuse set_up go
 
 -- what waits for set-up
 abbrev pub waiting_as : Bool → ℕ → Call
@@ -58,7 +57,7 @@ done_step s d = record { sound = s; ring = d.ring; reply = Says d.said; turns = 
 -- the start of a transfer, over what it does to the ring where a period is so long
 abbrev pub start_as : Bool → (ℕ → ring.Step) → Sound → Ring → ℕ → ℕ → XferStep
 start_as capture begin s r stream n =
-    xfer_as capture (nat_le message_size n) true (none_in s.pending) s r.track stream (refused_step s r) (set_up_step_with s r (waiting_as capture stream))
+    xfer_as capture (nat_le message_size n) (none_in s.pending) s r.track stream (refused_step s r) (set_up_step_with s r (waiting_as capture stream))
     (λ period. start_step s r (started_of r (begin period)))
 
 -- THE START of a transfer of frames of some length, with a message buffer of n bytes: it goes on, is refused, or begins set-up
@@ -97,7 +96,7 @@ xfer_word (Says x) = said_word x
 -- document 01's number and values of the start, and of a transfer over a script: a refusal's, 256 + 16 for set-up's first query, or what the ring says
 abbrev pub start_says_as : Bool → (ℕ → ring.Step) → Sound → Ring → ℕ → ℕ → answers.Says
 start_says_as capture begin s r stream n =
-    xfer_as capture (nat_le message_size n) true (none_in s.pending) s r.track stream says_refusal (answers.says (256 + 16) []) (λ period. says_said (begin period).said)
+    xfer_as capture (nat_le message_size n) (none_in s.pending) s r.track stream says_refusal (answers.says (256 + 16) []) (λ period. says_said (begin period).said)
 
 abbrev pub start_says : Sound → Ring → ℕ → ℕ → ℕ → ℕ → answers.Says
 start_says s r stream len budget n = start_says_as false (λ period. start_call r.track stream len period budget) s r stream n

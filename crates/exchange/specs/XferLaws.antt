@@ -27,10 +27,10 @@ use Rattle.exchange.specs.KeptLaws.{step_kept}
 use Rattle.exchange.specs.Types.{NoStatus, Refusal, InvalidParam, IoError, Track, Ring, Params, Call, Xfer, Capture, Idle, Sound, XferStep}
 
 -- what holds of each end of the checks holds of what they come to
-pub xfer-as-by : {A : Type 0} (P : A → Type 0) (capture lengths fits clear : Bool) (s : Sound) (t : Track) (stream : ℕ) (refuse : Refusal → A) (set_up : A) (go : ℕ → A) →
+pub xfer-as-by : {A : Type 0} (P : A → Type 0) (capture lengths clear : Bool) (s : Sound) (t : Track) (stream : ℕ) (refuse : Refusal → A) (set_up : A) (go : ℕ → A) →
     ((x : Refusal) → P (refuse x)) → (consistent_of s.core ≡ true → s.core.stage ≡ Idle → s.core.ready ≡ false → P set_up)
-    → (fits ≡ true → clear ≡ true → idle_of t ≡ true → P (go (params_of s stream).period)) → P (xfer_as capture lengths fits clear s t stream refuse set_up go)
-xfer-as-by P capture lengths fits clear s t stream refuse set_up go a b g =
+    → (clear ≡ true → idle_of t ≡ true → P (go (params_of s stream).period)) → P (xfer_as capture lengths clear s t stream refuse set_up go)
+xfer-as-by P capture lengths clear s t stream refuse set_up go a b g =
     guarded-by P _ _ _
     (λ _. guarded-by P _ _ _
     (λ ok. guarded-by P _ _ _
@@ -38,16 +38,10 @@ xfer-as-by P capture lengths fits clear s t stream refuse set_up go a b g =
     (λ _. guarded-by P _ _ _
     (λ _. guarded-by P _ _ _
     (λ _. faced-by P capture (pcm_of s stream).direction (refuse InvalidParam) (guard (not ((params_of s stream).known == 0)) (refuse (IoError NoStatus)) (go (params_of s stream).period))
-    (λ _. guarded-by P _ _ _
-    (λ _.
-    let own = fits && stream_ok s.core (params_of s stream) stream in
-    let f = both (idle_of t) clear (both (is_idle s.core.stage) (idle_of t && clear) free).1 in
-    let m = (both fits (stream_ok s.core (params_of s stream) stream) (both (ring.consistent_of t) own (both (consistent_of s.core) (ring.consistent_of t && own) ok).1).1).0 in
-    g m f.1 f.0)
-    (λ _. a _))
+    (λ _. guarded-by P _ _ _ (λ _. let f = both (idle_of t) clear (both (is_idle s.core.stage) (idle_of t && clear) free).1 in g f.1 f.0) (λ _. a _))
     (a InvalidParam)) (λ _. a _)) (λ _. a _))
     (λ r.
-    let e = (both (consistent_of s.core) (ring.consistent_of t && (fits && stream_ok s.core (params_of s stream) stream)) ok).0 in
+    let e = (both (consistent_of s.core) (ring.consistent_of t && stream_ok s.core (params_of s stream) stream) ok).0 in
     let i = idle-is s.core.stage (both (is_idle s.core.stage) (idle_of t && clear) free).0 in
     b e i r))
     (λ _. a _))
@@ -57,15 +51,15 @@ xfer-as-by P capture lengths fits clear s t stream refuse set_up go a b g =
 pub xfer-by : {A : Type 0} (P : A → Type 0) (lengths clear : Bool) (s : Sound) (t : Track) (stream : ℕ) (refuse : Refusal → A) (set_up : A) (go : ℕ → A) →
     ((x : Refusal) → P (refuse x)) → (consistent_of s.core ≡ true → s.core.stage ≡ Idle → s.core.ready ≡ false → P set_up)
     → (clear ≡ true → idle_of t ≡ true → P (go (params_of s stream).period)) → P (xfer_by lengths clear s t stream refuse set_up go)
-xfer-by P lengths clear s t stream refuse set_up go a b g = xfer-as-by P false lengths true clear s t stream refuse set_up go a b (λ _. g)
+xfer-by P lengths clear s t stream refuse set_up go a b g = xfer-as-by P false lengths clear s t stream refuse set_up go a b g
 
 -- the same of the start of any transfer
 pub start-as-by : (P : XferStep → Type 0) (capture : Bool) (begin : ℕ → step.Step) (s : Sound) (r : Ring) (stream n : ℕ) → ((x : Refusal) → P (refused_step s r x))
     → (consistent_of s.core ≡ true → s.core.stage ≡ Idle → s.core.ready ≡ false → P (set_up_step_with s r (waiting_as capture stream)))
     → (none_in s.pending ≡ true → P (start_step s r (started_of r (begin (params_of s stream).period)))) → P (start_as capture begin s r stream n)
 start-as-by P capture begin s r stream n a b g =
-    xfer-as-by P capture (nat_le message_size n) true (none_in s.pending) s r.track stream (refused_step s r) (set_up_step_with s r (waiting_as capture stream)) (λ period. start_step s r (started_of r (begin period))) a b
-    (λ _ none _. g none)
+    xfer-as-by P capture (nat_le message_size n) (none_in s.pending) s r.track stream (refused_step s r) (set_up_step_with s r (waiting_as capture stream)) (λ period. start_step s r (started_of r (begin period))) a b
+    (λ none _. g none)
 
 -- of a capture, and of a playback that writes a trace
 pub capture-by : (P : XferStep → Type 0) (s : Sound) (r : Ring) (stream periods lent budget n : ℕ) → ((x : Refusal) → P (refused_step s r x))
@@ -99,14 +93,6 @@ with-set-up-kept s call ok k e g f = step_kept s (set_up_with s call) [] k (reco
 
 pub set-up-kept : (s : Sound) (stream : ℕ) → Kept s → consistent_of s.core ≡ true → s.core.stage ≡ Idle → s.core.ready ≡ false → Kept (with_core (set_up_plan s stream).core s)
 set-up-kept s stream = with-set-up-kept s (Xfer stream) refl
-
-waiting-ok : (capture : Bool) (stream : ℕ) → call_ok (waiting_as capture stream) ≡ true
-waiting-ok true stream = refl
-waiting-ok false stream = refl
-
-pub start-as-kept : (capture : Bool) (begin : ℕ → step.Step) (s : Sound) (r : Ring) (stream n : ℕ) → Kept s → Kept (start_as capture begin s r stream n).sound
-start-as-kept capture begin s r stream n k =
-    start-as-by (λ x. Kept x.sound) capture begin s r stream n (λ _. k) (with-set-up-kept s (waiting_as capture stream) (waiting-ok capture stream) k) (λ _. k)
 
 pub capture-kept : (s : Sound) (r : Ring) (stream periods lent budget n : ℕ) → Kept s → Kept (capture_of s r stream periods lent budget n).sound
 capture-kept s r stream periods lent budget n k = capture-by (λ x. Kept x.sound) s r stream periods lent budget n (λ _. k) (with-set-up-kept s (Capture stream) refl k) (λ _. k)
@@ -163,7 +149,7 @@ held true test h = h refl
 held false test h = refl
 
 pub passed-as : {A : Type 0} (capture lengths : Bool) (s : Sound) (r : Ring) (stream : ℕ) (refuse : Refusal → A) (set_up : A) (go : ℕ → A) → lengths ≡ true → Playable s r stream
-    → held_to capture ((pcm_of s stream).direction == 1) ≡ true → go (params_of s stream).period ≡ xfer_as capture lengths true (none_in s.pending) s r.track stream refuse set_up go
+    → held_to capture ((pcm_of s stream).direction == 1) ≡ true → go (params_of s stream).period ≡ xfer_as capture lengths (none_in s.pending) s r.track stream refuse set_up go
 passed-as capture lengths s r stream refuse set_up go long o turned =
     let k = o.state in
     let fine = stream-fine s stream k in

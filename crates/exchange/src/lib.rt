@@ -14,8 +14,8 @@ pub use calls::{
 };
 pub use effect::{direction_at, life_at, look, pending_look};
 pub use nonblocking::{
-    NbEnd, NbReply, NbStep, mode_of, pcm_xfer_mark, pcm_xfer_nb, pcm_xfer_ok, pending_count,
-    pending_token, places_of,
+    NbEnd, NbReply, NbStep, pcm_xfer_mark, pcm_xfer_nb, pcm_xfer_ok, pending_count, pending_token,
+    places_of,
 };
 pub use state::{Configured, Sound};
 pub use xfer::{

@@ -3,24 +3,18 @@ ghost use Rattle.std.specs.Prelude.{◌≡◌, ◌≤◌, length};
 ghost use Rattle.layout.specs.Lent.{message_size};
 ghost use Rattle.pending.specs.Table.{count_in};
 ghost use Rattle.exchange.specs.State.{says_configured, configured_of};
-ghost use Rattle.exchange.specs.Submit.{places_of, mode_of, nb_of, nb_says, Submits, nb_store, nb_message, submit_of, refused_nb, token_nb, set_up_nb, end_by, mark_step, finish_step, barred_end, token_seen};
+ghost use Rattle.exchange.specs.Submit.{places_of, nb_of, nb_says, Submits, nb_store, nb_message, submit_of, refused_nb, token_nb, set_up_nb, end_by, mark_step, finish_step, barred_end, token_seen};
 
 use crate::state::{Configured, Sound, count_told};
 use crate::xfer::{checked, set_up};
 use codes::Refusal;
 use sound_core::{Call, Gate, MESSAGE, consistent};
 use pending::{
-    INDIRECT_PLACES, Judged, Outcome, PLACES, Seen, Spot, count, find_spot, finish, fits, hold,
-    look, lowest, mark, placed,
+    INDIRECT_PLACES, Judged, Outcome, PLACES, Seen, Spot, count, find_spot, finish, hold, look,
+    lowest, mark, placed,
 };
 use records::Query;
 use turns::{INDIRECT, Reading, Ring};
-
-// The mode of a direct ring: 3 descriptors to a submission.
-const DIRECT_MODE: u16 = 3;
-
-// The mode of an indirect ring.
-const INDIRECT_MODE: u16 = 1;
 
 // A request of so many bytes to send, the token of what was submitted, or a refusal.
 #[derive(Drop)]
@@ -53,11 +47,11 @@ fn refused_nb(s: Sound, refusal: Refusal) -> NbStep
 }
 
 // The token is taken.
-fn token_nb(mode: u16, s: Sound, k: usize) -> NbStep
-    ensures { result ≡ token_nb mode s k }
+fn token_nb(s: Sound, k: usize) -> NbStep
+    ensures { result ≡ token_nb s k }
 {
     let old = s.pending;
-    let pending = hold(old, k, mode);
+    let pending = hold(old, k);
     NbStep {
         sound: Sound { pending, ..s },
         reply: NbReply::Token(k),
@@ -75,27 +69,16 @@ pub fn places_of(descriptors: usize) -> usize
     }
 }
 
-// The mode of a ring, as a token remembers it: the descriptors to a submission.
-pub fn mode_of(descriptors: usize) -> u16
-    ensures { result ≡ mode_of descriptors }
-{
-    if descriptors != INDIRECT {
-        return DIRECT_MODE;
-    }
-    INDIRECT_MODE
-}
-
 // The stream's number and the payload go into the lowest free of so many places, or nothing does.
 fn submit(
     places: usize,
-    mode: u16,
     s: Sound,
     stream: u32,
     period: u32,
     payload: &[u8],
     store: &mut [u8],
 ) -> NbStep
-    ensures { (result ≡ submit_of places mode s (length payload.now) (length store.old) period) × (store.new ≡ nb_store places (submit_of places mode s (length payload.now) (length store.old) period).reply stream payload.now store.old) }
+    ensures { (result ≡ submit_of places s (length payload.now) (length store.old) period) × (store.new ≡ nb_store places (submit_of places s (length payload.now) (length store.old) period).reply stream payload.now store.old) }
 {
     let old = s.pending;
     let free = lowest(old, places);
@@ -104,7 +87,7 @@ fn submit(
         Spot::Shut(refusal) => refused_nb(s, refusal),
         Spot::Place(k) => {
             placed(store, places, k, stream, payload);
-            token_nb(mode, s, k)
+            token_nb(s, k)
         }
     }
 }
@@ -133,16 +116,13 @@ pub fn pcm_xfer_nb(
 ) -> NbStep
     ensures { Submits (places_of ring.track.descriptors) (nb_of s ring stream (length payload.now) (length store.old) (length message.old)) (nb_says s ring stream (length payload.now) (length store.old) (length message.old)) s stream payload.now store.old store.new message.old message.new result }
 {
-    let mode = mode_of(ring.track.descriptors);
-    let fit = fits(s.pending, mode);
-    let long = MESSAGE <= message.len();
-    let outcome = checked(false, long, fit, true, s, ring.track, stream);
+    let outcome = checked(false, MESSAGE <= message.len(), true, s, ring.track, stream);
     match outcome {
         Gate::Shut(refusal) => refused_nb(s, refusal),
         Gate::SetUp => set_up_nb(s, ring, stream, message),
         Gate::Open(period) => {
             let places = places_of(ring.track.descriptors);
-            submit(places, mode, s, stream, period, payload, store)
+            submit(places, s, stream, period, payload, store)
         }
     }
 }

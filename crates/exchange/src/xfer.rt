@@ -30,24 +30,22 @@ pub struct XferStep {
     pub turns: u64,
 }
 
-// The checks of a capture, or of any other transfer. `fits`: state and ring fit together, or it plays no
-// part.
+// The checks of a capture, or of any other transfer.
 pub(crate) fn checked(
     capture: bool,
     lengths: bool,
-    fits: bool,
     clear: bool,
     s: Sound,
     t: Track,
     stream: u32,
 ) -> Gate
-    ensures { result ≡ xfer_as capture lengths fits clear s t stream Shut SetUp Open }
+    ensures { result ≡ xfer_as capture lengths clear s t stream Shut SetUp Open }
 {
     let params = params_of(s, stream);
     let life = life_of(s, stream);
     let direction = direction_of(s, stream);
     xfer_gate(
-        capture, lengths, fits, clear, s.core, params, life, direction, t, stream,
+        capture, lengths, clear, s.core, params, life, direction, t, stream,
     )
 }
 
@@ -118,7 +116,7 @@ pub fn pcm_xfer_start(
 {
     let clear = is_none(s.pending);
     let long = MESSAGE <= message.len();
-    let outcome = checked(false, long, true, clear, s, ring.track, stream);
+    let outcome = checked(false, long, clear, s, ring.track, stream);
     match outcome {
         Gate::Shut(refusal) => refused(s, ring, refusal),
         Gate::SetUp => set_up(s, ring, Call::Xfer { stream }, message),
@@ -143,8 +141,8 @@ pub fn pcm_xfer_start_traced(
     ensures { Transfers (start_traced_of s ring stream (length frames.now) budget (length room.now) (length message.old)) (start_traced_says s ring stream (length frames.now) budget (length room.now) (length message.old)) s stream message.old message.new result }
 {
     let clear = is_none(s.pending);
-    let room_for = MESSAGE <= message.len();
-    let outcome = checked(false, room_for, true, clear, s, ring.track, stream);
+    let fits = MESSAGE <= message.len();
+    let outcome = checked(false, fits, clear, s, ring.track, stream);
     match outcome {
         Gate::Shut(refusal) => refused(s, ring, refusal),
         Gate::SetUp => set_up(s, ring, Call::Xfer { stream }, message),
@@ -170,7 +168,7 @@ pub fn pcm_capture_start(
 {
     let clear = is_none(s.pending);
     let long = MESSAGE <= message.len();
-    let outcome = checked(true, long, true, clear, s, ring.track, stream);
+    let outcome = checked(true, long, clear, s, ring.track, stream);
     match outcome {
         Gate::Shut(refusal) => refused(s, ring, refusal),
         Gate::SetUp => set_up(s, ring, Call::Capture { stream }, message),
@@ -196,7 +194,7 @@ pub fn pcm_xfer(
     let whole = script.len() % Reading::SIZE == 0;
     let lengths = both(MESSAGE <= message.len(), whole);
     let clear = is_none(s.pending);
-    let outcome = checked(false, lengths, true, clear, s, ring.track, stream);
+    let outcome = checked(false, lengths, clear, s, ring.track, stream);
     match outcome {
         Gate::Shut(refusal) => refused(s, ring, refusal),
         Gate::SetUp => set_up(s, ring, Call::Xfer { stream }, message),

@@ -7,8 +7,6 @@ use Rattle.pending.proofs.table.Pending.new.Reads as new
 use Rattle.pending.proofs.table.lowest.Reads as lowest
 use Rattle.pending.proofs.table.count.Reads as count
 use Rattle.pending.proofs.table.is_none.Reads as is_none
-use Rattle.pending.proofs.table.fits.Reads as fits
-use Rattle.pending.proofs.table.fits_token.Reads as fits-token
 use Rattle.pending.proofs.table.look.Reads as look
 use Rattle.pending.proofs.table.seen_token.Reads as seen-token
 use Rattle.pending.proofs.calls.hold.Reads as hold
@@ -31,12 +29,6 @@ count-one κs a r₁ r₂ e₁ e₂ p q = same p q
 
 pub is-none-one : (κs : _) (a : _) (r₁ r₂ : _) (e₁ e₂ : _) → is_none.Post κs a r₁ e₁ → is_none.Post κs a r₂ e₂ → r₁ ≡ r₂
 is-none-one κs a r₁ r₂ e₁ e₂ p q = same p q
-
-pub fits_one : (κs : _) (a : _) (r₁ r₂ : _) (e₁ e₂ : _) → fits.Post κs a r₁ e₁ → fits.Post κs a r₂ e₂ → r₁ ≡ r₂
-fits_one κs a r₁ r₂ e₁ e₂ p q = same p q
-
-pub fits-token-one : (κs : _) (a : _) (r₁ r₂ : _) (e₁ e₂ : _) → fits-token.Post κs a r₁ e₁ → fits-token.Post κs a r₂ e₂ → r₁ ≡ r₂
-fits-token-one κs a r₁ r₂ e₁ e₂ p q = same p q
 
 pub look_one : (κs : _) (a : _) (r₁ r₂ : _) (e₁ e₂ : _) → look.Post κs a r₁ e₁ → look.Post κs a r₂ e₂ → r₁ ≡ r₂
 look_one κs a r₁ r₂ e₁ e₂ p q = same p q

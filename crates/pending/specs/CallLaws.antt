@@ -18,9 +18,9 @@ use Rattle.pending.specs.Places.{size_of, spot_by}
 module _ (t : Token) where
   pub mark-wrong : (status : ℕ) → (t.state ≡ 1 → ⊥) → told t (Refused WrongToken) ≡ mark_token t status
   unfolding mark_token
-  mark-wrong status h = stops _ _ (told (marked t.mode status) Done) (ne_eqb _ _ h) refl
+  mark-wrong status h = stops _ _ (told (marked status) Done) (ne_eqb _ _ h) refl
 
-  pub mark-done : (status : ℕ) → t.state ≡ 1 → told (marked t.mode status) Done ≡ mark_token t status
+  pub mark-done : (status : ℕ) → t.state ≡ 1 → told (marked status) Done ≡ mark_token t status
   unfolding mark_token
   mark-done status h = passes _ (told t (Refused WrongToken)) _ (eq-eqb _ _ h) refl
 
@@ -69,7 +69,7 @@ module _ (P : Judged → Type 0) (p : Pending) (k : ℕ) where
   stays : (x : Outcome) → P (record { table = p; said = x }) → P (judged_at p k (told (token_at p k) x))
   stays x h = subst P (sym (left p k x)) h
 
-  pub mark-by : (status : ℕ) → (waits_at p k ≡ true → P (record { table = put p k (marked (token_at p k).mode status); said = Done })) → P (record { table = p; said = Refused WrongToken }) → P (mark_of p k status)
+  pub mark-by : (status : ℕ) → (waits_at p k ≡ true → P (record { table = put p k (marked status); said = Done })) → P (record { table = p; said = Refused WrongToken }) → P (mark_of p k status)
   unfolding mark_token
   mark-by status f g = guarded-by (λ (t : Told). P (judged_at p k t)) _ _ _ f (λ _. stays (Refused WrongToken) g)
 

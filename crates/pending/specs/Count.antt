@@ -120,7 +120,7 @@ module _ (p : Pending) (places : ℕ) (size : length p.tokens ≡ 32) (above : A
 -- over any sequence with so many places or fewer, tokens that there is no place for stay free
 abbrev pub Within : ℕ → List Op → Type 0
 Within n [] = Unit {0}
-Within n (submits places mode ∷ os) = (places ≤ n) × Within n os
+Within n (submits places ∷ os) = (places ≤ n) × Within n os
 Within n (completes token status ∷ os) = Within n os
 Within n (finishes token ∷ os) = Within n os
 
@@ -138,20 +138,20 @@ module _ (n : ℕ) (p : Pending) (above : AboveFree n p) where
   below : (j : ℕ) → pending_at p j ≡ true → j < n
   below j = below_by j (ltb j n) refl
 
-  submits-above : (places mode : ℕ) → places ≤ n → Above (taken_after p places mode).table
+  submits-above : (places : ℕ) → places ≤ n → Above (taken_after p places).table
   unfolding taken_after
-  submits-above places mode l =
+  submits-above places l =
       guarded-by (λ (t : After). Above t.table) _ _ _
-      (λ e. let h : lowest_in p places < bound_of places = ltb-true _ _ e in let f = few places in other (lowest_in p places) (waits mode) (omega arith)) (λ _. above)
+      (λ e. let h : lowest_in p places < bound_of places = ltb-true _ _ e in let f = few places in other (lowest_in p places) waits (omega arith)) (λ _. above)
 
   pub completes-above : (token status : ℕ) → Above (mark_of p token status).table
-  completes-above token status = mark-by (λ (m : Judged). Above m.table) p token status (λ e. other token (marked (token_at p token).mode status) (below token (waits-pending p token e))) above
+  completes-above token status = mark-by (λ (m : Judged). Above m.table) p token status (λ e. other token (marked status) (below token (waits-pending p token e))) above
 
   pub finishes-above : (token : ℕ) → Above (finish_of p token).table
   finishes-above token = finish-by (λ (m : Judged). Above m.table) p token (λ e. other token free_token (below token e)) above above
 
 pub above-free : (n : ℕ) (p : Pending) (ops : List Op) → Within n ops → AboveFree n p → AboveFree n (table_after p ops)
 above-free n p [] w above = above
-above-free n p (submits places mode ∷ os) w above = above-free n (does p (submits places mode)).table os w.1 (submits-above n p above places mode w.0)
+above-free n p (submits places ∷ os) w above = above-free n (does p (submits places)).table os w.1 (submits-above n p above places w.0)
 above-free n p (completes token status ∷ os) w above = above-free n (does p (completes token status)).table os w (completes-above n p above token status)
 above-free n p (finishes token ∷ os) w above = above-free n (does p (finishes token)).table os w (finishes-above n p above token)

@@ -82,6 +82,6 @@ module _ (p : Pending) (places : ℕ) where
   full-if = full_by _ refl
 
 -- ---- an instance: of two places with the first taken, the second is given; with both taken, none
-pub instance-of-it : (lowest_in (table_after new_pending (submits 2 1 ∷ [])) 2 ≡ 1) × NoRoom (table_after new_pending (submits 2 1 ∷ submits 2 1 ∷ [])) 2
+pub instance-of-it : (lowest_in (table_after new_pending (submits 2 ∷ [])) 2 ≡ 1) × NoRoom (table_after new_pending (submits 2 ∷ submits 2 ∷ [])) 2
 unfolding taken_after lowest_in guard
 instance-of-it = (refl, refl)

@@ -14,9 +14,9 @@ use Rattle.pending.specs.Table.{free_token, waits, marked, new_pending, token_at
 use Rattle.pending.specs.TableLaws.{few, put_other, put-notes, pending-in, waits-pending}
 use Rattle.pending.specs.CallLaws.{mark-by, finish-by}
 
--- what is done to a table: a submission that passed the tests before 15, to one of so many places, with a ring of some mode; a completion; finishing
+-- what is done to a table: a submission that passed the tests before 15, to one of so many places; a completion; finishing
 pub data Op : Type 0 where
-  submits : ℕ → ℕ → Op
+  submits : ℕ → Op
   completes : ℕ → ℕ → Op
   finishes : ℕ → Op
 
@@ -31,9 +31,9 @@ pub record After : Type 0 where
   pub entry : Entry
 
 -- "the lowest free of 16 equal places .., whose number is its token"; where there is none, 15 Full
-unfoldable pub taken_after : Pending → ℕ → ℕ → After
-taken_after p places mode = guard (ltb (lowest_in p places) (bound_of places)) (record { table = p; entry = neither })
-    (record { table = put p (lowest_in p places) (waits mode); entry = took (lowest_in p places) })
+unfoldable pub taken_after : Pending → ℕ → After
+taken_after p places = guard (ltb (lowest_in p places) (bound_of places)) (record { table = p; entry = neither })
+    (record { table = put p (lowest_in p places) waits; entry = took (lowest_in p places) })
 
 -- Ok and 2 give the token back
 abbrev pub ends_entry : Outcome → ℕ → Entry
@@ -44,7 +44,7 @@ abbrev pub finished_after : ℕ → Judged → After
 finished_after token j = record { table = j.table; entry = ends_entry j.said token }
 
 abbrev pub does : Pending → Op → After
-does p (submits places mode) = taken_after p places mode
+does p (submits places) = taken_after p places
 does p (completes token status) = record { table = (mark_of p token status).table; entry = neither }
 does p (finishes token) = finished_after token (finish_of p token)
 
@@ -68,25 +68,25 @@ abbrev pub Notes : Pending → ℕ → After → Type 0
 Notes p k a = pending_at a.table k ≡ noted a.entry k (pending_at p k)
 
 module _ (p : Pending) (size : length p.tokens ≡ 32) (k : ℕ) where
-  submits-notes : (places mode : ℕ) → Notes p k (taken_after p places mode)
+  submits-notes : (places : ℕ) → Notes p k (taken_after p places)
   unfolding taken_after
-  submits-notes places mode =
+  submits-notes places =
       guarded-by (Notes p k) _ _ _
       (λ e.
       let h = ltb-true (lowest_in p places) (bound_of places) e in
       let f = few places in
-      put-notes p (lowest_in p places) k (waits mode) true (omega arith) refl (eqb (lowest_in p places) k) refl)
+      put-notes p (lowest_in p places) k waits true (omega arith) refl (eqb (lowest_in p places) k) refl)
       (λ _. refl)
 
   -- a mark leaves its token pending
-  marks-by : (token mode status : ℕ) → pending_at p token ≡ true → (b : Bool) → eqb token k ≡ b → pending_at (put p token (marked mode status)) k ≡ pending_at p k
-  marks-by token mode status e true q =
+  marks-by : (token status : ℕ) → pending_at p token ≡ true → (b : Bool) → eqb token k ≡ b → pending_at (put p token (marked status)) k ≡ pending_at p k
+  marks-by token status e true q =
       let z : token ≡ k = eqb-true token k q in
-      put-notes p token k (marked mode status) true (pending-in p token e) refl true q ∙ sym e ∙ ap (pending_at p) z
-  marks-by token mode status e false q = put-notes p token k (marked mode status) true (pending-in p token e) refl false q
+      put-notes p token k (marked status) true (pending-in p token e) refl true q ∙ sym e ∙ ap (pending_at p) z
+  marks-by token status e false q = put-notes p token k (marked status) true (pending-in p token e) refl false q
 
   pub completes-notes : (token status : ℕ) → pending_at (mark_of p token status).table k ≡ pending_at p k
-  completes-notes token status = mark-by (λ (m : Judged). pending_at m.table k ≡ pending_at p k) p token status (λ e. marks-by token (token_at p token).mode status (waits-pending p token e) (eqb token k) refl) refl
+  completes-notes token status = mark-by (λ (m : Judged). pending_at m.table k ≡ pending_at p k) p token status (λ e. marks-by token status (waits-pending p token e) (eqb token k) refl) refl
 
   ends-notes : (token status : ℕ) (b : Bool) → ends_entry (pick b Done (Refused (IoError (Status status)))) token ≡ freed token
   ends-notes token status true = refl
@@ -100,7 +100,7 @@ module _ (p : Pending) (size : length p.tokens ≡ 32) (k : ℕ) where
       refl refl
 
   notes : (o : Op) → Notes p k (does p o)
-  notes (submits places mode) = submits-notes places mode
+  notes (submits places) = submits-notes places
   notes (completes token status) = completes-notes token status
   notes (finishes token) = finishes-notes token
 
@@ -112,18 +112,18 @@ module _ (p : Pending) where
   pub put-sized : (k : ℕ) (t : Token) → Sized (put p k t)
   put-sized k t = length-set p.tokens k t
 
-  pub take-sized : (places mode : ℕ) → Sized (taken_after p places mode).table
+  pub take-sized : (places : ℕ) → Sized (taken_after p places).table
   unfolding taken_after
-  take-sized places mode = guarded-by (λ (t : After). Sized t.table) _ _ _ (λ _. length-set p.tokens (lowest_in p places) (waits mode)) (λ _. refl)
+  take-sized places = guarded-by (λ (t : After). Sized t.table) _ _ _ (λ _. length-set p.tokens (lowest_in p places) waits) (λ _. refl)
 
   pub mark-sized : (token status : ℕ) → Sized (mark_of p token status).table
-  mark-sized token status = mark-by (λ (m : Judged). Sized m.table) p token status (λ _. length-set p.tokens token (marked (token_at p token).mode status)) refl
+  mark-sized token status = mark-by (λ (m : Judged). Sized m.table) p token status (λ _. length-set p.tokens token (marked status)) refl
 
   pub finish-sized : (token : ℕ) → Sized (finish_of p token).table
   finish-sized token = finish-by (λ (m : Judged). Sized m.table) p token (λ _. length-set p.tokens token free_token) refl refl
 
   pub sized : (o : Op) → Sized (does p o).table
-  sized (submits places mode) = take-sized places mode
+  sized (submits places) = take-sized places
   sized (completes token status) = mark-sized token status
   sized (finishes token) = finish-sized token
 
@@ -142,6 +142,6 @@ finish-own p j k n = ap (λ (t : Token). (finish_token t).said) (finish-any-orde
 
 -- ---- they are not empty: of three submissions the second is finished, and a fourth takes its place
 
-pub instance-of-it : (b : Bool) → ledger new_pending (submits 16 3 ∷ submits 16 3 ∷ submits 16 3 ∷ completes 1 0x8000 ∷ finishes 1 ∷ completes 2 0x8000 ∷ []) 1 b ≡ false
+pub instance-of-it : (b : Bool) → ledger new_pending (submits 16 ∷ submits 16 ∷ submits 16 ∷ completes 1 0x8000 ∷ finishes 1 ∷ completes 2 0x8000 ∷ []) 1 b ≡ false
 unfolding taken_after lowest_in guard finish_token mark_token
 instance-of-it b = refl

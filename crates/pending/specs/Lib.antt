@@ -7,7 +7,6 @@ pub mod Ledger
 pub mod Full
 pub mod Apart
 pub mod Count
-pub mod Fits
 -- laws
 pub mod TableLaws
 pub mod CallLaws

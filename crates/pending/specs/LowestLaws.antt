@@ -1,11 +1,11 @@
--- The loops that look for the lowest free place, that count, and that look for another mode: where they stand after k places.
+-- The loops that look for the lowest free place, and that count: where they stand after k places.
 -- Assumes nothing.
-use Rattle.std.specs.Prelude.{ℕ, zero, suc, ◌+◌, ◌≤◌, ◌<◌, ◌≡◌, refl, Bool, true, false, ◌&&◌, List, [], ◌∷◌, eqb, length, get_or, take, drop}
+use Rattle.std.specs.Prelude.{ℕ, zero, suc, ◌+◌, ◌≤◌, ◌<◌, ◌≡◌, refl, Bool, true, false, List, [], ◌∷◌, eqb, length, get_or, take, drop}
 use native.Mathlib.Omega.{arith}
 use Rattle.std.proofs.Common.{ap, sym, ◌∙◌, length-take, drop_of_length-le, get_or-take, eq-eqb, ne_eqb}
 use Rattle.std.proofs.lemmas.Bool.{false≢true}
 use Rattle.codes.specs.Says.{pick}
-use Rattle.pending.specs.Table.{free_token, bound_of, token_at, weight_of, count_of, fits_token, fits_of, lowest_of, lowest_in}
+use Rattle.pending.specs.Table.{free_token, bound_of, token_at, weight_of, count_of, lowest_of, lowest_in}
 use Rattle.pending.specs.Types.{Token, Pending}
 
 step : (l : List Token) (k : ℕ) → eqb (get_or l k free_token).state 0 ≡ false → lowest_of (drop k l) ≡ suc (lowest_of (drop (suc k) l))
@@ -84,31 +84,3 @@ module _ (l : List Token) where
   counts-out k n h s =
       let none : drop k l ≡ [] = drop_of_length-le l h in
       sym (s ∙ ap (λ (z : List Token). n + count_of z) none ∙ omega arith)
-
--- ---- of one mode
-
-fit-by : (mode : ℕ) (l : List Token) (k : ℕ) → k < length l → fits_of mode (drop k l) ≡ (fits_token mode (get_or l k free_token) && fits_of mode (drop (suc k) l))
-fit-by mode [] k h = absurd (omega arith)
-fit-by mode (t ∷ ts) zero h = refl
-fit-by mode (t ∷ ts) (suc k) h = fit-by mode ts k (omega arith)
-
-module _ (mode : ℕ) (l : List Token) where
-  abbrev pub Fit : ℕ → Type 0
-  Fit k = fits_of mode l ≡ fits_of mode (drop k l)
-
-  pub fit-first : Fit 0
-  fit-first = refl
-
-  pub fit_next : (k : ℕ) {b : Bool} → k < length l → b ≡ fits_token mode (get_or l k free_token) → b ≡ true → Fit k → Fit (k + 1)
-  fit_next k h e t s =
-      let one : k + 1 ≡ suc k = omega arith in
-      let next : fits_of mode l ≡ fits_of mode (drop (suc k) l) = s ∙ fit-by mode l k h ∙ ap (λ (b : Bool). b && fits_of mode (drop (suc k) l)) (sym e ∙ t) in
-      rw one next
-
-  pub fit-not : (k : ℕ) {b : Bool} → k < length l → b ≡ fits_token mode (get_or l k free_token) → b ≡ false → Fit k → false ≡ fits_of mode l
-  fit-not k h e t s = sym (s ∙ fit-by mode l k h ∙ ap (λ (b : Bool). b && fits_of mode (drop (suc k) l)) (sym e ∙ t))
-
-  pub fit-out : (k : ℕ) → length l ≤ k → Fit k → true ≡ fits_of mode l
-  fit-out k h s =
-      let none : drop k l ≡ [] = drop_of_length-le l h in
-      sym (s ∙ ap (fits_of mode) none)

@@ -1,6 +1,6 @@
 -- The pending table: a submission takes the lowest free place, a completion marks its token, finishing frees it.
 -- Assumes nothing.
-use Rattle.std.specs.Prelude.{Bool, true, false, not, ◌&&◌, ◌||◌, List, [], ◌∷◌, ℕ, zero, suc, ◌+◌, ltb, eqb, get_or, set, take, replicate}
+use Rattle.std.specs.Prelude.{Bool, true, false, not, List, [], ◌∷◌, ℕ, zero, suc, ◌+◌, ltb, eqb, get_or, set, take, replicate}
 use Rattle.codes.specs.Says.{Says, says, pick, guard}
 use Rattle.codes.specs.Answers.{says_refusal}
 use Rattle.pending.specs.Types.{Status, IoError, WrongToken, NotYet, Token, Pending, Seen, Outcome, Done, Refused, Told, Judged}
@@ -9,14 +9,13 @@ use Rattle.pending.specs.declared.table.Seen.TheVariants as seen
 -- ---- a token
 
 abbrev pub free_token : Token
-free_token = record { state = 0; mode = 0; status = 0 }
+free_token = record { state = 0; status = 0 }
 
--- submitted with a ring of this mode: so many descriptors to a submission
-abbrev pub waits : ℕ → Token
-waits mode = record { state = 1; mode = mode; status = 0 }
+abbrev pub waits : Token
+waits = record { state = 1; status = 0 }
 
-abbrev pub marked : ℕ → ℕ → Token
-marked mode status = record { state = 2; mode = mode; status = status }
+abbrev pub marked : ℕ → Token
+marked status = record { state = 2; status = status }
 
 abbrev pub new_pending : Pending
 new_pending = record { tokens = replicate 32 free_token }
@@ -51,20 +50,6 @@ count_in p = count_of p.tokens
 abbrev pub none_in : Pending → Bool
 none_in p = eqb (count_in p) 0
 
--- ---- of one mode
-
--- a token goes with a ring of this mode: it is free, or was submitted with such a ring
-abbrev pub fits_token : ℕ → Token → Bool
-fits_token mode t = eqb t.state 0 || eqb t.mode mode
-
-abbrev pub fits_of : ℕ → List Token → Bool
-fits_of mode [] = true
-fits_of mode (t ∷ ts) = fits_token mode t && fits_of mode ts
-
--- EVERY TOKEN THAT IS PENDING was submitted with a ring of this mode
-abbrev pub fits_in : ℕ → Pending → Bool
-fits_in mode p = fits_of mode p.tokens
-
 -- ---- the lowest free place
 
 -- so many places as the table has tokens for
@@ -88,7 +73,7 @@ told t x = record { token = t; said = x }
 unfoldable pub mark_token : Token → ℕ → Told
 mark_token t status =
     guard (eqb t.state 1) (told t (Refused WrongToken))
-    (told (marked t.mode status) Done)
+    (told (marked status) Done)
 
 -- "and answers Ok, or 2 for a status not ok": 2 carries the status
 abbrev pub end_of : ℕ → Outcome

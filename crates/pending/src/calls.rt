@@ -45,13 +45,12 @@ fn with(p: Pending, k: usize, t: Token) -> Pending
     Pending { tokens }
 }
 
-// A submission with a ring of some mode takes a token, which waits for its completion.
-pub fn hold(p: Pending, k: usize, mode: u16) -> Pending
-    ensures { result ≡ put p k (waits mode) }
+// A submission takes a token, which waits for its completion.
+pub fn hold(p: Pending, k: usize) -> Pending
+    ensures { result ≡ put p k waits }
 {
     let waiting = Token {
         state: 1,
-        mode,
         status: 0,
     };
     with(p, k, waiting)
@@ -67,11 +66,7 @@ pub fn mark_token(t: Token, status: u32) -> Told
             said: Outcome::Refused(Refusal::WrongToken),
         };
     }
-    let marked = Token {
-        state: 2,
-        mode: t.mode,
-        status,
-    };
+    let marked = Token { state: 2, status };
     Told {
         token: marked,
         said: Outcome::Done,
@@ -108,7 +103,6 @@ pub fn finish_token(t: Token) -> Told
     }
     let free = Token {
         state: 0,
-        mode: 0,
         status: 0,
     };
     Told {

@@ -1,14 +1,12 @@
 // The table of tokens, and its reads. Every content of its bytes is a table: there is no test of its own.
 ghost use Rattle.std.specs.Prelude.{◌≡◌, get_or};
-ghost use Rattle.pending.specs.Table.{free_token, new_pending, token_at, count_of, lowest_in, count_in, none_in, weight_of, fits_token, fits_of, fits_in, seen_token, seen_of, bound_of};
+ghost use Rattle.pending.specs.Table.{free_token, new_pending, token_at, count_of, lowest_in, count_in, none_in, weight_of, seen_token, seen_of, bound_of};
 
 // `state` is 0 where the token is free, 1 where its submission waits for the completion, and any other
-// number where it is completed, with this status. `mode` is the descriptors that its ring has to a
-// submission.
+// number where it is completed, with this status.
 #[derive(Drop)]
 pub struct Token {
-    pub state: u16,
-    pub mode: u16,
+    pub state: u32,
     pub status: u32,
 }
 
@@ -33,7 +31,6 @@ impl Pending {
     {
         let blank = Token {
             state: 0,
-            mode: 0,
             status: 0,
         };
         Pending {
@@ -49,7 +46,6 @@ fn token_in(tokens: [Token; 32], k: usize) -> Token
     if 32 <= k {
         return Token {
             state: 0,
-            mode: 0,
             status: 0,
         };
     }
@@ -121,39 +117,6 @@ pub fn is_none(p: Pending) -> bool
 {
     let n = count(p);
     n == 0
-}
-
-// A ring of this mode goes with a token: it is free, or was submitted with such a ring.
-pub fn fits_token(t: Token, mode: u16) -> bool
-    ensures { result ≡ fits_token mode t }
-{
-    if t.state == 0 {
-        return true;
-    }
-    t.mode == mode
-}
-
-fn fits_in(tokens: [Token; 32], mode: u16) -> bool
-    ensures { result ≡ fits_of mode tokens }
-{
-    let mut k: usize = 0;
-    while k < 32 {
-        let t = tokens[k];
-        let fit = fits_token(t, mode);
-        if !fit {
-            return false;
-        }
-        k += 1;
-    }
-    true
-}
-
-// Every token that is pending was submitted with a ring of this mode.
-pub fn fits(p: Pending, mode: u16) -> bool
-    ensures { result ≡ fits_in mode p }
-{
-    let tokens = p.tokens;
-    fits_in(tokens, mode)
 }
 
 // What one token is.

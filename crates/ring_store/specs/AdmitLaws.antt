@@ -52,7 +52,7 @@ module _ (P : Step → Type 0) (t : Track) (refused : (r : Refusal) → P (refus
   -- the two calls of a capture
   pub captured : (len : ℕ) (c : Catch) → (consistent_of t ≡ true → t.running ≡ true → P (caught_turn t.descriptors t c)) → P (capture_call t len c)
   unfolding capture_call
-  captured len c f = admitted true len _ (λ ok on. guarded-by P _ _ _ (λ _. f ok on) (λ _. refused _))
+  captured len c f = guarded-by P _ _ _ (λ _. admitted true len _ f) (λ _. refused _)
 
   pub capture-started : (stream periods period lent budget : ℕ) → (consistent_of t ≡ true → periods * period ≤ lent → P (unchanged_of Going (begun_as true lent t stream (periods * period) period budget)))
       → P (capture_start t stream periods period lent budget)

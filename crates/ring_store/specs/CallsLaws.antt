@@ -1,33 +1,26 @@
 -- The calls on a store, by what their code does.
 -- Assumes nothing.
-use Rattle.std.specs.Prelude.{◌≡◌, Bool, ◌&&◌, ◌||◌, List, ℕ, ◌≤◌, ◌<◌, leb, length}
+use Rattle.std.specs.Prelude.{◌≡◌, Bool, true, false, not, ◌||◌, List, ℕ, ◌≤◌, ◌<◌, leb, eqb, length}
 use Rattle.std.proofs.Math.Path.{refl, ap}
-use Rattle.std.proofs.Common.{sym, ◌∙◌, subst, inl, inr, arith}
-use Rattle.std.proofs.Math.Bool.{true, false, not}
-use Rattle.std.proofs.lemmas.Bool.{false≢true}
-use Rattle.std.proofs.Math.Dec.{eqb}
+use Rattle.std.proofs.Common.{sym, ◌∙◌, le-leb}
 use Rattle.std.proofs.lemmas.List.Edits.{sets}
-use borrow.Author.Tests.{le-leb, lt-leb, leb-true, eqb-false, eq-eqb, ne_eqb, not-true, not-false}
-use Rattle.layout.specs.Bytes.{Bytes, num_at}
+use Rattle.std.proofs.lemmas.Bool.{lt-leb}
+use Rattle.layout.specs.Bytes.{Bytes}
 use Rattle.layout.specs.Lent.{Made, made}
 use Rattle.codes.specs.Says.{pick, guard}
 use Rattle.codes.specs.SaysLaws.{picks, skips, passes, stops}
 use Rattle.turns.specs.Ring.{new_ring, said_word, is_refused}
-use Rattle.turns.specs.Calls.{refused_of, runs_as, traced_call, turn_call, turned_of, offer_as}
-use Rattle.turns.specs.CallLaws.{no-transfer, offer-unsound, offer-other}
-use Rattle.turns.specs.Consistent.{consistent_of}
-use Rattle.turns.specs.ConsistentLaws.{both, refuted, consistent-facts}
-use Rattle.turns.specs.Private.{Mode}
-use Rattle.turns.specs.declared.calls.Offer.TheVariants as offer
+use Rattle.turns.specs.Calls.{refused_of, traced_call, turn_call, turned_of}
+use Rattle.turns.specs.CallLaws.{no-transfer}
 use Rattle.turns.specs.Capture.{catch_of, capture_call, recording_after}
 use Rattle.turns.specs.Script.{reading_of}
 use Rattle.trace.specs.Writer.{writing_call, room_after}
 use Rattle.ring_store.specs.Types.{Track, Ring, Step, Reading}
-use Rattle.codes.specs.declared.answers.Refusal.TheVariants.{InvalidParam, BadLength}
+use Rattle.codes.specs.declared.answers.Refusal.TheVariants.{InvalidParam}
 use Rattle.ring_store.specs.Store.{ring_size, track_at, ring_of}
 use Rattle.ring_store.specs.Calls.{left_by, changed, new_in, caught, caught_by, caught_in, capture_in, turn_traced_in}
 use Rattle.ring_store.specs.StoreLaws.{sent-over, new-over}
-use Rattle.ring_store.specs.Private.{track_over, sent_over, blank_over, blank_in, step_over, runs_with}
+use Rattle.ring_store.specs.Private.{track_over, sent_over, blank_over, blank_in, step_over}
 
 -- what a step leaves, by place: nothing where it was refused, else the track and what was sent
 module _ (s : List ℕ) (x : Step) (n : ℕ) (e : n ≡ said_word x.said) where
@@ -59,70 +52,6 @@ stepped s x y b h e p = p ∙ step-over s x b ∙ ap (λ (z : Step). left_by s (
 pub turn-idle : (t : Track) (len : ℕ) (reading : Reading) → t.running ≡ false → refused_of InvalidParam t ≡ turn_call t len reading
 unfolding traced_call
 turn-idle t len reading e = passes _ _ _ (ap (λ (b : Bool). not b || eqb 0 t.room) e) (no-transfer false t len _ _ _ e)
-
--- the other tests that a turn makes before it reads the track
-module _ (t : Track) (len : ℕ) (reading : Reading) (e : t.running ≡ true) where
-  pub turn-room : (t.room ≡ 0 → ⊥) → refused_of BadLength t ≡ turn_call t len reading
-  unfolding traced_call
-  turn-room n = stops _ _ _ (ap (λ (b : Bool). not b || eqb 0 t.room) e ∙ ne_eqb 0 t.room (λ z. n (sym z))) refl
-
-  module _ (z : t.room ≡ 0) where
-    agrees : (not t.running || eqb 0 t.room) ≡ true
-    agrees = ap (λ (b : Bool). not b || eqb 0 t.room) e ∙ eq-eqb 0 t.room (sym z)
-
-    pub turn-lent : (len ≡ t.lent → ⊥) → refused_of BadLength t ≡ turn_call t len reading
-    unfolding traced_call
-    turn-lent n = passes _ _ _ agrees (stops _ _ _ (ap (λ (b : Bool). not b || eqb len t.lent) e ∙ ne_eqb len t.lent n) refl)
-
-    pub turn-unfit : len ≡ t.lent → (consistent_of t && runs_as false t) ≡ false → refused_of InvalidParam t ≡ turn_call t len reading
-    unfolding traced_call
-    turn-unfit l f = passes _ _ _ agrees (passes _ _ _ (ap (λ (b : Bool). not b || eqb len t.lent) e ∙ eq-eqb len t.lent l) (ends (consistent_of t) (runs_as false t) _ _ f))
-      where
-        ends : {A : Type 0} (b c : Bool) (x r : A) → (b && c) ≡ false → r ≡ guard b r (guard c r x)
-        ends true c x r h = passes true _ _ refl (stops c r x h refl)
-        ends false c x r h = stops false _ _ refl refl
-
--- an offer with other flags, as its code tells it
-pub offer-unfit : (capture : Bool) (t : Track) (len : ℕ) → t.running ≡ true → len ≡ t.lent → (consistent_of t && runs_as capture t) ≡ false → offer.Refused InvalidParam ≡ offer_as capture t len
-offer-unfit capture t len e l f = by (consistent_of t) refl f
-  where
-    by : (b : Bool) → consistent_of t ≡ b → (b && runs_as capture t) ≡ false → offer.Refused InvalidParam ≡ offer_as capture t len
-    by true c h = offer-other capture t len e l c h
-    by false c h = offer-unsound capture t len e l c
-
--- with other flags than a direction's the store holds no ring, or none that runs so
-whole_by : (run cap d : ℕ) → Mode (pick (leb run 1 && leb cap 1) d 0) → (leb run 1 && leb cap 1) ≡ true
-whole_by run cap d m = by (leb run 1 && leb cap 1) m
-  where
-    by : (w : Bool) → Mode (pick w d 0) → w ≡ true
-    by true k = refl
-    by false (inl k) = absurd (omega arith)
-    by false (inr k) = absurd (omega arith)
-
-module _ (t : Track) (run cap d : ℕ) (p : t.descriptors ≡ pick (leb run 1 && leb cap 1) d 0) (q : t.running ≡ not (eqb run 0)) (r : t.capture ≡ not (eqb cap 0)) where
-  flags : (capture : Bool) → (consistent_of t && runs_as capture t) ≡ true → (eqb run 1 && eqb cap (pick capture 1 0)) ≡ true
-  flags capture e =
-      let x = both (consistent_of t) (runs_as capture t) e in
-      let w = both (leb run 1) (leb cap 1) (whole_by run cap d (subst Mode p (consistent-facts t x.0).placed.mode)) in
-      two capture (leb-true run 1 w.0) (leb-true cap 1 w.1) x.1
-    where
-      two : (capture : Bool) → run ≤ 1 → cap ≤ 1 → runs_as capture t ≡ true → (eqb run 1 && eqb cap (pick capture 1 0)) ≡ true
-      two true h k g =
-          let a = both t.running t.capture g in
-          let n = eqb-false run 0 (not-true _ (sym q ∙ a.0)) in
-          let m = eqb-false cap 0 (not-true _ (sym r ∙ a.1)) in
-          let u : run ≡ 1 = omega arith in
-          let v : cap ≡ 1 = omega arith in
-          λ i. eq-eqb run 1 u i && eq-eqb cap 1 v i
-      two false h k g =
-          let a = both t.running (not t.capture) g in
-          let n = eqb-false run 0 (not-true _ (sym q ∙ a.0)) in
-          let u : run ≡ 1 = omega arith in
-          λ i. eq-eqb run 1 u i && not-false (eqb cap 0) (sym r ∙ not-true t.capture a.1) i
-
-pub unfit : (s : List ℕ) (capture : Bool) → runs_with s (pick capture 1 0) ≡ false → (consistent_of (track_at s) && runs_as capture (track_at s)) ≡ false
-unfolding track_at
-unfit s capture f = sym (refuted _ (λ e. false≢true (sym f ∙ flags (track_at s) (num_at 76 4 s) (num_at 624 4 s) (num_at 0 8 s) refl refl refl capture e)))
 
 pub made-blank : (s : List ℕ) (t : Track) (l : List ℕ) → Bytes s → ring_size ≤ length s → l ≡ blank_over (track_over s t) → made 0 l ≡ blank_in s t
 made-blank s t l b h p = ap (made 0) (p ∙ new-over s t b) ∙ long s _ h

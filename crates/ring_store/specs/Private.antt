@@ -1,8 +1,7 @@
 -- What the private functions promise, where the public definitions have no name for it: the steps between them.
 -- Assumes nothing.
-use Rattle.std.specs.Prelude.{List, ℕ, ◌+◌, ◌*◌, Bool, ◌&&◌, ltb, leb, eqb, length, replicate}
+use Rattle.std.specs.Prelude.{List, ℕ, ◌+◌, ◌*◌, ltb, leb, length, replicate}
 use Rattle.std.proofs.lemmas.List.Edits.{sets}
-use Rattle.layout.specs.Bytes.{num_at}
 use Rattle.layout.specs.Rows.{rows_bytes}
 use Rattle.layout.specs.Lent.{Made, made}
 use Rattle.codes.specs.Says.{pick, guard}
@@ -13,10 +12,6 @@ use Rattle.ring_store.specs.Store.{track_size, slot_size, side_place, ring_size,
 -- a track at its two places
 abbrev pub track_over : List ℕ → Track → List ℕ
 track_over s t = sets (sets s 0 (track_bytes t)) side_place (side_bytes t)
-
--- the flags of a transfer that runs: the first is 1, and the other tells its direction
-abbrev pub runs_with : List ℕ → ℕ → Bool
-runs_with s capture = eqb (num_at 76 4 s) 1 && eqb (num_at 624 4 s) capture
 
 -- a slot at its place; there are 32
 abbrev pub slot_over : List ℕ → ℕ → Slot → List ℕ

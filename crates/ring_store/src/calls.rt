@@ -94,23 +94,10 @@ pub fn turn(ring: &mut [u8], len: usize, kind: u32, slot: u32, status: u32) -> u
     if ring.len() < SIZE {
         return BAD_LENGTH;
     }
-    let on = store::runs(ring);
-    if !on {
-        return INVALID_PARAM;
-    }
-    let room = store::room(ring);
-    if room != 0 {
-        return BAD_LENGTH;
-    }
-    let lent = store::lent(ring);
-    if len != lent {
-        return BAD_LENGTH;
-    }
-    let plays = store::runs_as(ring, 0);
-    if !plays {
-        return INVALID_PARAM;
-    }
     let t = store::get_track(ring);
+    if !t.running {
+        return INVALID_PARAM;
+    }
     let reading = Reading::from_words(kind, slot, status);
     let step = turns::turn_track(t, len, reading);
     leave(ring, step)

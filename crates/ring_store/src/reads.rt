@@ -114,18 +114,6 @@ pub fn offered(ring: &[u8], len: usize, res: &mut [u8]) -> u64
     if !roomy(ring, res) {
         return BAD_LENGTH;
     }
-    let on = store::runs(ring);
-    if !on {
-        return tell_refusal(ring, Refusal::InvalidParam, res);
-    }
-    let lent = store::lent(ring);
-    if len != lent {
-        return tell_refusal(ring, Refusal::BadLength, res);
-    }
-    let plays = store::runs_as(ring, 0);
-    if !plays {
-        return tell_refusal(ring, Refusal::InvalidParam, res);
-    }
     let t = store::get_track(ring);
     let offer = turns::offer_track(t, len);
     match offer {
@@ -155,18 +143,6 @@ pub fn capture_offered(ring: &[u8], len: usize, res: &mut [u8]) -> u64
 {
     if !roomy(ring, res) {
         return BAD_LENGTH;
-    }
-    let on = store::runs(ring);
-    if !on {
-        return tell_refusal(ring, Refusal::InvalidParam, res);
-    }
-    let own = store::lent(ring);
-    if len != own {
-        return tell_refusal(ring, Refusal::BadLength, res);
-    }
-    let records = store::runs_as(ring, 1);
-    if !records {
-        return tell_refusal(ring, Refusal::InvalidParam, res);
     }
     let t = store::get_track(ring);
     let offer = turns::capture_offer(t, len);

@@ -5,7 +5,7 @@ ghost use Rattle.codes.specs.Says.{pick};
 ghost use Rattle.layout.specs.Bytes.{le, num_at};
 ghost use Rattle.turns.specs.Ring.{blank_slot};
 ghost use Rattle.ring_store.specs.Store.{ring_size, side_place, track_bytes, side_bytes, whole_of, track_of, track_at, ring_of};
-ghost use Rattle.ring_store.specs.Private.{track_over, slot_over, sent_over, blank_over, runs_with};
+ghost use Rattle.ring_store.specs.Private.{track_over, slot_over, sent_over, blank_over};
 
 use layout;
 use turns::{Sent, Slot, Track};
@@ -213,40 +213,6 @@ pub(crate) fn get_track(ring: &[u8]) -> Track
         half(ring, CAPTURE),
         word(ring, WRITTEN),
     )
-}
-
-// What a turn or an offer looks at first, each alone: one that is refused there reads no more, and
-// one that goes on reads the rest behind these tests.
-pub(crate) fn runs(ring: &[u8]) -> bool
-    requires { ring_size ≤ length ring.now }
-    ensures { result ≡ (track_at ring.now).running }
-{
-    half(ring, RUNNING) != 0
-}
-
-pub(crate) fn room(ring: &[u8]) -> usize
-    requires { ring_size ≤ length ring.now }
-    ensures { result ≡ (track_at ring.now).room }
-{
-    word(ring, ROOM) as usize
-}
-
-pub(crate) fn lent(ring: &[u8]) -> usize
-    requires { ring_size ≤ length ring.now }
-    ensures { result ≡ (track_at ring.now).lent }
-{
-    word(ring, LENT) as usize
-}
-
-// The flags are those of a transfer that runs, in a direction.
-pub(crate) fn runs_as(ring: &[u8], capture: u32) -> bool
-    requires { ring_size ≤ length ring.now }
-    ensures { result ≡ runs_with ring.now capture }
-{
-    if half(ring, RUNNING) != 1 {
-        return false;
-    }
-    half(ring, CAPTURE) == capture
 }
 
 // The track that a store holds; bytes past the end of a short one are 0. Its length is tested once.

@@ -22,13 +22,12 @@ rest_by capture c p life direction stream refuse set_up go =
     (go p.period)))))
 
 -- THE CHECKS, in their order, over what is done at each end: the lengths, the consistency of state, ring and stream, Busy, and the rest.
--- They look at the core, at the stream's own parameters, its place in its lifecycle and its direction alone. `fits`: what is pending was submitted with a ring of this mode, or it plays no
--- part: state and ring that do not fit together. `clear`: nothing is pending, or it plays no part. "A blocking transfer while any is pending is Busy, as is a submission while a transfer's
--- slots are owed"
-abbrev pub gate_by : {A : Type 0} → Bool → Bool → Bool → Bool → Core → Params → ℕ → ℕ → Track → ℕ → (Refusal → A) → A → (ℕ → A) → A
-gate_by capture lengths fits clear c p life direction t stream refuse set_up go =
+-- They look at the core, at the stream's own parameters, its place in its lifecycle and its direction alone. `clear`: nothing is pending, or it plays no part. "A blocking transfer while
+-- any is pending is Busy, as is a submission while a transfer's slots are owed"
+abbrev pub gate_by : {A : Type 0} → Bool → Bool → Bool → Core → Params → ℕ → ℕ → Track → ℕ → (Refusal → A) → A → (ℕ → A) → A
+gate_by capture lengths clear c p life direction t stream refuse set_up go =
     guard lengths (refuse BadLength)
-    (guard (consistent_of c && (ring.consistent_of t && (fits && stream_ok c p stream))) (refuse InvalidParam)
+    (guard (consistent_of c && (ring.consistent_of t && stream_ok c p stream)) (refuse InvalidParam)
     (guard (is_idle c.stage && (idle_of t && clear)) (refuse Busy)
     (rest_by capture c p life direction stream refuse set_up go)))
 

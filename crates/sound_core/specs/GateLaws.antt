@@ -29,9 +29,9 @@ pub faced-by : {A : Type 0} (P : A → Type 0) (capture : Bool) (d : ℕ) (a b :
 faced-by P true d a b f g = guarded-by P _ a b f (λ _. g)
 faced-by P false d a b f g = f refl
 
-pub gate-says : (capture lengths fits clear : Bool) (c : Core) (p : Params) (life direction : ℕ) (t : Track) (stream : ℕ)
-    → says_gate (gate_by capture lengths fits clear c p life direction t stream Shut SetUp Open) ≡ gate_by capture lengths fits clear c p life direction t stream says_refusal (says_gate SetUp) (λ (n : ℕ). says 0 (n ∷ []))
-gate-says capture lengths fits clear c p life direction t stream =
+pub gate-says : (capture lengths clear : Bool) (c : Core) (p : Params) (life direction : ℕ) (t : Track) (stream : ℕ)
+    → says_gate (gate_by capture lengths clear c p life direction t stream Shut SetUp Open) ≡ gate_by capture lengths clear c p life direction t stream says_refusal (says_gate SetUp) (λ (n : ℕ). says 0 (n ∷ []))
+gate-says capture lengths clear c p life direction t stream =
     guard-ap says_gate _ _ _
     ∙ ap (guard _ _) (guard-ap says_gate _ _ _
     ∙ ap (guard _ _) (guard-ap says_gate _ _ _

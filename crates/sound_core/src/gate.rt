@@ -45,12 +45,10 @@ fn checked_by(capture: bool, c: Core, stream: u32, p: Params, life: u8, directio
 }
 
 // The checks of a transfer, with the stream's own parameters: lengths, then consistency, then Busy,
-// then the rest. `fits`: what is pending was submitted with a ring of this mode, or it plays no part.
-// `clear`: nothing is pending, or it plays no part.
+// then the rest. `clear`: nothing is pending, or it plays no part.
 pub fn xfer_gate(
     capture: bool,
     lengths: bool,
-    fits: bool,
     clear: bool,
     c: Core,
     p: Params,
@@ -59,10 +57,10 @@ pub fn xfer_gate(
     t: Track,
     stream: u32,
 ) -> Gate
-    ensures { result ≡ gate_by capture lengths fits clear c p life direction t stream Shut SetUp Open }
+    ensures { result ≡ gate_by capture lengths clear c p life direction t stream Shut SetUp Open }
 {
     let stage = c.stage;
-    let own = both(fits, stream_ok(c, stream, p));
+    let own = stream_ok(c, stream, p);
     let sound = both(consistent(c), both(is_consistent(t), own));
     let rest = both(is_idle(t), clear);
     let free = both(is_idle_stage(stage), rest);

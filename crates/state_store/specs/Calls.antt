@@ -101,7 +101,7 @@ setting_up s stream m = setting_up_with s (Xfer stream) m
 -- of a capture or a playback, with the call that waits
 abbrev pub open_as : Bool → Call → List ℕ → Track → ℕ → List ℕ → Opened
 open_as capture call s t stream m =
-    xfer_as capture (nat_le state_size (length s) && nat_le message_size (length m)) true (none_in (sound_of s).pending) (sound_of s) t stream (shut s m) (setting_up_with s call m)
+    xfer_as capture (nat_le state_size (length s) && nat_le message_size (length m)) (none_in (sound_of s).pending) (sound_of s) t stream (shut s m) (setting_up_with s call m)
     (λ period. record { opening = Open period; state = s; message = m })
 
 unfoldable pub open_in : List ℕ → Track → ℕ → List ℕ → Opened

@@ -64,12 +64,12 @@ life-fits : (o : ℕ) (s : List ℕ) → Bytes s → LifeFits (life_at o s)
 unfolding life_at
 life-fits o s b = (num_at-below o 1 s b, tt)
 
-abbrev pub TokenFits : Token → Type 0
+abbrev TokenFits : Token → Type 0
 TokenFits x = Fit token_row (token_values x)
 
 token-fits : (o : ℕ) (s : List ℕ) → Bytes s → TokenFits (token_in o s)
 unfolding token_in
-token-fits o s b = (num_at-below o 2 s b, (num_at-below (o + 2) 2 s b, (num_at-below (o + 4) 4 s b, tt)))
+token-fits o s b = (num_at-below o 4 s b, (num_at-below (o + 4) 4 s b, tt))
 
 -- WHAT A WHOLE STORE HOLDS FITS
 pub sound-fits : (s : List ℕ) → Bytes s → whole s ≡ true → Fits (sound_of s)
@@ -251,7 +251,7 @@ module _ (s m : List ℕ) (b : Bytes s) (h : state_size ≤ length s) (r : Ring)
       let call = waiting_as capture stream in
       let g = gate_in capture call s m t stream in
       let none = none_in x.pending in
-      let e : g ≡ xfer_as capture (nat_le message_size (length m)) true none x t stream Shut SetUp Open = ap (λ (a : Bool). xfer_as capture (a && nat_le message_size (length m)) true none x t stream Shut SetUp Open) (le-leb state_size (length s) h) in
+      let e : g ≡ xfer_as capture (nat_le message_size (length m)) none x t stream Shut SetUp Open = ap (λ (a : Bool). xfer_as capture (a && nat_le message_size (length m)) none x t stream Shut SetUp Open) (le-leb state_size (length s) h) in
       ap (λ (o : Opened). sound_of o.state) (sym (opens capture call s m t stream g refl))
       ∙ by g refl
       ∙ ap (λ (y : XferStep). y.sound) (started-as capture begin x r stream (length m) (none_in x.pending) g refl e)
@@ -288,7 +288,7 @@ new-holds on s jacks streams maps h j k m =
           core = head-fits (new_core on jacks streams maps) (new-fits on jacks streams maps j k m);
           params = replicate-ok ParamsFit 127 unset (params_fit 0 [] no-page);
           lives = replicate-ok LifeFits 127 0 (lit< tt, tt);
-          tokens = replicate-ok TokenFits 32 free_token (lit< tt, (lit< tt, (lit< tt, tt)));
+          tokens = replicate-ok TokenFits 32 free_token (lit< tt, (lit< tt, tt));
           tables-12224 = length-replicate {A = ℕ} tables_bytes 0;
           params-127 = refl;
           lives-127 = refl;
@@ -323,16 +323,20 @@ bytes_after (FillMaps n) c x page p b = bytes-copied maps_place 24 n page x.tabl
 bytes_after (Store stream to) c x page p b = b
 bytes_after (Move stream life) c x page p b = b
 
-pub bytes-tables : (s : List ℕ) → Bytes s → Bytes (sound_of s).tables
+bytes-tables : (s : List ℕ) → Bytes s → Bytes (sound_of s).tables
 unfolding sound_of
 bytes-tables s b = bytes-bytes_at head_size tables_bytes s b
 
-pub state-again : (s : List ℕ) (x : Sound) → Bytes s → Bytes x.tables → Again s (state_after s x)
-state-again s x b t = picked-by (Again s) (whole s) (sets s 0 (sound_bytes x)) s (λ _. over-again s (sound_bytes x) b (bytes-sound x t)) (λ _. (b, refl))
-
 module _ (s m r : List ℕ) (b : Bytes s) where
   after-again : (q : Plan) (page : List ℕ) → Bytes page → Again s (state_after s (sound_after q.effect q.core (sound_of s) page))
-  after-again q page p = state-again s (sound_after q.effect q.core (sound_of s) page) b (bytes_after q.effect q.core (sound_of s) page p (bytes-tables s b))
+  after-again q page p = by (whole s)
+    where
+      x : Sound
+      x = sound_after q.effect q.core (sound_of s) page
+
+      by : (w : Bool) → Again s (pick w (sets s 0 (sound_bytes x)) s)
+      by true = over-again s (sound_bytes x) b (bytes-sound x (bytes_after q.effect q.core (sound_of s) page p (bytes-tables s b)))
+      by false = (b, refl)
 
   pub call-again : (t : Track) (call : Call) → Again s (call_in s t call m r).state
   unfolding call_in

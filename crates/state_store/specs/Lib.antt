@@ -10,8 +10,6 @@ pub mod Steps
 pub mod FlatTests
 -- theorems
 pub mod Holds
-pub mod TokenHolds
-pub mod WrittenOnly
 -- laws
 pub mod HeadLaws
 pub mod FlatLaws

@@ -23,11 +23,11 @@ module _ (capture : Bool) (call : Call) (s m : List ℕ) (t : Track) (stream : �
   long = nat_le state_size (length s) && nat_le message_size (length m)
 
   abbrev pub gate_in : Gate
-  gate_in = xfer_as capture long true (none_in (sound_of s).pending) (sound_of s) t stream Shut SetUp gate.Open
+  gate_in = xfer_as capture long (none_in (sound_of s).pending) (sound_of s) t stream Shut SetUp gate.Open
 
   pub gated : {b d : Bool} {c : Core} {p : Params} {life direction : ℕ} {g : Gate} → b ≡ long → d ≡ none_in (sound_of s).pending → c ≡ core_of (head_at s) → p ≡ params_of (sound_of s) stream → life ≡ life_of (sound_of s) stream
-      → direction ≡ (pcm_of (sound_of s) stream).direction → g ≡ gate_by capture b true d c p life direction t stream Shut SetUp gate.Open → g ≡ gate_in
-  gated b d c p l f g = g ∙ (λ i. gate_by capture (b i) true (d i) ((c ∙ sym (core_at s)) i) (p i) (l i) (f i) t stream Shut SetUp gate.Open)
+      → direction ≡ (pcm_of (sound_of s) stream).direction → g ≡ gate_by capture b d c p life direction t stream Shut SetUp gate.Open → g ≡ gate_in
+  gated b d c p l f g = g ∙ (λ i. gate_by capture (b i) (d i) ((c ∙ sym (core_at s)) i) (p i) (l i) (f i) t stream Shut SetUp gate.Open)
 
   -- where they are not, the gate is shut
   pub shut-short : long ≡ false → Shut BadLength ≡ gate_in
@@ -42,7 +42,7 @@ module _ (capture : Bool) (call : Call) (s m : List ℕ) (t : Track) (stream : �
   -- set-up is begun only where the lengths are right
   pub set-up-long : SetUp ≡ gate_in → (state_size ≤ length s) × (message_size ≤ length m)
   set-up-long e =
-      let h = both (nat_le state_size (length s)) (nat_le message_size (length m)) (step.set-up-long capture long true (none_in (sound_of s).pending) (sound_of s) t stream e) in
+      let h = both (nat_le state_size (length s)) (nat_le message_size (length m)) (step.set-up-long capture long (none_in (sound_of s).pending) (sound_of s) t stream e) in
       (leb-true state_size (length s) h.0, leb-true message_size (length m) h.1)
 
   abbrev pub open_by : Gate → Opened
@@ -51,7 +51,7 @@ module _ (capture : Bool) (call : Call) (s m : List ℕ) (t : Track) (stream : �
   open_by (gate.Open period) = opened (Open period) s m
 
   pub opens : (g : Gate) → g ≡ gate_in → open_by g ≡ open_as capture call s t stream m
-  opens g e = ap open_by e ∙ step.xfer-as-ap open_by capture long true (none_in (sound_of s).pending) (sound_of s) t stream Shut SetUp gate.Open
+  opens g e = ap open_by e ∙ step.xfer-as-ap open_by capture long (none_in (sound_of s).pending) (sound_of s) t stream Shut SetUp gate.Open
 
   -- what holds at each end of the checks holds of the start
   pub opened-by : (P : Opened → Type 0) → ((g : Gate) → g ≡ gate_in → P (open_by g)) → P (open_as capture call s t stream m)

@@ -27,7 +27,7 @@ pub life-sized : (l : ℕ) → length (life_bytes l) ≡ 1
 life-sized l = length-write life_row (l ∷ [])
 
 pub token-sized : (t : Token) → length (token_bytes t) ≡ 8
-token-sized t = length-write token_row (t.state ∷ t.mode ∷ t.status ∷ [])
+token-sized t = length-write token_row (t.state ∷ t.status ∷ [])
 
 pub params_same : (o : ℕ) (s : List ℕ) → Bytes s → params_bytes (params_at o s) ≡ bytes_at o 16 s
 unfolding params_at
@@ -39,7 +39,7 @@ life-same o s b = write_read o life_row s b
 
 pub token-same : (o : ℕ) (s : List ℕ) → Bytes s → token_bytes (token_in o s) ≡ bytes_at o 8 s
 unfolding token_in
-token-same o s b = simp towards_numerals at (write_read o token_row s b)
+token-same o s b = write_read o token_row s b
 
 -- ---- the core
 

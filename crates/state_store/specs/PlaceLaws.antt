@@ -1,10 +1,10 @@
 -- The parts of a store that are lent to a look are the state's own; parameters i stand at their place + i × 16, and past the last stream there is 0.
 -- Assumes nothing.
 use Rattle.std.specs.Prelude.{◌≡◌, ℕ, zero, suc, ◌+◌, ◌*◌, ◌<◌, ◌≤◌, List, [], ◌∷◌, length, take, drop, slice_index_or, refl}
-use Rattle.std.proofs.Math.Path.{sym, ap}
-use Rattle.std.proofs.Common.{ap₂, ◌∙◌, add-one, arith}
+use Rattle.std.proofs.Math.Path.{sym}
+use Rattle.std.proofs.Common.{ap, ap₂, ◌∙◌, add-one, arith}
 use Rattle.std.proofs.Math.ListN.{get_or-eq_default}
-use Rattle.layout.specs.Bytes.{bytes_at, num_at}
+use Rattle.layout.specs.Bytes.{bytes_at}
 use Rattle.layout.specs.Rows.{rows_at}
 use Rattle.layout.specs.BytesLaws.{bytes_at-part, num_at-one}
 use Rattle.layout.specs.RowsLaws.{length-rows, rows-at}
@@ -50,12 +50,3 @@ module _ (s : List ℕ) (i : ℕ) where
   pub token-out : 32 ≤ i → token_at (sound_of s).pending i ≡ free_token
   unfolding sound_of
   token-out h = rows_out token_in 8 tokens_place 32 i s free_token h
-
-  -- one field of it
-  pub state-in : {n : ℕ} → i < 32 → n ≡ num_at (tokens_place + i * 8) 2 s → n ≡ (token_at (sound_of s).pending i).state
-  unfolding token_in
-  state-in h e = e ∙ ap (λ (t : Token). t.state) (token-in (token_in (tokens_place + i * 8) s) h refl)
-
-  pub mode-in : {n : ℕ} → i < 32 → n ≡ num_at (tokens_place + i * 8 + 2) 2 s → n ≡ (token_at (sound_of s).pending i).mode
-  unfolding token_in
-  mode-in h e = e ∙ ap (λ (t : Token). t.mode) (token-in (token_in (tokens_place + i * 8) s) h refl)

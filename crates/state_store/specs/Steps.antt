@@ -74,6 +74,6 @@ pub record Held : Type 0 where
 abbrev pub held : ℕ → List ℕ → List ℕ → List ℕ → Held
 held a s places r = record { answer = a; state = s; places = places; result = r }
 
-abbrev pub held_by : ℕ → ℕ → List ℕ → ℕ → List ℕ → List ℕ → List ℕ → Spot → Held
-held_by many mode s stream payload places r (spot.Shut x) = held (refusal_word x) s places r
-held_by many mode s stream payload places r (spot.Place k) = held 0 (token_over s k (waits mode)) (placed_in places many k stream payload) (sets r 0 (le 8 k))
+abbrev pub held_by : ℕ → List ℕ → ℕ → List ℕ → List ℕ → List ℕ → Spot → Held
+held_by many s stream payload places r (spot.Shut x) = held (refusal_word x) s places r
+held_by many s stream payload places r (spot.Place k) = held 0 (token_over s k waits) (placed_in places many k stream payload) (sets r 0 (le 8 k))

@@ -102,15 +102,15 @@ life_bytes l = write life_row (l ∷ [])
 unfoldable pub life_at : ℕ → List ℕ → ℕ
 life_at o s = num_at o 1 s
 
--- what is pending under a token: its state 2, the mode of its ring 2, its status 4
+-- what is pending under a token: its state 4, its status 4
 abbrev pub token_row : List ℕ
-token_row = 2 ∷ 2 ∷ 4 ∷ []
+token_row = 4 ∷ 4 ∷ []
 
 abbrev pub token_bytes : Token → List ℕ
-token_bytes t = write token_row (t.state ∷ t.mode ∷ t.status ∷ [])
+token_bytes t = write token_row (t.state ∷ t.status ∷ [])
 
 unfoldable pub token_in : ℕ → List ℕ → Token
-token_in o s = record { state = num_at o 2 s; mode = num_at (o + 2) 2 s; status = num_at (o + 4) 4 s }
+token_in o s = record { state = num_at o 4 s; status = num_at (o + 4) 4 s }
 
 -- ---- THE STATE that a store holds, and the bytes of a state
 

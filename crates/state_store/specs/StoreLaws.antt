@@ -86,14 +86,14 @@ unfolding life_at
 life-reads o s = refl
 
 abbrev pub token_values : Token → List ℕ
-token_values t = t.state ∷ t.mode ∷ t.status ∷ []
+token_values t = t.state ∷ t.status ∷ []
 
 abbrev token_from : List ℕ → Token
-token_from vs = record { state = slice_index vs 0; mode = slice_index vs 1; status = slice_index vs 2 }
+token_from vs = record { state = slice_index vs 0; status = slice_index vs 1 }
 
 token-reads : (o : ℕ) (s : List ℕ) → token_in o s ≡ token_from (read_at o token_row s)
 unfolding token_in
-token-reads o s = simp towards_numerals
+token-reads o s = refl
 
 -- five runs and what follows, cut before each
 module _ (h t q v w : List ℕ) where

@@ -9,7 +9,7 @@ use Rattle.layout.specs.Lent.{message_size}
 use Rattle.codes.specs.Says.{guard}
 use Rattle.codes.specs.SaysLaws.{passes, stops}
 use Rattle.codes.specs.Answers.{refusal_word}
-use Rattle.pending.specs.Table.{waits, lowest_in, fits_in}
+use Rattle.pending.specs.Table.{waits, lowest_in}
 use Rattle.pending.specs.Places.{placed_in, spot_by}
 use Rattle.pending.specs.declared.place.Spot.TheVariants as spot
 use Rattle.turns.specs.Consistent as ring
@@ -18,11 +18,11 @@ use Rattle.std.specs.Consistent.{consistent_of, stream_ok}
 use Rattle.std.specs.Gate.{gate_by}
 use Rattle.std.specs.declared.gate.Gate.TheVariants as gate
 use Rattle.exchange.specs.State.{params_of, life_of}
-use Rattle.exchange.specs.Xfer.{xfer_as}
-use Rattle.exchange.specs.StepLaws.{xfer-as-ap, set-up-long}
-use Rattle.exchange.specs.Submit.{places_of, mode_of, nb_checks, refused_nb, set_up_nb, submit_of}
+use Rattle.exchange.specs.Xfer.{xfer_by}
+use Rattle.exchange.specs.StepLaws.{xfer-ap, set-up-long}
+use Rattle.exchange.specs.Submit.{places_of, refused_nb, set_up_nb, submit_of}
 use Rattle.exchange.specs.SubmitLaws.{submit_by, submitted-by}
-use Rattle.state_store.specs.Types.{Refusal, Track, Xfer, Params, Core, Sound, Gate, Shut, SetUp, Spot, Opening, NbStep}
+use Rattle.state_store.specs.Types.{Refusal, Track, Xfer, Params, Core, Sound, Pending, Gate, Shut, SetUp, Spot, Opening, NbStep}
 use Rattle.state_store.specs.Places.{state_size}
 use Rattle.state_store.specs.Store.{whole, head_at, core_of, sound_of}
 use Rattle.state_store.specs.Calls.{lengths, Opened, opened}
@@ -41,9 +41,9 @@ open-passed true false rest x y period e = let z : ◌≡◌ {A = ℕ} 0 1 = cc 
 open-passed false b rest x y period e = let z : ◌≡◌ {A = ℕ} 0 1 = cc in absurd (omega arith)
 
 -- what finding a place comes to, by what was found
-pub spot_is : (many : ℕ) (s : List ℕ) (n len period : ℕ) {k : ℕ} {g h : Spot} → k ≡ lowest_in (sound_of s).pending many → g ≡ spot_by many k n len period spot.Shut spot.Place → g ≡ h
+pub spot_is : (many : ℕ) (s : List ℕ) (n len period : ℕ) {p : Pending} {k : ℕ} {g h : Spot} → p ≡ (sound_of s).pending → k ≡ lowest_in p many → g ≡ spot_by many k n len period spot.Shut spot.Place → g ≡ h
     → h ≡ spot_by many (lowest_in (sound_of s).pending many) n len period spot.Shut spot.Place
-spot_is many s n len period k g h = sym h ∙ g ∙ ap (λ (j : ℕ). spot_by many j n len period spot.Shut spot.Place) k
+spot_is many s n len period p k g h = sym h ∙ g ∙ ap (λ (j : ℕ). spot_by many j n len period spot.Shut spot.Place) (k ∙ ap (λ (q : Pending). lowest_in q many) p)
 
 module _ (s : List ℕ) (t : Track) (stream : ℕ) (payload places m r : List ℕ) where
   abbrev n : ℕ
@@ -55,12 +55,6 @@ module _ (s : List ℕ) (t : Track) (stream : ℕ) (payload places m r : List �
   abbrev many : ℕ
   many = places_of t.descriptors
 
-  abbrev mode : ℕ
-  mode = mode_of t.descriptors
-
-  abbrev fit : Bool
-  fit = fits_in mode (sound_of s).pending
-
   abbrev long : Bool
   long = nat_le message_size (length m)
 
@@ -69,24 +63,23 @@ module _ (s : List ℕ) (t : Track) (stream : ℕ) (payload places m r : List �
   nb-unread e = stops _ _ _ e refl
 
   abbrev pub nb_gate : Gate
-  nb_gate = nb_checks long (sound_of s) t stream Shut SetUp gate.Open
+  nb_gate = xfer_by long true (sound_of s) t stream Shut SetUp gate.Open
 
-  pub nb-gated : {c : Core} {p : Params} {life k : ℕ} {b : Bool} {g : Gate} → c ≡ core_of (head_at s) → p ≡ params_of (sound_of s) stream → life ≡ life_of (sound_of s) stream → k ≡ mode → b ≡ fits_in k (sound_of s).pending
-      → g ≡ gate_by false long b true c p life 0 t stream Shut SetUp gate.Open → g ≡ nb_gate
-  nb-gated c p l d f g = g ∙ (λ i. gate_by false long ((f ∙ ap (λ (k : ℕ). fits_in k (sound_of s).pending) d) i) true ((c ∙ sym (core_at s)) i) (p i) (l i) 0 t stream Shut SetUp gate.Open)
+  pub nb-gated : {c : Core} {p : Params} {life : ℕ} {g : Gate} → c ≡ core_of (head_at s) → p ≡ params_of (sound_of s) stream → life ≡ life_of (sound_of s) stream → g ≡ gate_by false long true c p life 0 t stream Shut SetUp gate.Open → g ≡ nb_gate
+  nb-gated c p l g = g ∙ (λ i. gate_by false long true ((c ∙ sym (core_at s)) i) (p i) (l i) 0 t stream Shut SetUp gate.Open)
 
   pub nb-long : SetUp ≡ nb_gate → message_size ≤ length m
-  nb-long e = leb-true message_size (length m) (set-up-long false long fit true (sound_of s) t stream e)
+  nb-long e = leb-true message_size (length m) (set-up-long false long true (sound_of s) t stream e)
 
   abbrev nb_by : Gate → NbStep
   nb_by (Shut x) = refused_nb (sound_of s) x
   nb_by SetUp = set_up_nb (sound_of s) stream
-  nb_by (gate.Open period) = submit_of many mode (sound_of s) n len period
+  nb_by (gate.Open period) = submit_of many (sound_of s) n len period
 
   module _ (l : lengths s r ≡ true) where
     nb-is : (g : Gate) → g ≡ nb_gate → nb_left many s stream payload places m r (nb_by g) ≡ nb_in s t stream payload places m r
     unfolding nb_in
-    nb-is g e = passes _ _ _ l (ap (nb_left many s stream payload places m r) (ap nb_by e ∙ xfer-as-ap nb_by false long fit true (sound_of s) t stream Shut SetUp gate.Open))
+    nb-is g e = passes _ _ _ l (ap (nb_left many s stream payload places m r) (ap nb_by e ∙ xfer-ap nb_by long true (sound_of s) t stream Shut SetUp gate.Open))
 
     pub nb-set-up : {w : Bool} {c : Core} {q : Opening} {l₁ m₁ : List ℕ} → w ≡ whole s → c ≡ core_of (head_at s) → SetUp ≡ nb_gate → opened q l₁ m₁ ≡ setting_up_by w c s (Xfer stream) m
         → submitted 272 l₁ places m₁ r ≡ nb_in s t stream payload places m r
@@ -99,19 +92,19 @@ module _ (s : List ℕ) (t : Track) (stream : ℕ) (payload places m r : List �
       abbrev with_message : Held → Submitted
       with_message h = submitted h.answer h.state h.places m h.result
 
-      spot-end : consistent_of (sound_of s).core ≡ true → (g : Spot) → with_message (held_by many mode s stream payload places r g) ≡ nb_left many s stream payload places m r (submit_by many mode (sound_of s) n len g)
+      spot-end : consistent_of (sound_of s).core ≡ true → (g : Spot) → with_message (held_by many s stream payload places r g) ≡ nb_left many s stream payload places m r (submit_by many (sound_of s) n len g)
       spot-end h (spot.Shut x) = ap (λ (k : List ℕ). submitted (refusal_word x) k places m r) (sym (unchanged s b))
-      spot-end h (spot.Place k) = ap (λ (z : List ℕ). submitted 0 z (placed_in places many k stream payload) m (sets r 0 (le 8 k))) (token-after s b h k (waits mode))
+      spot-end h (spot.Place k) = ap (λ (z : List ℕ). submitted 0 z (placed_in places many k stream payload) m (sets r 0 (le 8 k))) (token-after s b h k waits)
 
       nb-passed : (period : ℕ) → gate.Open period ≡ nb_gate → consistent_of (sound_of s).core ≡ true
       nb-passed period e =
-          (both (consistent_of (sound_of s).core) (ring.consistent_of t && (fit && stream_ok (sound_of s).core (params_of (sound_of s) stream) stream)) (open-passed _ _ _ _ _ period e)).0
+          (both (consistent_of (sound_of s).core) (ring.consistent_of t && stream_ok (sound_of s).core (params_of (sound_of s) stream) stream) (open-passed _ _ _ _ _ period e)).0
 
-      pub nb-open : (period : ℕ) {h : Held} {k j : ℕ} → gate.Open period ≡ nb_gate → k ≡ many → j ≡ mode
-          → h ≡ held_by k j s stream payload places r (spot_by k (lowest_in (sound_of s).pending k) n len period spot.Shut spot.Place) → with_message h ≡ nb_in s t stream payload places m r
-      nb-open period e z d p =
+      pub nb-open : (period : ℕ) {h : Held} {k : ℕ} → gate.Open period ≡ nb_gate → k ≡ many
+          → h ≡ held_by k s stream payload places r (spot_by k (lowest_in (sound_of s).pending k) n len period spot.Shut spot.Place) → with_message h ≡ nb_in s t stream payload places m r
+      nb-open period e z p =
           let g = spot_by many (lowest_in (sound_of s).pending many) n len period spot.Shut spot.Place in
-          ap with_message (p ∙ (λ i. held_by (z i) (d i) s stream payload places r (spot_by (z i) (lowest_in (sound_of s).pending (z i)) n len period spot.Shut spot.Place)))
+          ap with_message (p ∙ ap (λ (k : ℕ). held_by k s stream payload places r (spot_by k (lowest_in (sound_of s).pending k) n len period spot.Shut spot.Place)) z)
           ∙ spot-end (nb-passed period e) g
-          ∙ ap (nb_left many s stream payload places m r) (submitted-by many mode (sound_of s) n len period (lowest_in (sound_of s).pending many) g refl refl)
+          ∙ ap (nb_left many s stream payload places m r) (submitted-by many (sound_of s) n len period (lowest_in (sound_of s).pending many) g refl refl)
           ∙ nb-is (gate.Open period) e

@@ -1,20 +1,19 @@
--- The tokens of a store, by place: one is stored, and what that leaves; and what is told of them.
+-- The tokens of a store, by place: all are read, one is stored, and what that leaves; and what is told of them.
 -- Assumes nothing.
-use Rattle.std.specs.Prelude.{◌≡◌, ℕ, ◌+◌, ◌*◌, ◌<◌, ◌≤◌, Bool, true, false, List, [], ◌∷◌, length, nat_lt, slice_set}
+use Rattle.std.specs.Prelude.{◌≡◌, ℕ, suc, ◌+◌, ◌*◌, ◌<◌, ◌≤◌, Bool, true, false, List, [], ◌∷◌, ◌++◌, length, take, nat_lt, slice_set}
 use Rattle.std.proofs.Math.Path.{refl, sym, ap}
-use Rattle.std.proofs.Common.{◌∙◌, append-nil, arith, ltb-true, ltb-false, le-leb}
+use Rattle.std.proofs.Common.{◌∙◌, append-nil, add-one, arith, take_all, take-suc, take-suc-set, ltb-true, ltb-false, le-leb}
 use Rattle.std.proofs.lemmas.Bool.{false≢true, lt-leb}
-use Rattle.std.proofs.Math.Numerals.{towards_numerals}
 use Rattle.std.proofs.Math.Seq.{sets, set_out}
 use Rattle.layout.specs.Bytes.{le, Bytes}
-use Rattle.layout.specs.Rows.{rows_bytes}
-use Rattle.layout.specs.RowsLaws.{length-rows}
+use Rattle.layout.specs.Rows.{rows_at, rows_bytes}
+use Rattle.layout.specs.RowsLaws.{length-rows, rows-at, rows_take}
 use Rattle.layout.specs.ChainLaws.{Stored, stored}
 use Rattle.layout.specs.Lent.{Made, made, Shown, shown}
 use Rattle.codes.specs.Says as answers
 use Rattle.codes.specs.Says.{pick, guard}
 use Rattle.codes.specs.SaysLaws.{picks, passes, stops}
-use Rattle.pending.specs.Table.{token_at, put, judged_at, mark_token, mark_of, finish_token, finish_of, count_in, seen_token, says_seen}
+use Rattle.pending.specs.Table.{free_token, token_at, put, judged_at, mark_token, mark_of, finish_token, finish_of, count_in, seen_token, says_seen}
 use Rattle.pending.specs.CallLaws.{seen_none, seen-there}
 use Rattle.pending.specs.declared.table.Seen.TheVariants as seen
 use Rattle.turns.specs.Script.{reading_of}
@@ -23,7 +22,7 @@ use Rattle.std.specs.Consistent.{consistent_of}
 use Rattle.exchange.specs.State.{configured_of}
 use Rattle.exchange.specs.Submit.{with_pending, end_by, token_seen}
 use Rattle.exchange.specs.SubmitLaws as step
-use Rattle.state_store.specs.Types.{Core, Token, Seen, TokenTold}
+use Rattle.state_store.specs.Types.{Core, Token, Pending, Seen, TokenTold}
 use Rattle.state_store.specs.Places.{head_size, params_place, lives_place, tokens_place, state_size}
 use Rattle.state_store.specs.Store.{token_row, token_in, token_bytes, whole, head_at, core_of, sound_of, sound_bytes, state_after}
 use Rattle.state_store.specs.Calls.{lengths}
@@ -34,17 +33,43 @@ use Rattle.state_store.specs.OverLaws.{token-sized, token-same, sized_of, tables
 use Rattle.state_store.specs.StoreLaws.{core_at, head-kept}
 use Rattle.state_store.specs.RefusedLaws.{state-kept, not-whole}
 
--- ---- a token at a time
+-- ---- reading all of them, a token at a time
 
--- there are 32
-pub tokens-32 : (s : List ℕ) → length (sound_of s).pending.tokens ≡ 32
+abbrev pub First : List ℕ → ℕ → List Token → Type 0
+First s k tokens = take k tokens ≡ rows_at token_in 8 tokens_place k s
+
+pub first-none : (s : List ℕ) (tokens : List Token) → First s 0 tokens
+unfolding rows_at
+first-none s tokens = refl
+
+row_more : (s : List ℕ) (k : ℕ) → rows_at token_in 8 tokens_place (suc k) s ≡ rows_at token_in 8 tokens_place k s ++ (token_in (tokens_place + k * 8) s ∷ [])
+row_more s k =
+    let l = rows_at token_in 8 tokens_place (suc k) s in
+    let n = length-rows token_in 8 tokens_place (suc k) s in
+    sym (take_all (suc k) l (omega (arith, n)))
+    ∙ take-suc l k free_token (omega (arith, n))
+    ∙ (λ i. rows_take token_in 8 tokens_place (suc k) k s (omega arith) i ++ (rows-at token_in 8 tokens_place (suc k) k s free_token (omega arith) i ∷ []))
+
+first_more : (s : List ℕ) (k : ℕ) (tokens : List Token) (t : Token) → k < length tokens → First s k tokens → t ≡ token_in (tokens_place + k * 8) s → First s (k + 1) (slice_set tokens k t)
+first_more s k tokens t h e p =
+    ap (λ (n : ℕ). take n (slice_set tokens k t)) (add-one k)
+    ∙ take-suc-set tokens k t h
+    ∙ (λ i. e i ++ (p i ∷ []))
+    ∙ sym (row_more s k)
+    ∙ ap (λ (n : ℕ). rows_at token_in 8 tokens_place n s) (sym (add-one k))
+
+pub first_next : (s : List ℕ) (k : ℕ) (tokens : List Token) (t : Token) → k < length tokens → k < 32 → First s k tokens → t ≡ token_at (sound_of s).pending k → First s (k + 1) (slice_set tokens k t)
 unfolding sound_of
-tokens-32 s = length-rows token_in 8 tokens_place 32 s
+first_next s k tokens t h l e p = first_more s k tokens t h e (p ∙ rows-at token_in 8 tokens_place 32 k s free_token l)
+
+pub first-all : (s : List ℕ) (k : ℕ) (tokens : List Token) → k ≡ 32 → length tokens ≡ 32 → First s k tokens → tokens ≡ (sound_of s).pending.tokens
+unfolding sound_of
+first-all s k tokens q h e = sym (take_all k tokens (omega (arith, q, h))) ∙ e ∙ ap (λ (n : ℕ). rows_at token_in 8 tokens_place n s) q
 
 -- ---- one token, stored
 
-pub token-stored : (s s₁ s₂ s₃ : List ℕ) (o : ℕ) (t : Token) → s₁ ≡ sets s o (le 2 t.state) → s₂ ≡ sets s₁ (o + 2) (le 2 t.mode) → s₃ ≡ sets s₂ (o + 4) (le 4 t.status) → s₃ ≡ sets s o (token_bytes t)
-token-stored s s₁ s₂ s₃ o t e₁ e₂ e₃ = stored s₃ s o token_row (t.state ∷ t.mode ∷ t.status ∷ []) (Stored.put e₁ (Stored.put {m = s₂} e₂ (Stored.put {m = s₃} (simp towards_numerals e₃) Stored.end)))
+pub token-stored : (s s₁ s₂ : List ℕ) (o : ℕ) (t : Token) → s₁ ≡ sets s o (le 4 t.state) → s₂ ≡ sets s₁ (o + 4) (le 4 t.status) → s₂ ≡ sets s o (token_bytes t)
+token-stored s s₁ s₂ o t e₁ e₂ = stored s₂ s o token_row (t.state ∷ t.status ∷ []) (Stored.put e₁ (Stored.put {m = s₂} e₂ Stored.end))
 
 module _ (s : List ℕ) (b : Bytes s) where
   -- every table before the tokens, as it was
@@ -165,12 +190,12 @@ module _ (s : List ℕ) where
     unfolding pending_in
     pending-unread e = stops _ _ _ e refl
 
-    pub pending-told : {c : Core} {n : ℕ} → lengths s r ≡ true → c ≡ core_of (head_at s) → n ≡ count_in (sound_of s).pending → count_by c n r ≡ pending_in s r
+    pub pending-told : {c : Core} {n : ℕ} {p : Pending} → lengths s r ≡ true → c ≡ core_of (head_at s) → p ≡ (sound_of s).pending → n ≡ count_in p → count_by c n r ≡ pending_in s r
     unfolding pending_in
-    pending-told {c} {n} l d q =
+    pending-told {c} {n} l d p q =
         passes _ _ _ l
         (one-by (consistent_of c) n
-        ∙ (λ i. shown_of r (configured_of ((d ∙ sym (core_at s)) i) (q i))))
+        ∙ (λ i. shown_of r (configured_of ((d ∙ sym (core_at s)) i) ((q ∙ ap count_in p) i))))
 
     module _ (token : ℕ) where
       pub seen-unread : lengths s r ≡ false → shown 10 r ≡ seen_in s token r

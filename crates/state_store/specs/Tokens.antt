@@ -12,7 +12,8 @@ use Rattle.codes.specs.Answers.{refusal_word}
 use Rattle.pending.specs.Table.{count_in, says_seen}
 use Rattle.turns.specs.Script.{reading_of}
 use Rattle.exchange.specs.State.{configured_of}
-use Rattle.exchange.specs.Submit.{places_of, mode_of, nb_checks, refused_nb, set_up_nb, submit_of, nb_store, nb_message, mark_step, finish_step, token_seen}
+use Rattle.exchange.specs.Xfer.{xfer_by}
+use Rattle.exchange.specs.Submit.{places_of, refused_nb, set_up_nb, submit_of, nb_store, nb_message, mark_step, finish_step, token_seen}
 use Rattle.exchange.specs.declared.nonblocking.NbReply.TheVariants as nb
 use Rattle.pending.specs.declared.calls.Outcome.TheVariants as outcome
 use Rattle.state_store.specs.Places.{state_size}
@@ -48,9 +49,9 @@ abbrev pub nb_left : ℕ → List ℕ → ℕ → List ℕ → List ℕ → List
 nb_left many s stream payload places m r x =
     submitted (nb_word x.reply) (state_after s x.sound) (nb_store many x.reply stream payload places) (nb_message x.reply (sound_of s) stream m) (nb_result x.reply r)
 
--- the submission by value, with the ring's track to tell its mode, Busy and the places
+-- the submission by value, with the ring's track to tell Busy and the places
 abbrev pub nb_step : Sound → Track → ℕ → ℕ → ℕ → ℕ → NbStep
-nb_step x t stream n len m = nb_checks (nat_le message_size m) x t stream (refused_nb x) (set_up_nb x stream) (submit_of (places_of t.descriptors) (mode_of t.descriptors) x n len)
+nb_step x t stream n len m = xfer_by (nat_le message_size m) true x t stream (refused_nb x) (set_up_nb x stream) (submit_of (places_of t.descriptors) x n len)
 
 unfoldable pub nb_in : List ℕ → Track → ℕ → List ℕ → List ℕ → List ℕ → List ℕ → Submitted
 nb_in s t stream payload places m r =

@@ -13,11 +13,12 @@ use crate::effect::apply;
 use crate::head::{core_by, get_head, is_whole, put_core};
 use crate::place::{HEAD, PARAMS, direction_at, life_at, look, params_at, pending_look};
 use crate::result::put_result;
-use crate::table::none_at;
+use crate::tokens::pending_in;
 use codes::{Refusal, both};
 use sound_core::{
     Call, Core, Effect, Gate, MESSAGE, Plan, Reply, ask_jacks, tell, verdict_by, xfer_gate,
 };
+use pending::is_none;
 use tables::{Verdict, Written, page_ok};
 use turns::Track;
 
@@ -217,9 +218,9 @@ fn open_as(
     let params = params_at(&state[..], stream);
     let life = life_at(&state[..], stream);
     let direction = direction_at(&state[..], stream);
-    let clear = none_at(&state[..]);
+    let clear = is_none(pending_in(&state[..]));
     let gate = xfer_gate(
-        capture, lengths, true, clear, c, params, life, direction, t, stream,
+        capture, lengths, clear, c, params, life, direction, t, stream,
     );
     match gate {
         Gate::Shut(refusal) => Opening::Says(refusal.word()),

@@ -58,6 +58,4 @@ pub(crate) const SET_PERIOD: usize = 8;
 pub(crate) const SET_FEATURES: usize = 12;
 
 // A token; its state stands first.
-pub(crate) const TOKEN_MODE: usize = 2;
-
 pub(crate) const TOKEN_STATUS: usize = 4;

@@ -8,7 +8,6 @@ mod head;
 mod nonblocking;
 mod place;
 mod result;
-mod table;
 mod tokens;
 
 pub use calls::{

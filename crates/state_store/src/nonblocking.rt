@@ -1,5 +1,5 @@
 // A submission that does not wait, on a state in a byte store.
-ghost use Rattle.std.specs.Prelude.{◌≡◌, ◌≤◌, length};
+ghost use Rattle.std.specs.Prelude.{◌≡◌, length};
 ghost use Rattle.pending.specs.Table.{lowest_in};
 ghost use Rattle.pending.specs.Places.{spot_by};
 ghost use Rattle.pending.specs.declared.place.Spot.TheVariants.{Shut, Place};
@@ -10,18 +10,16 @@ ghost use Rattle.state_store.specs.Steps.{held, held_by};
 use crate::calls::{RESULT, SIZE, set_up};
 use crate::head::{core_by, get_head, is_whole};
 use crate::place::{life_at, params_at};
-use crate::table::{fits_at, lowest_at};
-use crate::tokens::put_token;
+use crate::tokens::{pending_in, put_token};
 use codes::both;
 use sound_core::{Call, Gate, MESSAGE, xfer_gate};
-use exchange::{mode_of, places_of};
-use pending::{Spot, Token, find_spot, placed};
+use exchange::places_of;
+use pending::{Spot, Token, find_spot, lowest, placed};
 use turns::Track;
 
 // The stream's number and the payload go into one of so many places, whose token then waits.
 fn hold(
     many: usize,
-    mode: u16,
     state: &mut [u8],
     k: usize,
     stream: u32,
@@ -29,11 +27,10 @@ fn hold(
     places: &mut [u8],
     res: &mut [u8],
 ) -> u64
-    ensures { held result state.new places.new res.new ≡ held_by many mode state.old stream payload.now places.old res.old (Place k) }
+    ensures { held result state.new places.new res.new ≡ held_by many state.old stream payload.now places.old res.old (Place k) }
 {
     let waiting = Token {
         state: 1,
-        mode,
         status: 0,
     };
     placed(&mut *places, many, k, stream, payload);
@@ -45,7 +42,6 @@ fn hold(
 // The lowest free of so many places, or none.
 fn submit(
     many: usize,
-    mode: u16,
     state: &mut [u8],
     stream: u32,
     period: u32,
@@ -53,19 +49,17 @@ fn submit(
     places: &mut [u8],
     res: &mut [u8],
 ) -> u64
-    requires { many ≤ 32 }
-    ensures { held result state.new places.new res.new ≡ held_by many mode state.old stream payload.now places.old res.old (spot_by many (lowest_in (sound_of state.old).pending many) (length payload.now) (length places.old) period Shut Place) }
+    ensures { held result state.new places.new res.new ≡ held_by many state.old stream payload.now places.old res.old (spot_by many (lowest_in (sound_of state.old).pending many) (length payload.now) (length places.old) period Shut Place) }
 {
-    let free = lowest_at(&state[..], many);
+    let free = lowest(pending_in(&state[..]), many);
     let spot = find_spot(many, free, payload.len(), places.len(), period);
     match spot {
         Spot::Shut(refusal) => refusal.word(),
-        Spot::Place(k) => hold(many, mode, state, k, stream, payload, places, res),
+        Spot::Place(k) => hold(many, state, k, stream, payload, places, res),
     }
 }
 
-// One whole period, submitted without waiting, with the ring's track to tell its mode, Busy and
-// the places.
+// One whole period, submitted without waiting, with the ring's track to tell Busy and the places.
 pub fn pcm_xfer_nb(
     state: &mut [u8],
     t: Track,
@@ -85,13 +79,10 @@ pub fn pcm_xfer_nb(
     let c = core_by(whole, h);
     let params = params_at(&state[..], stream);
     let life = life_at(&state[..], stream);
-    let mode = mode_of(t.descriptors);
-    let fit = fits_at(&state[..], mode);
     // a playback's direction is not asked
     let gate = xfer_gate(
         false,
         MESSAGE <= message.len(),
-        fit,
         true,
         c,
         params,
@@ -108,7 +99,7 @@ pub fn pcm_xfer_nb(
         }
         Gate::Open(period) => {
             let many = places_of(t.descriptors);
-            submit(many, mode, state, stream, period, payload, places, res)
+            submit(many, state, stream, period, payload, places, res)
         }
     }
 }

@@ -15,10 +15,9 @@ use crate::config::show;
 use crate::fields;
 use crate::head::{core_of, get_head};
 use crate::place::{TOKEN, TOKENS};
-use crate::table::count_at;
 use codes::both;
 use sound_core::consistent;
-use pending::{Outcome, Seen, Token, Told, finish_token, mark_token, seen_token};
+use pending::{Outcome, Pending, Seen, Token, Told, count, finish_token, mark_token, seen_token};
 use turns::Reading;
 
 // A token; past the last it is free.
@@ -28,16 +27,37 @@ fn token_at(s: &[u8], k: usize) -> Token
     if 32 <= k {
         return Token {
             state: 0,
-            mode: 0,
             status: 0,
         };
     }
     let at = TOKENS + k * TOKEN;
     Token {
-        state: layout::get_u16(s, at),
-        mode: layout::get_u16(s, at + fields::TOKEN_MODE),
+        state: layout::get_u32(s, at),
         status: layout::get_u32(s, at + fields::TOKEN_STATUS),
     }
+}
+
+// All of them, over others.
+fn read_tokens(s: &[u8], old: [Token; 32]) -> [Token; 32]
+    ensures { result ≡ (sound_of s.now).pending.tokens }
+{
+    let mut tokens = old;
+    let mut k: usize = 0;
+    while k < 32 {
+        let t = token_at(s, k);
+        tokens[k] = t;
+        k += 1;
+    }
+    tokens
+}
+
+pub(crate) fn pending_in(s: &[u8]) -> Pending
+    ensures { result ≡ (sound_of s.now).pending }
+{
+    let fresh = Pending::new();
+    let old = fresh.tokens;
+    let tokens = read_tokens(s, old);
+    Pending { tokens }
 }
 
 pub(crate) fn put_token(s: &mut [u8], k: usize, t: Token)
@@ -47,8 +67,7 @@ pub(crate) fn put_token(s: &mut [u8], k: usize, t: Token)
         return;
     }
     let at = TOKENS + k * TOKEN;
-    layout::put_u16(&mut *s, at, t.state);
-    layout::put_u16(&mut *s, at + fields::TOKEN_MODE, t.mode);
+    layout::put_u32(&mut *s, at, t.state);
     layout::put_u32(&mut *s, at + fields::TOKEN_STATUS, t.status);
 }
 
@@ -116,7 +135,7 @@ pub fn pending_count(state: &[u8], res: &mut [u8]) -> u64
         return 10;
     }
     let c = core_of(get_head(state));
-    let n = count_at(state);
+    let n = count(pending_in(state));
     show(c, n, res)
 }
 

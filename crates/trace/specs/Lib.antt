@@ -14,7 +14,6 @@ pub mod Writer
 pub mod Judged
 pub mod Compared
 pub mod Written
-pub mod TracedDemand
 -- laws
 pub mod ListLaws
 pub mod AgreeLaws

@@ -15,7 +15,6 @@ use Rattle.turns.specs.ConsistentLaws.{consistent-true}
 use Rattle.turns.specs.CaseLaws.{Plain}
 use Rattle.turns.specs.RefusalLaws.{turn-answers}
 use Rattle.turns.specs.HostLaws.{Runs, call-turns, runs_on, begins}
-use Rattle.turns.specs.RefusedTurns.{Upshot, upshot, unless_ended}
 use Rattle.turns.specs.Types.{Track, Ring, Said, Going, Done, Ended, Refused, Step, Turned, Reading}
 
 -- a call on the ring
@@ -29,7 +28,18 @@ act_on r (turning len reading) = turned_of r (turn_call r.track len reading)
 act_on r (draining reading) = turned_of r (drain_call r.track reading)
 act_on r (starting stream total period budget) = started_of r (start_call r.track stream total period budget)
 
-unfoldable pub acts : Ring → List Act → Upshot Ring
+-- how calls ended a transfer, and the ring that they left; what was refused is passed over
+pub record Upshot : Type 0 where
+  pub said : Said
+  pub at : Ring
+
+abbrev pub unless_ended : Said → Ring → Upshot → Upshot
+unless_ended Going r rest = rest
+unless_ended Done r rest = record { said = Done; at = r }
+unless_ended (Ended x) r rest = record { said = Ended x; at = r }
+unless_ended (Refused x) r rest = rest
+
+unfoldable pub acts : Ring → List Act → Upshot
 acts r [] = record { said = Going; at = r }
 acts r (a ∷ cs) = let u = act_on r a in unless_ended u.said u.ring (acts u.ring cs)
 
@@ -39,6 +49,9 @@ readings len [] = []
 readings len (turning n reading ∷ cs) = pick (eqb n len) (reading ∷ readings len cs) (readings len cs)
 readings len (draining reading ∷ cs) = readings len cs
 readings len (starting stream total period budget ∷ cs) = readings len cs
+
+abbrev pub upshot : Ran Ring → Upshot
+upshot h = record { said = h.said; at = h.at }
 
 -- ---- what is refused while a transfer runs
 
@@ -69,13 +82,13 @@ module _ (len : ℕ) (t : Track) (r : Runs len t) where
 
 -- ---- a turn of the transfer's length, and what follows
 
-onward-upshot : (said : Said) (line : Line) (r : Ring) (h : Ran Ring) (w : Upshot Ring) → Plain said → (said ≡ Going → upshot h ≡ w) → upshot (onward said line r h) ≡ unless_ended said r w
+onward-upshot : (said : Said) (line : Line) (r : Ring) (h : Ran Ring) (w : Upshot) → Plain said → (said ≡ Going → upshot h ≡ w) → upshot (onward said line r h) ≡ unless_ended said r w
 onward-upshot Going line r h w p k = k refl
 onward-upshot Done line r h w p k = refl
 onward-upshot (Ended x) line r h w p k = refl
 onward-upshot (Refused x) line r h w p k = absurd p
 
-abbrev Follows : Ring → List Act → Step → Upshot Ring
+abbrev Follows : Ring → List Act → Step → Upshot
 Follows r cs s = unless_ended s.said (ring_after r s) (acts (ring_after r s) cs)
 
 any-run : (len : ℕ) (cs : List Act) (r : Ring) → Runs len r.track → upshot (turn_by_turn len (length (readings len cs)) r (readings len cs)) ≡ acts r cs

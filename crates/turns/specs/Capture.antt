@@ -25,10 +25,13 @@ captured_of period written status = pick (length_good period written) (played_of
 abbrev pub caught_of : Track → Catch → Outcome
 caught_of t c = comes_to (captured_of t.period c.written) c.reading
 
--- "a slice shorter than the record read in it": bytes are asked for where they are read, of a slot that was freed (so the oldest in flight) with a good length
-abbrev pub lends_read : ℕ → Catch → Heard → Bool
-lends_read period c Silent = true
-lends_read period c (Freed slot status) = not (length_good period c.written) || leb c.written c.lent
+-- a completion is lent what the device wrote, or all that it could have written: period plus 8 bytes
+abbrev pub reaches : Reading → ℕ → ℕ → Bool
+reaches Quiet lent need = true
+reaches (Completed slot status) lent need = leb need lent
+
+abbrev pub lends_all : Track → Catch → Bool
+lends_all t c = not t.running || reaches c.reading c.lent (min c.written (t.period + 8))
 
 -- "both last free the slot and accept nothing": a payload is accepted where its slot was freed and it came to no refusal
 abbrev pub accepts : Outcome → Heard → ℕ → ℕ
@@ -71,14 +74,11 @@ caught_turn least t c =
     let s = counted_of (turn_of least t (caught_of t c) c.reading) in
     keep_of (accepts (caught_of t c) s.heard (payload_for t c)) s
 
--- A CAPTURE'S TURN: the refusals of a turn, 10 for a recording "not as long as at the start" first; "at a completion 6, then 17", which both run the turn; then 10 for
--- fewer bytes than are read, which runs none; "then 2"
+-- A CAPTURE'S TURN: 10 for a recording "not as long as at the start", or for too few bytes of a completion; then the refusals of a turn
 unfoldable pub capture_call : Track → ℕ → Catch → Step
 capture_call t len c =
-    let s = caught_turn t.descriptors t c in
-    admit true t len (λ r. refused_of r t)
-    (guard (lends_read t.period c s.heard) (refused_of BadLength t)
-    s)
+    guard (lends_all t c) (refused_of BadLength t)
+    (admit true t len (λ r. refused_of r t) (caught_turn t.descriptors t c))
 
 -- "Accepted payloads are joined into a lent recording .. Only the recording's first accepted bytes change"
 abbrev pub recording_after : Track → Step → List ℕ → List ℕ → List ℕ

@@ -7,8 +7,8 @@ use Rattle.std.proofs.lemmas.Bool.{lt-leb}
 use Rattle.turns.specs.Rules.{turn_of, counted_of}
 use Rattle.turns.specs.CallLaws.{both-fails, both_rest}
 use Rattle.turns.specs.KeepLaws.{turn-after}
-use Rattle.turns.specs.Capture.{length_good, accepts, payload_for, recording_after}
-use Rattle.turns.specs.Types.{Track, Heard, Silent, Freed, Step, Reading, Outcome, Fine, Fails, Catch}
+use Rattle.turns.specs.Capture.{length_good, reaches, lends_all, accepts, payload_for, recording_after}
+use Rattle.turns.specs.Types.{Track, Heard, Silent, Freed, Step, Reading, Quiet, Completed, Outcome, Fine, Fails, Catch}
 
 -- ---- the written length
 
@@ -30,11 +30,15 @@ or-first a b e = rw e
 or-last : (a b z : Bool) → z ≡ b → a ≡ false → z ≡ (a || b)
 or-last a b z e f = rw f e
 
-pub reaches-bad : (good rest : Bool) → good ≡ false → true ≡ (not good || rest)
-reaches-bad good rest e = or-first (not good) rest (ap not e)
+pub lends-idle : (t : Track) (c : Catch) → not t.running ≡ true → true ≡ lends_all t c
+lends-idle t c e = or-first _ _ e
 
-pub reaches-good : (good rest z : Bool) → good ≡ true → z ≡ rest → z ≡ (not good || rest)
-reaches-good good rest z e h = or-last (not good) rest z h (ap not e)
+pub lends-quiet : (t : Track) (c : Catch) → not t.running ≡ false → c.reading ≡ Quiet → true ≡ lends_all t c
+lends-quiet t c e q = or-last _ _ true (sym (ap (λ (x : Reading). reaches x c.lent (min c.written (t.period + 8))) q)) e
+
+pub lends-last : (t : Track) (c : Catch) (slot status need : ℕ) (b : Bool) → not t.running ≡ false → c.reading ≡ Completed slot status → need ≡ min c.written (t.period + 8) → b ≡ leb need c.lent → b ≡ lends_all t c
+lends-last t c slot status need b e q n h =
+    or-last _ _ b (h ∙ ap (λ (k : ℕ). leb k c.lent) n ∙ sym (ap (λ (x : Reading). reaches x c.lent (min c.written (t.period + 8))) q)) e
 
 -- ---- what is accepted
 

@@ -1,6 +1,6 @@
 -- What demand 3 takes of a capture and what it asks (2026-09), as definitions over its log, its ring and its recording.
 -- Assumes nothing.
-use Rattle.std.specs.Prelude.{ℕ, ◌+◌, ◌-◌, ◌*◌, ◌%◌, ◌≤◌, ◌<◌, ◌≡◌, ◌⊎◌, List, [], ◌∷◌, ◌++◌, length, get_or, take, drop}
+use Rattle.std.specs.Prelude.{ℕ, ◌+◌, ◌-◌, ◌*◌, ◌%◌, ◌≤◌, ◌<◌, min, ◌≡◌, ◌⊎◌, List, [], ◌∷◌, ◌++◌, length, get_or, take, drop}
 use Rattle.turns.specs.Cut.{join}
 use Rattle.turns.specs.Rules.{choose_of, comes_to}
 use Rattle.turns.specs.Calls.{turned_of, started_of}
@@ -55,10 +55,9 @@ captures r stream periods period budget recording script = takes budget (record 
 
 -- ---- what it takes
 
--- of a completion (kind 0 is quiet) with a good length the host lends what the device wrote: else, where its slot is the oldest in flight, the turn is refused with 10
--- and changes nothing
+-- of a completion (kind 0 is quiet) the host lends what the device wrote, or all that it could have written: else the turn is refused with 10, and changes nothing
 abbrev pub Lends : ℕ → Came → Type 0
-Lends period x = (x.kind ≡ 0) ⊎ (8 ≤ x.written → x.written ≤ period + 8 → x.written ≤ length x.bytes)
+Lends period x = (x.kind ≡ 0) ⊎ (min x.written (period + 8) ≤ length x.bytes)
 
 -- "if every written length is good"
 abbrev pub LengthGood : ℕ → Came → Type 0

@@ -1,9 +1,9 @@
 -- What the consistency test says of a track, as facts, and back.
 -- Assumes nothing.
-use Rattle.std.specs.Prelude.{ℕ, ◌+◌, ◌-◌, ◌*◌, ◌%◌, ◌≤◌, ◌<◌, ◌≡◌, refl, Bool, true, false, ◌&&◌, ◌||◌, not, ltb, eqb}
-use Rattle.std.proofs.Common.{le-div_iff_mul-le, inl, inr, arith, sym, ◌∙◌, subst, lt-ltb, ltb-true, ltb-false, le-leb, leb-true, eq-eqb, ne_eqb, eqb-true}
+use Rattle.std.specs.Prelude.{ℕ, ◌+◌, ◌*◌, ◌%◌, ◌≤◌, ◌<◌, ◌≡◌, refl, Bool, true, false, ◌&&◌, ◌||◌, not, ltb, eqb}
+use Rattle.std.proofs.Common.{le-div_iff_mul-le, inl, inr, arith, sym, ◌∙◌, lt-ltb, ltb-true, ltb-false, le-leb, leb-true, eq-eqb, ne_eqb, eqb-true}
 use Rattle.std.proofs.lemmas.Bool.{false≢true}
-use Rattle.turns.specs.Ring.{direct, indirect, most_of, free}
+use Rattle.turns.specs.Ring.{direct, indirect, most_of}
 use Rattle.turns.specs.Consistent.{mode_ok, placed_of, paced_of, kept_of, good_of, consistent_of}
 use Rattle.turns.specs.Types.{Track}
 use Rattle.turns.specs.Private.{Mode, Placed}
@@ -94,29 +94,6 @@ paced-true t p = rw (le-leb _ _ p.within) (paced-by t.running _ _ (λ h. lt-ltb 
 -- no more are in flight than descriptors are for
 pub few : (t : Track) → Placed t → t.inflight ≤ most_of t.descriptors
 few t p = (le-div_iff_mul-le (mode_small t.descriptors p.mode).0).1 p.room
-
--- the most that may be in flight, as the code tells it
-pub most-direct : (d : ℕ) → d ≡ direct → 10 ≡ most_of d
-most-direct d e = subst (λ (k : ℕ). 10 ≡ most_of k) (sym e) refl
-
-pub most-last : (d : ℕ) → Mode d → (d ≡ direct → ⊥) → 32 ≡ most_of d
-most-last d (inl e) n = absurd (n e)
-most-last d (inr e) n = subst (λ (k : ℕ). 32 ≡ most_of k) (sym e) refl
-
--- by that number: room for one more, or none
-mode-full : (i d : ℕ) → Mode d → most_of d ≤ i → 32 - i * d < d
-mode-full i d (inl e) h = subst (λ (k : ℕ). most_of k ≤ i → 32 - i * k < k) (sym e) (λ g. omega arith) h
-mode-full i d (inr e) h = subst (λ (k : ℕ). most_of k ≤ i → 32 - i * k < k) (sym e) (λ g. omega arith) h
-
-mode-free : (i d : ℕ) → Mode d → i < most_of d → d ≤ 32 - i * d
-mode-free i d (inl e) h = subst (λ (k : ℕ). i < most_of k → k ≤ 32 - i * k) (sym e) (λ g. omega arith) h
-mode-free i d (inr e) h = subst (λ (k : ℕ). i < most_of k → k ≤ 32 - i * k) (sym e) (λ g. omega arith) h
-
-pub full : (t : Track) (least : ℕ) → (least ≡ t.descriptors) × Placed t → {n : ℕ} → n ≡ most_of least → n ≤ t.inflight → free t < least
-full t least p e h = subst (λ (k : ℕ). free t < k) (sym p.0) (mode-full t.inflight t.descriptors p.1.mode (subst (λ (k : ℕ). most_of k ≤ t.inflight) p.0 (subst (λ (k : ℕ). k ≤ t.inflight) e h)))
-
-pub roomy : (t : Track) (least : ℕ) → (least ≡ t.descriptors) × Placed t → {n : ℕ} → n ≡ most_of least → t.inflight < n → least ≤ free t
-roomy t least p e h = subst (λ (k : ℕ). k ≤ free t) (sym p.0) (mode-free t.inflight t.descriptors p.1.mode (subst (λ (k : ℕ). t.inflight < most_of k) p.0 (subst (λ (k : ℕ). t.inflight < k) e h)))
 
 pub few-slots : (t : Track) → Placed t → t.inflight ≤ 32
 few-slots t p = by t.descriptors p.mode p.room

@@ -109,7 +109,6 @@ module _ (least stream period budget : ℕ) (frames : List ℕ) (t : Track) (scr
         back = accepted _ 0 (frees o.log) k.back (omega arith);
         owed = omega (arith, k.owed);
         oldest = simp zero-add at (k.oldest (omega arith));
-        timely = λ i. omega (arith, k.timely i);
       }
 
   pub run-only-if : OnlyIf stream period frames (run played least budget (begun t stream (length frames) period budget) script)

@@ -22,7 +22,7 @@ use Rattle.turns.specs.KeepLaws.{turn-plain, turn-after}
 use Rattle.turns.specs.HostLaws.{RunsAs, admits, runs_on}
 use Rattle.turns.specs.AccountLaws.{Fair, FairOf, fair-of, Just, played-just, Two, more-frees}
 use Rattle.turns.specs.Log.{Line, Ran, Told, onward, waiting_by, line_of, next_of, rest_of, loop_of, Judge, judged_of, ruled, run, frees_more, frees}
-use Rattle.turns.specs.Capture.{catch_of, length_good, captured_of, caught_of, lends_read, accepts, payload_for, kept_more, keep_of, caught_turn, capture_call, recording_after}
+use Rattle.turns.specs.Capture.{catch_of, length_good, captured_of, caught_of, reaches, lends_all, accepts, payload_for, kept_more, keep_of, caught_turn, capture_call, recording_after}
 use Rattle.turns.specs.CaptureLaws.{accepts-most, keeps-room}
 use Rattle.turns.specs.Captured.{Came, nothing_came, catch_in, payload_of, captured, Taken, taking, takes, Lends, LengthGood, taken_more, taken}
 use Rattle.turns.specs.Types.{Track, Ring, Sent, Nothing, Period, Heard, Silent, Freed, Said, Going, Done, Ended, Refused, Step, Reading, Quiet, Completed, Choice, Submit, Finish, Wait, Outcome, Fine, Fails, Verdict, WrongSlot, Good, Bad, Catch}
@@ -126,40 +126,27 @@ waits-bare Wait t = refl
 
 -- ---- ONE TURN of a capture that runs, with enough bytes lent
 
--- a quiet reading frees nothing
-act-quiet : (c : Choice) (t : Track) (o : Outcome) → (act c t o Quiet).heard ≡ Silent
-act-quiet Submit t o = refl
-act-quiet Finish t o = refl
-act-quiet Wait t o = refl
+reach : (reading : Reading) (lent need : ℕ) → need ≤ lent → reaches reading lent need ≡ true
+reach Quiet lent need h = refl
+reach (Completed slot status) lent need h = le-leb need lent h
 
-turn-quiet : (least : ℕ) (t : Track) (o : Outcome) (reading : Reading) → reading ≡ Quiet → (counted_of (turn_of least t o reading)).heard ≡ Silent
-unfolding turn_of
-turn-quiet least t o reading e =
-    let k : (turn_of least t o reading).heard ≡ Silent = ap (λ (y : Reading). (act (choose_of least t) t o y).heard) e ∙ act-quiet (choose_of least t) t o in
-    counted-cases (λ s. s.heard ≡ Silent) (turn_of least t o reading) (turn-plain least t o reading) (λ _. k) (λ _ _. k)
+or-true : (a b : Bool) → b ≡ true → (a || b) ≡ true
+or-true true b e = refl
+or-true false b e = e
 
 quiet_of : (x : Came) → x.kind ≡ 0 → (catch_in x).reading ≡ Quiet
 unfolding catch_of
 quiet_of x e = picks (eqb x.kind 0) Quiet _ (eq-eqb _ _ e)
 
-lends_by : (period : ℕ) (c : Catch) (good : Bool) → length_good period c.written ≡ good → (8 ≤ c.written → c.written ≤ period + 8 → c.written ≤ c.lent)
-    → (not good || leb c.written c.lent) ≡ true
-lends_by period c true e h = let b = both (leb 8 c.written) (leb c.written (period + 8)) e in le-leb _ _ (h (leb-true _ _ b.0) (leb-true _ _ b.1))
-lends_by period c false e h = refl
-
-lends-heard : (period : ℕ) (c : Catch) (heard : Heard) → (8 ≤ c.written → c.written ≤ period + 8 → c.written ≤ c.lent) → lends_read period c heard ≡ true
-lends-heard period c Silent h = refl
-lends-heard period c (Freed slot status) h = lends_by period c (length_good period c.written) refl h
-
-lends-turn : (t : Track) (x : Came) → Lends t.period x → lends_read t.period (catch_in x) (caught_turn t.descriptors t (catch_in x)).heard ≡ true
+lends-reach : (period : ℕ) (x : Came) → Lends period x → reaches (catch_in x).reading (catch_in x).lent (min (catch_in x).written (period + 8)) ≡ true
 unfolding catch_of
-lends-turn t x (inl e) = ap (lends_read t.period (catch_in x)) (turn-quiet t.descriptors t (caught_of t (catch_in x)) (catch_in x).reading (quiet_of x e))
-lends-turn t x (inr h) = lends-heard t.period (catch_in x) (caught_turn t.descriptors t (catch_in x)).heard h
+lends-reach period x (inl e) = ap (λ (y : Reading). reaches y (length x.bytes) (min x.written (period + 8))) (quiet_of x e)
+lends-reach period x (inr h) = reach (catch_in x).reading (length x.bytes) (min x.written (period + 8)) h
 
 -- lent enough, the call is the rules' turn and what it accepted
 pub call-takes : (len : ℕ) (t : Track) (x : Came) → Lends t.period x → RunsAs true len t → caught_turn t.descriptors t (catch_in x) ≡ capture_call t len (catch_in x)
 unfolding capture_call
-call-takes len t x l r = passes _ _ _ (lends-turn t x l) refl ∙ admits true len t (λ y. refused_of y t) _ r
+call-takes len t x l r = passes _ _ _ (or-true (not t.running) _ (lends-reach t.period x l)) (admits true len t (λ y. refused_of y t) _ r)
 
 -- what was accepted changes nothing else
 keep-runs : (len more : ℕ) (t : Track) → t.kept + more ≤ t.lent → RunsAs true len t → RunsAs true len (kept_more more t)
@@ -347,10 +334,10 @@ turn-roomy least most payload t o reading p small r =
     (λ _ _. record { left = k.left; all = k.all; room = k.room })
 
 -- a turn's payload is good for what it accepts, and no longer than a period
-payload-by : (t : Track) (x : Came) (reading : Reading) → (8 ≤ x.written → x.written ≤ t.period + 8 → x.written ≤ length x.bytes)
-    → comes_to (captured_of t.period x.written) reading ≡ Fine → (reading ≡ Quiet) ⊎ ((x.written - 8 ≤ t.period) × (x.written ≤ length x.bytes))
+payload-by : (t : Track) (x : Came) (reading : Reading) → min x.written (t.period + 8) ≤ length x.bytes → comes_to (captured_of t.period x.written) reading ≡ Fine
+    → (reading ≡ Quiet) ⊎ ((x.written - 8 ≤ t.period) × (x.written ≤ length x.bytes))
 payload-by t x Quiet l e = inl refl
-payload-by t x (Completed slot status) l e = let g = fine-good t.period x.written status e in inr (omega arith, l g.0 g.1)
+payload-by t x (Completed slot status) l e = let g = fine-good t.period x.written status e in inr (omega arith, omega arith)
 
 small-payload : (t : Track) (x : Came) → Lends t.period x → comes_to (captured_of t.period x.written) (catch_in x).reading ≡ Fine
     → ((catch_in x).reading ≡ Quiet) ⊎ ((x.written - 8 ≤ t.period) × (x.written ≤ length x.bytes))
@@ -399,6 +386,18 @@ unfolding turn_of
 turn-freed least most t o reading p r slot status =
     let k = act-freed least most t o reading (choose_of least t) (chosen least t) p r slot status in
     counted-cases (λ s. s.heard ≡ Freed slot status → t.kept + t.period ≤ most) (turn_of least t o reading) (turn-plain least t o reading) (λ _. k) (λ _ _. k)
+
+-- a quiet reading frees nothing
+act-quiet : (c : Choice) (t : Track) (o : Outcome) → (act c t o Quiet).heard ≡ Silent
+act-quiet Submit t o = refl
+act-quiet Finish t o = refl
+act-quiet Wait t o = refl
+
+turn-quiet : (least : ℕ) (t : Track) (o : Outcome) (reading : Reading) → reading ≡ Quiet → (counted_of (turn_of least t o reading)).heard ≡ Silent
+unfolding turn_of
+turn-quiet least t o reading e =
+    let k : (turn_of least t o reading).heard ≡ Silent = ap (λ (y : Reading). (act (choose_of least t) t o y).heard) e ∙ act-quiet (choose_of least t) t o in
+    counted-cases (λ s. s.heard ≡ Silent) (turn_of least t o reading) (turn-plain least t o reading) (λ _. k) (λ _ _. k)
 
 -- what a turn accepts, as bytes
 abbrev got_of : ℕ → Came → Heard → List ℕ

@@ -100,7 +100,7 @@ captured-just-in-time = (refl, refl, refl, refl)
 pub capture-premises-met : All (Lends 4) heard_three × All (LengthGood 4) heard_three × All NoFault captureds.log × CompletesWithin 2 captureds.log
 unfolding loop_of capture_start capture_call catch_of captured_of guard placed_of paced_of turn_of choose_of played_of is_oldest judge_of counted_of bytes_at num_at un
 capture-premises-met = (
-  (inl refl, (inr (λ _ _. omega arith), (inl refl, (inr (λ _ _. omega arith), (inl refl, (inr (λ _ _. omega arith), tt)))))),
+  (inl refl, (inr (omega arith), (inl refl, (inr (omega arith), (inl refl, (inr (omega arith), tt)))))),
   (inl refl, (inr (omega arith, omega arith), (inl refl, (inr (omega arith, omega arith), (inl refl, (inr (omega arith, omega arith), tt)))))),
   by-faultless captureds.log refl,
   by-within 2 captureds.log refl,

@@ -1,9 +1,9 @@
 // Receive turns: the device writes periods, and accepted payloads are joined into a lent recording.
 // Turn order, ring and budget are playback's: the rules are the very same.
-ghost use Rattle.std.specs.Prelude.{◌≡◌, ◌+◌, ◌-◌, ◌≤◌, length, true, ◌||◌, not, leb};
+ghost use Rattle.std.specs.Prelude.{◌≡◌, ◌+◌, ◌-◌, ◌≤◌, min, length, true};
 ghost use Rattle.turns.specs.Calls.{started_of};
 ghost use Rattle.turns.specs.ConsistentLaws.{Consistent};
-ghost use Rattle.turns.specs.Capture.{catch_of, length_good, captured_of, caught_of, lends_read, accepts, payload_for, keep_of, caught_turn, capture_call, recording_after, Captures, capture_start, capture_offer};
+ghost use Rattle.turns.specs.Capture.{catch_of, length_good, captured_of, caught_of, lends_all, accepts, payload_for, keep_of, caught_turn, capture_call, recording_after, Captures, capture_start, capture_offer};
 
 use crate::calls::Offer;
 use crate::consistent::is_consistent;
@@ -82,24 +82,31 @@ fn caught(t: Track, c: Catch) -> Outcome
     }
 }
 
-// The bytes of a completion reach as far as they are read: to the end of a good length.
-fn reaches(period: usize, c: Catch) -> bool
-    ensures { result ≡ (not (length_good period c.written) || leb c.written c.lent) }
+// The bytes that a completion needs: what was written, or all that a device may write.
+fn needed(period: usize, written: u32) -> usize
+    ensures { result ≡ min written (period + 8) }
 {
-    let good = length_good(period, c.written);
-    if !good {
-        return true;
+    let good = payload_len(written);
+    if good <= period {
+        return written as usize;
     }
-    c.written as usize <= c.lent
+    period + 8
 }
 
-// A completion is lent the bytes that are read of it: none, where its slot was not freed.
-fn lends_read(period: usize, c: Catch, heard: Heard) -> bool
-    ensures { result ≡ lends_read period c heard }
+// A completion is lent enough bytes.
+fn lends_all(t: Track, c: Catch) -> bool
+    ensures { result ≡ lends_all t c }
 {
-    match heard {
-        Heard::Silent => true,
-        Heard::Freed { slot: _, status: _ } => reaches(period, c),
+    if !t.running {
+        return true;
+    }
+    let reading = c.reading;
+    match reading {
+        Reading::Quiet => true,
+        Reading::Completed { slot: _, status: _ } => {
+            let need = needed(t.period, c.written);
+            need <= c.lent
+        }
     }
 }
 
@@ -160,6 +167,10 @@ fn caught_turn(t: Track, c: Catch) -> Step
 pub fn capture_track(t: Track, len: usize, c: Catch) -> Step
     ensures { result ≡ capture_call t len c }
 {
+    let lends = lends_all(t, c);
+    if !lends {
+        return calls::refused(Refusal::BadLength, t);
+    }
     let agrees = calls::length_agrees(t, len);
     if !agrees {
         return calls::refused(Refusal::BadLength, t);
@@ -172,13 +183,7 @@ pub fn capture_track(t: Track, len: usize, c: Catch) -> Step
     if !runs {
         return calls::refused(Refusal::InvalidParam, t);
     }
-    let s = caught_turn(t, c);
-    let heard = s.heard;
-    let lends = lends_read(t.period, c, heard);
-    if !lends {
-        return calls::refused(Refusal::BadLength, t);
-    }
-    s
+    caught_turn(t, c)
 }
 
 // A capture's turn, lent its recording and the bytes of the completion: rule 1 and rule 2, counted.

@@ -1,8 +1,6 @@
 // The consistency test of a ring: what calls leave never fails it.
 ghost use Rattle.std.specs.Prelude.{◌≡◌};
-ghost use Rattle.turns.specs.Ring.{most_of};
 ghost use Rattle.turns.specs.Consistent.{mode_ok, placed_of, paced_of, consistent_of};
-ghost use Rattle.turns.specs.Private.{Mode};
 
 use crate::ring::{DIRECT, INDIRECT, Track};
 
@@ -14,14 +12,6 @@ pub fn mode_ok(descriptors: usize) -> bool
         return true;
     }
     descriptors == INDIRECT
-}
-
-// How many may be in flight that take so many descriptors each, told without a division.
-pub(crate) fn most(each: usize) -> usize
-    requires { Mode each }
-    ensures { result ≡ most_of each }
-{
-    if each == DIRECT { 10 } else { 32 }
 }
 
 // The slots are in line.
@@ -37,7 +27,7 @@ fn placed(t: Track) -> bool
         return false;
     }
     // in flight × descriptors is then at most 32
-    if most(t.descriptors) < inflight {
+    if 32 / t.descriptors < inflight {
         return false;
     }
     // which head below 32 follows from

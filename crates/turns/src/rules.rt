@@ -4,7 +4,6 @@ ghost use Rattle.turns.specs.Cut.{span_of};
 ghost use Rattle.turns.specs.Rules.{choose_of, sent_of, submit, comes_to, played_of, is_oldest, judge_of, release, accept, settle, hear, turn_of, ticked, counted_of};
 ghost use Rattle.turns.specs.Private.{Placed};
 
-use crate::consistent::most;
 use crate::reading::Reading;
 use crate::ring::{Heard, Said, Sent, Step, Track};
 use codes::{Cause, Refusal, StatusCode};
@@ -43,11 +42,11 @@ fn span(period: usize, total: usize, offset: usize) -> usize
 
 // Rule 1's decision.
 pub(crate) fn choose(least: usize, t: Track) -> Choice
-    requires { (least ≡ t.descriptors) × Placed t }
+    requires { t.inflight * t.descriptors ≤ 32 }
     ensures { result ≡ choose_of least t }
 {
     let inflight = t.inflight;
-    if most(least) <= inflight {
+    if 32 - inflight * t.descriptors < least {
         return Choice::Wait;
     }
     if t.next < t.total {
@@ -211,7 +210,7 @@ fn hear(outcome: Outcome, sent: Sent, t: Track, reading: Reading) -> Step
 
 // One turn: rule 1, then rule 2.
 pub(crate) fn turn(least: usize, t: Track, outcome: Outcome, reading: Reading) -> Step
-    requires { (least ≡ t.descriptors) × (Placed t) × (t.next ≤ t.total) × (t.good < t.budget) }
+    requires { (Placed t) × (t.next ≤ t.total) × (t.good < t.budget) }
     ensures { result ≡ turn_of least t outcome reading }
 {
     let choice = choose(least, t);

@@ -148,7 +148,7 @@ module _ (c f r n : ℕ) (t : List ℕ) (hf : among f wave_formats ≡ true) (hr
       (passes _ _ _ (le-leb (8 + num_at 4 4 file) (length file) (omega arith)) (passes _ _ _ (eq-eqb (num_at 8 4 file) wave_tag (at 2)) in-back)))
 
 -- THE ROUND TRIP: where the writer is done, reading what the lent slice then holds gives the three back, and shows the frames: these very bytes, from byte 44 on
-module _ (c f r : ℕ) (frames l : List ℕ) (m : ℕ) (wrote : Done m ≡ wrote_of c f r (length frames) (length l)) where
+module _ (c f r : ℕ) (frames l : List ℕ) (m : ℕ) (small : c < 256) (wrote : Done m ≡ wrote_of c f r (length frames) (length l)) where
   abbrev left : List ℕ
   left = written_by (wrote_of c f r (length frames) (length l)) (file_of c f r frames) l
 
@@ -174,7 +174,7 @@ module _ (c f r : ℕ) (frames l : List ℕ) (m : ℕ) (wrote : Done m ≡ wrote
   pub reads-back : wave_of left ≡ read_back c f r (length frames)
   reads-back =
       let w = (done c f r (length frames) (length l) m wrote).1 in
-      ap wave_of left_is ∙ sym (read_back_lem c f r (length frames) tail w.format w.rate w.channels w.narrow w.small tail-long)
+      ap wave_of left_is ∙ sym (read_back_lem c f r (length frames) tail w.format w.rate w.channels small w.small tail-long)
 
   pub shows-back : shown_by (wave_of left) left ≡ frames
   unfolding tail
@@ -205,4 +205,4 @@ is-written = refl
 
 pub written-reads-back : wave_of written ≡ read_back 1 5 1 4
 unfolding zeros
-written-reads-back = reads-back 1 5 1 samples fifty 48 is-written
+written-reads-back = reads-back 1 5 1 samples fifty 48 (lit< tt) is-written

@@ -90,11 +90,10 @@ wrote_of channels format rate n room =
     guard (among format wave_formats) wrote.BadSound
     (guard (ltb rate 14) wrote.BadSound
     (guard (ltb 0 channels) wrote.BadSound
-    (guard (ltb channels 256) wrote.BadSound
     (guard (eqb (n % block_of channels format) 0) wrote.BadSound
     (guard (leb (padded n) 4294967259) wrote.BadSound
     (guard (leb (44 + padded n) room) BadLength
-    (Done (44 + padded n))))))))
+    (Done (44 + padded n)))))))
 
 abbrev pub says_wrote : WroteWave → Says
 says_wrote (Done n) = says 0 (n ∷ [])

@@ -18,7 +18,7 @@ use Rattle.codes.specs.declared.rates.PcmRate.{PcmRate}
 use Rattle.wav.specs.Chunks.{padded}
 use Rattle.wav.specs.WaveLaws.{opened}
 use Rattle.wav.specs.Wave.{wave_formats, block_of, wrote_of, header, header_values, header_of, file_of}
-use Rattle.wav.specs.Types.{WroteWave, Done, BadLength}
+use Rattle.wav.specs.Types.{Done, BadLength}
 use Rattle.wav.specs.declared.writer.WroteWave.TheVariants.{BadSound}
 
 -- ---- one of the four formats
@@ -49,18 +49,6 @@ is_held n v e = let t = took (among n wave_formats) 0 (n ∷ []) (v ∷ []) e in
 pub not-held : (n : ℕ) → says 1 [] ≡ code_says wave_formats 1 n → among n wave_formats ≡ false
 not-held n e = refused (among n wave_formats) 0 (n ∷ []) e
 
-pub none_above : (k : ℕ) → 25 ≤ k → among k wave_formats ≡ false
-none_above k h = of (among k wave_formats) refl
-  where
-    below : among k wave_formats ≡ true → k < 25
-    below = by_code (λ i. i < 25) k 4 (5 ∷ 11 ∷ 17 ∷ []) (lit< tt)
-        (by_code (λ i. i < 25) k 5 (11 ∷ 17 ∷ []) (lit< tt)
-        (by_code (λ i. i < 25) k 11 (17 ∷ []) (lit< tt) (by_code (λ i. i < 25) k 17 [] (lit< tt) (λ e. absurd (never e)))))
-
-    of : (t : Bool) → among k wave_formats ≡ t → t ≡ false
-    of true e = absurd (omega (arith, h, below e))
-    of false e = refl
-
 pub some_block : (channels k : ℕ) → among k wave_formats ≡ true → 0 < channels → 0 < block_of channels k
 some_block channels k e h = mul-pos h (held-bits k e).0
 
@@ -76,20 +64,12 @@ byte-rate r hz b e h =
     let p : hz * b ≤ 384000 * 7905 = mul-le-mul q h in
     omega arith
 
--- ---- a test before another, both of which refuse alike
-
-pub refuses-all-the-same : (t : Bool) (x : WroteWave) → BadSound ≡ x → BadSound ≡ guard t BadSound x
-unfolding guard
-refuses-all-the-same true x e = e
-refuses-all-the-same false x e = refl
-
 -- ---- a file that is written: what was tested
 
 pub record Fits (c f r n room : ℕ) : Type 0 where
   pub format : among f wave_formats ≡ true
   pub rate : r < 14
   pub channels : 0 < c
-  pub narrow : c < 256
   pub whole : n % block_of c f ≡ 0
   pub small : padded n ≤ 4294967259
   pub enough : 44 + padded n ≤ room
@@ -102,14 +82,12 @@ done c f r n room m e =
     let t₆ = guard (leb (44 + padded n) room) BadLength (Done (44 + padded n)) in
     let t₅ = guard (leb (padded n) 4294967259) BadSound t₆ in
     let t₄ = guard (eqb (n % block_of c f) 0) BadSound t₅ in
-    let t = guard (ltb c 256) BadSound t₄ in
-    let t₃ = guard (ltb 0 c) BadSound t in
+    let t₃ = guard (ltb 0 c) BadSound t₄ in
     let t₂ = guard (ltb r 14) BadSound t₃ in
     let p₁ = opened (among f wave_formats) BadSound t₂ (Done m) e no₁ in
     let p₂ = opened (ltb r 14) BadSound t₃ (Done m) p₁.1 no₁ in
-    let p₃ = opened (ltb 0 c) BadSound t (Done m) p₂.1 no₁ in
-    let p = opened (ltb c 256) BadSound t₄ (Done m) p₃.1 no₁ in
-    let p₄ = opened (eqb (n % block_of c f) 0) BadSound t₅ (Done m) p.1 no₁ in
+    let p₃ = opened (ltb 0 c) BadSound t₄ (Done m) p₂.1 no₁ in
+    let p₄ = opened (eqb (n % block_of c f) 0) BadSound t₅ (Done m) p₃.1 no₁ in
     let p₅ = opened (leb (padded n) 4294967259) BadSound t₆ (Done m) p₄.1 no₁ in
     let p₆ = opened (leb (44 + padded n) room) BadLength (Done (44 + padded n)) (Done m) p₅.1 no₂ in
     let x : m ≡ 44 + padded n = cc p₆.1 in (
@@ -118,7 +96,6 @@ done c f r n room m e =
         format = p₁.0;
         rate = ltb-true r 14 p₂.0;
         channels = ltb-true 0 c p₃.0;
-        narrow = ltb-true c 256 p.0;
         whole = eqb-true (n % block_of c f) 0 p₄.0;
         small = leb-true (padded n) 4294967259 p₅.0;
         enough = leb-true (44 + padded n) room p₆.0;

@@ -100,8 +100,8 @@ fn fill(channels: u8, format: u8, rate: u8, frames: &[u8], out: &mut [u8])
     put_pad(out, 44 + len, len % 2);
 }
 
-// The same of numbers that fit a byte, or the slice as it was.
-fn put_file(channels: u8, format: u8, rate: u8, frames: &[u8], out: &mut [u8]) -> WroteWave
+// The file at the front of the lent slice; the slice is as it was where the file is refused.
+pub fn write(channels: u8, format: u8, rate: u8, frames: &[u8], out: &mut [u8]) -> WroteWave
     ensures value { result ≡ wrote_of channels format rate (length frames.now) (length out.old) }
     ensures out_after { out.new ≡ written_by (wrote_of channels format rate (length frames.now) (length out.old)) (file_of channels format rate frames.now) out.old }
 {
@@ -114,21 +114,4 @@ fn put_file(channels: u8, format: u8, rate: u8, frames: &[u8], out: &mut [u8]) -
         WroteWave::BadSound => WroteWave::BadSound,
         WroteWave::BadLength => WroteWave::BadLength,
     }
-}
-
-// The file at the front of the lent slice; the slice is as it was where the file is refused.
-pub fn write(channels: u32, format: u32, rate: u32, frames: &[u8], out: &mut [u8]) -> WroteWave
-    ensures value { result ≡ wrote_of channels format rate (length frames.now) (length out.old) }
-    ensures out_after { out.new ≡ written_by (wrote_of channels format rate (length frames.now) (length out.old)) (file_of channels format rate frames.now) out.old }
-{
-    if 25 <= format {
-        return WroteWave::BadSound;
-    }
-    if 14 <= rate {
-        return WroteWave::BadSound;
-    }
-    if 256 <= channels {
-        return WroteWave::BadSound;
-    }
-    put_file(channels as u8, format as u8, rate as u8, frames, out)
 }

@@ -1,7 +1,7 @@
 //! What was accepted, place by place: each payload is compared with the frames at its own offset.
-use crate::told::{Payload, Period, When};
+use crate::told::{Period, When};
 pub use page::{Gap, Part, Same, Why};
-use sha256::{Sha256, Sum};
+use sha256::Sha256;
 
 pub struct Account {
     pub accepted: Part,
@@ -10,11 +10,11 @@ pub struct Account {
 }
 
 impl Account {
-    /// Of `frames`, whose sum is known, sent in periods of `size` bytes.
-    pub fn new(frames: &[u8], sum: Sum, size: usize, periods: &[Period]) -> Self {
+    /// Of `frames`, sent in periods of `size` bytes.
+    pub fn new(frames: &[u8], size: usize, periods: &[Period]) -> Self {
         let of = |drain| {
             let taken = periods.iter().filter(move |period| in_drain(period) == drain);
-            part(frames, sum, size, taken)
+            part(frames, size, taken)
         };
         Self {
             accepted: of(false),
@@ -29,10 +29,10 @@ impl Account {
     }
 }
 
-/// What was accepted when the transfer answered, period by period.
-pub fn before_the_answer<'p>(frames: &'p [u8], periods: &'p [Period]) -> impl Iterator<Item = &'p [u8]> {
+/// The payloads that were accepted when the transfer answered.
+pub fn before_the_answer(periods: &[Period]) -> impl Iterator<Item = &Vec<u8>> {
     let before = periods.iter().filter(|period| !in_drain(period));
-    before.filter_map(|period| period.taken(frames))
+    before.filter_map(|period| period.payload.as_ref())
 }
 
 fn in_drain(period: &Period) -> bool {
@@ -40,43 +40,39 @@ fn in_drain(period: &Period) -> bool {
     matches!(completed, Some(When::Drain(_)))
 }
 
-fn part<'p>(frames: &[u8], all: Sum, size: usize, taken: impl Iterator<Item = &'p Period> + Clone) -> Part {
+/// Whether a payload is the period of the frames that belongs in its place.
+fn right(frames: &[u8], size: usize, offset: usize, payload: &[u8]) -> bool {
+    let due = frames.get(offset..).map(|rest| rest.split_at(size.min(rest.len())).0);
+    offset.is_multiple_of(size) && due == Some(payload)
+}
+
+fn part<'p>(frames: &[u8], size: usize, taken: impl Iterator<Item = &'p Period>) -> Part {
+    let mut sum = Sha256::new();
     let mut part = Part {
         periods: 0,
         bytes: 0,
         sha256: None,
         same: Same::Nothing,
     };
-    for period in taken.clone() {
-        let (Some(payload), Some(bytes)) = (&period.payload, period.taken(frames)) else {
+    for period in taken {
+        let Some(payload) = &period.payload else {
             continue;
         };
-        part.same = match (part.same, payload) {
-            (Same::Not { period }, _) => Same::Not { period },
-            (_, Payload::Other(_)) => Same::Not {
+        part.same = match part.same {
+            Same::Not { period } => Same::Not { period },
+            _ if !right(frames, size, period.offset, payload) => Same::Not {
                 period: period.offset / size + 1,
             },
-            (Same::Nothing, _) => Same::Run { from: period.offset },
-            (Same::Run { from }, _) if from + part.bytes == period.offset => Same::Run { from },
-            (Same::Run { .. } | Same::Places | Same::Told, _) => Same::Places,
+            Same::Nothing => Same::Run { from: period.offset },
+            Same::Run { from } if from + part.bytes == period.offset => Same::Run { from },
+            Same::Run { .. } | Same::Places | Same::Told => Same::Places,
         };
+        sum.update(payload);
         part.periods += 1;
-        part.bytes += bytes.len();
+        part.bytes += payload.len();
     }
-    part.sha256 = Some(match part.same {
-        // the same bytes have the same sum
-        Same::Run { from: 0 } if part.bytes == frames.len() => all,
-        _ => sum(frames, taken),
-    });
+    part.sha256 = Some(sum.sum());
     part
-}
-
-fn sum<'p>(frames: &[u8], taken: impl Iterator<Item = &'p Period>) -> Sum {
-    let mut sum = Sha256::new();
-    for bytes in taken.filter_map(|period| period.taken(frames)) {
-        sum.update(bytes);
-    }
-    sum.sum()
 }
 
 /// Why each period of the frames was not accepted; none for one that was.
@@ -84,8 +80,8 @@ fn missing(frames: &[u8], size: usize, periods: &[Period]) -> Vec<Option<Why>> {
     let mut missing = vec![Some(Why::NotSubmitted); frames.len().div_ceil(size)];
     for period in periods {
         let why = match (&period.payload, period.completed) {
-            (Some(Payload::Frames), _) => None,
-            (Some(Payload::Other(_)), _) => Some(Why::OtherBytes),
+            (Some(payload), _) if right(frames, size, period.offset, payload) => None,
+            (Some(_), _) => Some(Why::OtherBytes),
             (None, Some(completed)) => Some(Why::Status(completed.status)),
             (None, None) => Some(Why::NotCompleted),
         };
@@ -99,14 +95,10 @@ fn missing(frames: &[u8], size: usize, periods: &[Period]) -> Vec<Option<Why>> {
 #[cfg(test)]
 mod tests {
     use super::{Account, Gap, Same, Why};
-    use crate::told::{Completed, Payload, Period, When};
-    use vsnd::STATUS_OK;
+    use crate::told::{Completed, Period, When};
+    use snd::STATUS_OK;
 
     const FRAMES: &[u8] = b"aabbccd";
-
-    fn account(periods: &[Period]) -> Account {
-        Account::new(FRAMES, sha256::sum(FRAMES), 2, periods)
-    }
 
     fn accepted(offset: usize, payload: &[u8], when: When) -> Period {
         Period {
@@ -118,7 +110,7 @@ mod tests {
                 when,
                 status: STATUS_OK,
             }),
-            payload: Some(Payload::of(FRAMES, 2, offset, payload.to_vec())),
+            payload: Some(payload.to_vec()),
         }
     }
 
@@ -129,27 +121,27 @@ mod tests {
     #[test]
     fn all_in_order() {
         let periods = [given(0, b"aa"), given(2, b"bb"), given(4, b"cc"), given(6, b"d")];
-        let told = account(&periods);
-        assert!(told.whole(FRAMES) && told.gaps.is_empty());
-        assert_eq!(told.accepted.sha256, Some(sha256::sum(FRAMES)));
-        assert_eq!(told.drained.same, Same::Nothing);
+        let account = Account::new(FRAMES, 2, &periods);
+        assert!(account.whole(FRAMES) && account.gaps.is_empty());
+        assert_eq!(account.accepted.sha256, Some(sha256::sum(FRAMES)));
+        assert_eq!(account.drained.same, Same::Nothing);
     }
 
     /// The same bytes, all of them, in another order: not the announcement.
     #[test]
     fn out_of_order() {
         let periods = [given(2, b"bb"), given(0, b"aa"), given(4, b"cc"), given(6, b"d")];
-        let told = account(&periods);
-        assert_eq!(told.accepted.same, Same::Places);
-        assert!(!told.whole(FRAMES));
+        let account = Account::new(FRAMES, 2, &periods);
+        assert_eq!(account.accepted.same, Same::Places);
+        assert!(!account.whole(FRAMES));
     }
 
     #[test]
     fn other_bytes_are_named() {
         let periods = [given(0, b"aa"), given(2, b"bx"), given(4, b"cc"), given(6, b"d")];
-        let told = account(&periods);
-        assert_eq!(told.accepted.same, Same::Not { period: 2 });
-        assert!(!told.whole(FRAMES));
+        let account = Account::new(FRAMES, 2, &periods);
+        assert_eq!(account.accepted.same, Same::Not { period: 2 });
+        assert!(!account.whole(FRAMES));
         let gap = Gap {
             first: 2,
             last: 2,
@@ -157,7 +149,7 @@ mod tests {
             length: 2,
             why: Why::OtherBytes,
         };
-        assert_eq!(told.gaps, [gap]);
+        assert_eq!(account.gaps, [gap]);
     }
 
     /// A payload cut short, too long, off its place or past the end is not the frames' period.
@@ -165,9 +157,9 @@ mod tests {
     fn wrong_lengths_and_places() {
         let wrong: [(usize, &[u8]); 5] = [(0, b"a"), (0, b"aab"), (1, b"ab"), (8, b""), (6, b"d\0")];
         for (offset, payload) in wrong {
-            let told = account(&[given(offset, payload)]);
+            let account = Account::new(FRAMES, 2, &[given(offset, payload)]);
             let period = offset / 2 + 1;
-            assert_eq!(told.accepted.same, Same::Not { period }, "{offset} {payload:?}");
+            assert_eq!(account.accepted.same, Same::Not { period }, "{offset} {payload:?}");
         }
     }
 
@@ -180,16 +172,16 @@ mod tests {
             status: 0x8003,
         });
         let periods = [given(0, b"aa"), failed, accepted(4, b"cc", When::Drain(2))];
-        let told = account(&periods);
-        assert_eq!(told.accepted.same, Same::Run { from: 0 });
-        assert_eq!(told.drained.same, Same::Run { from: 4 });
-        let places: Vec<_> = told
+        let account = Account::new(FRAMES, 2, &periods);
+        assert_eq!(account.accepted.same, Same::Run { from: 0 });
+        assert_eq!(account.drained.same, Same::Run { from: 4 });
+        let places: Vec<_> = account
             .gaps
             .iter()
             .map(|gap| (gap.first, gap.offset, gap.length))
             .collect();
         assert_eq!(places, [(2, 2, 2), (4, 6, 1)]);
-        let reasons: Vec<_> = told.gaps.iter().map(|gap| gap.why).collect();
+        let reasons: Vec<_> = account.gaps.iter().map(|gap| gap.why).collect();
         assert_eq!(reasons, [Why::Status(0x8003), Why::NotSubmitted]);
     }
 }

@@ -1,5 +1,5 @@
 //! What frames are.
-use vsnd::{Format, Params, Rate};
+use snd::{Format, Params, Rate};
 
 #[derive(Clone, Copy, PartialEq, Eq, Debug)]
 pub struct Form {

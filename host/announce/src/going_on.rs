@@ -4,8 +4,8 @@ use crate::form::Form;
 use crate::progress::Progress;
 use crate::speak::{Console, of};
 use crate::told::{GoingOn, Refused, When};
+use snd::{Format, Reading, Refusal, Submitted};
 use std::time::Instant;
-use vsnd::{Format, Reading, Refusal, Submitted};
 
 const CALL: &str = "submission";
 const FINISH: &str = "finish";
@@ -86,7 +86,7 @@ impl Console {
         let said = self.sound.pcm_xfer_nb(&self.ring, stream, &payload, &mut self.places);
         match said {
             Ok(Submitted::Token(token)) => {
-                let request = self.places.request(token).unwrap_or_default().to_vec();
+                let request = self.places.request(token).unwrap_or_default();
                 self.device.submit(turn, token, offset, period.len(), request);
                 Ok(true)
             }

@@ -1,9 +1,8 @@
 //! Several recordings as one announcement: words that are joined to a sentence. Where each but the last is a whole number of periods, the device gets the
 //! periods of the first, then those of the second, and so on (`cut-of-parts`, crates/turns/specs/Joining.antt).
 use crate::options::Options;
-use crate::recording::{Frames, Part, Recording};
+use crate::recording::{Part, Recording};
 use crate::{sizes, wave};
-use page::Source;
 
 /// The one announcement, or which part does not fit, and why.
 pub fn of(options: &Options, parts: Vec<Recording>) -> Result<Recording, String> {
@@ -19,20 +18,19 @@ pub fn of(options: &Options, parts: Vec<Recording>) -> Result<Recording, String>
     let (mut frames, mut places) = (Vec::new(), Vec::new());
     for part in parts {
         places.push(Part {
-            raw: matches!(part.source, Source::Raw { .. }),
             offset: frames.len(),
             bytes: part.frames.len(),
             name: part.name,
         });
-        frames.extend_from_slice(&part.frames);
+        frames.extend(part.frames);
     }
     sizes::periods("what is joined", frames.len(), options.period)?;
     Ok(Recording {
         name,
         sha256: sha256::sum(&frames),
-        frames: Frames::all(frames),
+        frames,
         form,
-        source: Source::Made,
+        file: None,
         parts: places,
     })
 }
@@ -43,16 +41,14 @@ fn whole(period: usize, parts: &[Recording]) -> Result<(), String> {
     let lacks = before.iter().filter_map(|part| {
         let (name, bytes) = (&part.name, part.frames.len());
         let missing = bytes.next_multiple_of(period) - bytes;
-        let bytes = page::Count(bytes as u64, "byte");
-        (missing > 0).then(|| format!("{name} has {bytes} of frames, and {missing} more would pad it"))
+        (missing > 0).then(|| format!("{name} has {bytes} bytes of frames, and {missing} more would pad it"))
     });
     let lacks: Vec<_> = lacks.collect();
     if lacks.is_empty() {
         return Ok(());
     }
     Err(format!(
-        "each part but the last is a whole number of periods of {}: {}",
-        page::Count(period as u64, "byte"),
+        "each part but the last is a whole number of periods of {period} bytes: {}",
         lacks.join("; ")
     ))
 }

@@ -4,8 +4,8 @@ use crate::json::{self, Object};
 use crate::recording;
 use crate::report::Report;
 use crate::told::{Control, Fault, GoingOn, Jacks, Period, Virtio, What, When};
-use page::{Built, Source, Spoken};
-use vsnd::Answer;
+use page::{Built, Spoken};
+use snd::Answer;
 
 /// The form of the log; a change that a reader would notice counts it up.
 const VERSION: u64 = 1;
@@ -15,7 +15,6 @@ pub fn of(reports: &[Report], built: Built, status: u8) -> String {
         log.text("program", "announce");
         log.number("version", VERSION);
         log.text_if("date", built.date);
-        log.text("driver", built.driver);
         log.text_if("kit", built.kit);
         log.text_if("archive_sha256", built.archive);
         log.number("exit_status", status.into());
@@ -35,7 +34,13 @@ fn before(to: &mut Object, report: &Report) {
     let (options, recording, told) = (report.options, report.recording, &report.told);
     to.text("announcement", &recording.name);
     to.number("bytes", recording.frames.len() as u64);
-    source(to, recording.source);
+    match &recording.file {
+        Some(file) => to.object("wave", |to| {
+            to.number("bytes", file.bytes as u64);
+            to.number("offset", file.offset as u64);
+        }),
+        None => to.null("wave"),
+    }
     to.text("sha256", &recording.sha256.to_string());
     to.list("parts", &recording.parts, |to, one| {
         part_of(to, one, options.period as usize)
@@ -58,12 +63,6 @@ fn before(to: &mut Object, report: &Report) {
         Some(told) => to.object("going_on", |to| going_on(to, told)),
         None => to.null("going_on"),
     }
-    stream(to, report);
-}
-
-/// The stream, what it was set to, and how many periods there are.
-fn stream(to: &mut Object, report: &Report) {
-    let (options, recording, told) = (report.options, report.recording, &report.told);
     match told.stream {
         Some(stream) => to.object("stream", |to| {
             to.number("number", stream.into());
@@ -83,22 +82,9 @@ fn stream(to: &mut Object, report: &Report) {
     to.number("period_count", periods as u64);
 }
 
-/// What the frames were read from.
-fn source(to: &mut Object, source: Source) {
-    to.truth("raw", matches!(source, Source::Raw { .. }));
-    match source {
-        Source::Wave(file) => to.object("wave", |to| {
-            to.number("bytes", file.bytes as u64);
-            to.number("offset", file.offset as u64);
-        }),
-        Source::Raw { .. } | Source::Made => to.null("wave"),
-    }
-}
-
 /// A part of what was joined, and the period in which it begins.
 fn part_of(to: &mut Object, part: &recording::Part, size: usize) {
     to.text("part", &part.name);
-    to.truth("raw", part.raw);
     to.number("offset", part.offset as u64);
     to.number("bytes", part.bytes as u64);
     to.number("period", (part.offset / size + 1) as u64);
@@ -204,7 +190,6 @@ fn after(to: &mut Object, report: &Report) {
         answer(to, told.answer());
         to.text_if("call", told.refused.map(|(call, _)| call));
     });
-    to.text("operator", &report.page(Built::default()).operator().to_string());
     to.truth("given", report.given());
     let measured = (told.turns > 0).then_some(told.longest.as_secs_f64());
     to.seconds("longest_turn", measured);

@@ -9,7 +9,6 @@ mod device;
 mod form;
 mod going_on;
 mod help;
-mod html;
 mod join;
 mod json;
 mod log;
@@ -18,7 +17,6 @@ mod options;
 mod overwrite;
 mod picture;
 mod progress;
-mod proofs;
 mod record;
 mod recording;
 mod report;
@@ -30,12 +28,10 @@ mod told;
 mod tone;
 mod wave;
 
-use command::{NOT_RUN, complain, output, say};
 use options::{Asked, Options};
 use page::Built;
 use report::Report;
-use std::borrow::Cow;
-use std::io::{self, Write};
+use std::io::Write;
 use std::os::unix::ffi::OsStrExt;
 use std::path::Path;
 use std::process::ExitCode;
@@ -45,25 +41,24 @@ use std::time::SystemTime;
 const GIVEN: u8 = 0;
 /// Exit status where one was not.
 const NOT_GIVEN: u8 = 1;
+/// Exit status where the options or the files are at fault.
+const NOT_RUN: u8 = 2;
 
 fn main() -> ExitCode {
     let words: Vec<_> = std::env::args_os().skip(1).collect();
     let outcome = match options::parse(&words) {
-        Ok(Asked::Text(text)) => say(&text).map(|()| GIVEN),
+        Ok(Asked::Help(text)) => say(text).map(|()| GIVEN),
         Ok(Asked::Run(options)) => run(&options),
         Err(why) => Err(why),
     };
     let status = outcome.unwrap_or_else(|why| {
-        complain(NAME, &why);
+        eprintln!("announce: {why}");
         NOT_RUN
     });
     ExitCode::from(status)
 }
 
-/// As the program calls itself.
-const NAME: &str = help::MANUAL.name;
-
-/// Reads all, speaks all, prints the pages, writes the outputs.
+/// Reads all, speaks all, writes the outputs, prints the pages.
 fn run(options: &Options) -> Result<u8, String> {
     overwrite::refuse(options)?;
     let date = clock::utc(SystemTime::now());
@@ -82,106 +77,61 @@ fn run(options: &Options) -> Result<u8, String> {
     } else {
         NOT_GIVEN
     };
-    let said = say(&pages(&reports, built));
-    let tried = [said]
-        .into_iter()
-        .chain(write_outputs(options, &reports, built, status));
-    Ok(worst(tried, status))
+    write_outputs(options, &reports, built, status)?;
+    say(&pages(&reports, built))?;
+    Ok(status)
 }
 
-/// The status of what was found, or where something could not be written, which is said of each, that of bad files.
-fn worst(tried: impl Iterator<Item = Result<(), String>>, found: u8) -> u8 {
-    let mut status = found;
-    for why in tried.filter_map(Result::err) {
-        complain(NAME, &why);
-        status = NOT_RUN;
-    }
-    status
-}
-
-/// Records, prints the page, and writes what was kept.
+/// Records, writes what was kept, and prints the page.
 fn record(options: &Options, file: &Path, built: Built) -> Result<u8, String> {
     let recorded = record::all(options)?;
     let kept = recorded.kept();
+    if file.as_os_str().as_bytes().ends_with(b".wav") {
+        write(file, &wave::file(options.form(), kept)?)?;
+    } else {
+        write(file, kept)?;
+    }
     let name = recording::plain(&file.to_string_lossy());
     let page = recorded.page(options, &name, built);
-    let said = say(&page.to_string());
-    let written = if file.as_os_str().as_bytes().ends_with(b".wav") {
-        wave::file(options.form(), kept).and_then(|whole| write(file, &whole))
-    } else {
-        write(file, kept)
-    };
-    let status = if page.given() { GIVEN } else { NOT_GIVEN };
-    Ok(worst([said, written].into_iter(), status))
+    say(&page.to_string())?;
+    Ok(if page.given() { GIVEN } else { NOT_GIVEN })
 }
 
-/// Tries every output, also behind one that cannot be written.
-fn write_outputs(
-    options: &Options,
-    reports: &[Report],
-    built: Built,
-    status: u8,
-) -> impl Iterator<Item = Result<(), String>> {
-    let log = || log::of(reports, built, status);
-    let tried = [
-        options.accepted.as_deref().map(|file| write_accepted(file, reports)),
-        options.wav.as_deref().map(|file| write_wave(file, reports)),
-        options.log.as_deref().map(|file| write(file, log().as_bytes())),
-        options
-            .picture
-            .as_deref()
-            .map(|file| write(file, picture::of(reports).as_bytes())),
-        options
-            .trace
-            .as_deref()
-            .zip(reports.first())
-            .map(|(file, only)| write(file, &only.told.trace)),
-        options
-            .report
-            .as_deref()
-            .map(|file| output::write(file, |to| html::write(to, reports, built, &closing(reports), &log()))),
-    ];
-    tried.into_iter().flatten()
+fn write_outputs(options: &Options, reports: &[Report], built: Built, status: u8) -> Result<(), String> {
+    let accepted: Vec<u8> = reports.iter().flat_map(Report::accepted).copied().collect();
+    if let Some(file) = &options.accepted {
+        write(file, &accepted)?;
+    }
+    if let (Some(file), Some(first)) = (&options.wav, reports.first()) {
+        write(file, &wave::file(first.recording.form, &accepted)?)?;
+    }
+    if let Some(file) = &options.log {
+        write(file, log::of(reports, built, status).as_bytes())?;
+    }
+    if let Some(file) = &options.picture {
+        write(file, picture::of(reports).as_bytes())?;
+    }
+    if let (Some(file), Some(only)) = (&options.trace, reports.first()) {
+        write(file, &only.told.trace)?;
+    }
+    Ok(())
 }
 
 fn write(file: &Path, bytes: &[u8]) -> Result<(), String> {
-    output::write(file, |to| to.write_all(bytes))
-}
-
-/// What was accepted, part by part.
-fn write_accepted(file: &Path, reports: &[Report]) -> Result<(), String> {
-    let all = |to: &mut dyn Write| -> io::Result<()> {
-        let mut parts = reports.iter().flat_map(Report::accepted);
-        parts.try_for_each(|part| to.write_all(part))
-    };
-    output::write(file, all)
-}
-
-fn write_wave(file: &Path, reports: &[Report]) -> Result<(), String> {
-    let Some(first) = reports.first() else {
-        return Ok(());
-    };
-    let accepted = match reports {
-        [only] if only.given() => Cow::Borrowed(&*only.recording.frames),
-        _ => Cow::Owned(reports.iter().flat_map(Report::accepted).collect::<Vec<_>>().concat()),
-    };
-    write(file, &wave::file(first.recording.form, &accepted)?)
+    std::fs::write(file, bytes).map_err(|why| format!("cannot write {}: {why}", file.display()))
 }
 
 /// A page for each, with an empty line between, and a closing line where there are several.
 fn pages(reports: &[Report], built: Built) -> String {
     let pages: Vec<_> = reports.iter().map(|report| report.page(built).to_string()).collect();
+    let given = reports.iter().filter(|report| report.given()).count();
     match pages.len() {
         1 => pages.concat(),
-        _ => pages.join("\n") + "\n" + &closing(reports),
+        all => pages.join("\n") + "\n" + &page::Together { all, given }.to_string(),
     }
 }
 
-/// The line below several pages; none below one.
-fn closing(reports: &[Report]) -> String {
-    let given = reports.iter().filter(|report| report.given()).count();
-    match reports.len() {
-        1 => String::new(),
-        all => page::Together { all, given }.to_string(),
-    }
+fn say(text: &str) -> Result<(), String> {
+    let written = std::io::stdout().write_all(text.as_bytes());
+    written.map_err(|why| format!("cannot write to standard output: {why}"))
 }

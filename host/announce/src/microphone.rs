@@ -4,8 +4,8 @@ use crate::form::Form;
 use crate::options::Options;
 use crate::told::{Fault, What, When};
 use crate::tone;
+use snd::{CAPTURE_STATUS, Captured, Room, SLOTS, STATUS_OK};
 use std::collections::VecDeque;
-use vsnd::{CAPTURE_STATUS, Captured, Room, SLOTS, STATUS_OK};
 
 pub struct Microphone {
     form: Form,

@@ -1,19 +1,18 @@
 //! The command line.
 use crate::device::REMAP;
 use crate::form::Form;
-use crate::help::MANUAL;
+use crate::help::HELP;
 use crate::sizes;
-use command::input;
+use snd::{F_CTLS, Format, Rate, STATUS_OK, Status, Version};
 use std::ffi::{OsStr, OsString};
 use std::os::unix::ffi::OsStrExt;
 use std::path::PathBuf;
-use vsnd::{F_CTLS, Format, Rate, STATUS_OK, Status, Version};
 
 /// What the words ask for.
 #[derive(Debug)]
 pub enum Asked {
     /// This text.
-    Text(String),
+    Help(&'static str),
     Run(Box<Options>),
 }
 
@@ -28,37 +27,28 @@ const CALLS: [(&str, u32); 7] = [
     ("release", 0x0103),
 ];
 
-/// Where frames come from; `-` is standard input.
+/// Where frames come from.
 #[derive(Debug, PartialEq, Eq)]
 pub enum Source {
     Tone,
-    /// A file of raw frames.
-    Raw(OsString),
-    /// A WAVE file.
-    Wave(OsString),
+    Input,
+    File(PathBuf),
 }
 
 impl Source {
-    /// The file's name.
-    pub fn file(&self) -> Option<&OsStr> {
-        match self {
-            Self::Tone => None,
-            Self::Raw(file) | Self::Wave(file) => Some(file),
-        }
-    }
-
     /// As a sentence names it.
     pub fn shown(&self) -> String {
-        self.file()
-            .map_or_else(|| "tone".into(), |file| file.display().to_string())
+        match self {
+            Self::Tone => "tone".into(),
+            Self::Input => "-".into(),
+            Self::File(file) => file.display().to_string(),
+        }
     }
 }
 
 #[derive(Debug)]
 pub struct Options {
     pub sources: Vec<Source>,
-    /// Bytes of a file at most.
-    pub limit: u64,
     pub seconds: u32,
     /// Of raw frames and of the tone; a WAVE file says its own.
     pub rate: Option<Rate>,
@@ -104,15 +94,12 @@ pub struct Options {
     pub picture: Option<PathBuf>,
     /// Where to write the trace of the transfer.
     pub trace: Option<PathBuf>,
-    /// Where to write all of it, for a browser.
-    pub report: Option<PathBuf>,
 }
 
 impl Options {
     const fn new() -> Self {
         Self {
             sources: Vec::new(),
-            limit: input::LIMIT,
             seconds: 3,
             rate: None,
             channels: None,
@@ -142,7 +129,6 @@ impl Options {
             log: None,
             picture: None,
             trace: None,
-            report: None,
         }
     }
 
@@ -169,34 +155,10 @@ impl Options {
             ("--log", &self.log),
             ("--picture", &self.picture),
             ("--trace", &self.trace),
-            ("--report", &self.report),
             ("--record", &self.record),
         ];
         all.into_iter()
             .filter_map(|(name, path)| path.as_ref().map(|path| (name, path)))
-    }
-}
-
-/// The text that a word asks for.
-fn text(name: &str) -> Option<String> {
-    match name {
-        "--help" | "-h" => Some(MANUAL.help()),
-        "--man" => Some(MANUAL.man()),
-        "--version" => Some(command::version(MANUAL.name)),
-        _ => None,
-    }
-}
-
-/// What an option without a value turns on.
-fn flag<'o>(options: &'o mut Options, name: &str) -> Option<&'o mut bool> {
-    match name {
-        "--strict" => Some(&mut options.strict),
-        "--guard" => Some(&mut options.guard),
-        "--indirect" => Some(&mut options.indirect),
-        "--short-jacks" => Some(&mut options.short_jacks),
-        "--go-on" => Some(&mut options.go_on),
-        "--join" => Some(&mut options.join),
-        _ => None,
     }
 }
 
@@ -210,38 +172,34 @@ pub fn parse(words: &[OsString]) -> Result<Asked, String> {
         if name.starts_with("--") {
             named.push(name);
         }
-        let text = text(name);
-        let alone = text.is_some() || flag(&mut options, name).is_some();
-        match (text, flag(&mut options, name)) {
-            _ if alone && value.is_some() => return Err(format!("{name} takes no value")),
-            (Some(text), _) => return Ok(Asked::Text(text)),
-            (None, Some(on)) => *on = true,
-            _ if name == "--" && value.is_none() => {
-                words
-                    .by_ref()
-                    .try_for_each(|word| take_file(&mut options, word, Source::Wave))?;
+        match name {
+            "--help" | "-h" if value.is_none() => return Ok(Asked::Help(HELP)),
+            "--strict" if value.is_none() => options.strict = true,
+            "--guard" if value.is_none() => options.guard = true,
+            "--indirect" if value.is_none() => options.indirect = true,
+            "--short-jacks" if value.is_none() => options.short_jacks = true,
+            "--go-on" if value.is_none() => options.go_on = true,
+            "--join" if value.is_none() => options.join = true,
+            "--help" | "-h" | "--strict" | "--guard" | "--indirect" | "--short-jacks" | "--go-on" | "--join" => {
+                return Err(format!("{name} takes no value"));
             }
-            _ if name.len() > 1 && name.starts_with('-') => {
-                let next = || {
+            "--" if value.is_none() => words.by_ref().try_for_each(|word| take_file(&mut options, word))?,
+            name if name.len() > 1 && name.starts_with('-') => {
+                let value = || {
                     value
                         .or_else(|| words.next())
                         .ok_or(format!("{name} needs a value; see --help"))
                 };
-                take(&mut options, &mut buffer, name, next)?;
+                take(&mut options, &mut buffer, name, value)?;
             }
-            _ => take_file(&mut options, word, Source::Wave)?,
+            _ => take_file(&mut options, word)?,
         }
     }
     options.buffer = sizes::buffer(buffer, options.period)?;
     together(&options, &named)?;
-    checked(&mut options)?;
-    Ok(Asked::Run(Box::new(options)))
-}
-
-/// What each option asks of the others; without a source there is the tone.
-fn checked(options: &mut Options) -> Result<(), String> {
     if options.record.is_some() {
-        return sizes::recording(options);
+        sizes::recording(&options)?;
+        return Ok(Asked::Run(Box::new(options)));
     }
     if options.controls.is_some() && options.virtio != Some(Version::V13) {
         return Err("--controls needs --virtio 1.3: VirtIO 1.2 has no control elements".into());
@@ -253,19 +211,19 @@ fn checked(options: &mut Options) -> Result<(), String> {
         if options.wrong_slot_at.is_some() {
             return Err("--wrong-slot-at goes with a transfer: what does not wait may come back in any order".into());
         }
-        sizes::places(options)?;
+        sizes::places(&options)?;
     }
     if options.trace.is_some() {
-        traced(options)?;
+        traced(&options)?;
     }
     if options.join && options.sources.len() < 2 {
         return Err("--join joins two FILEs or more".into());
     }
     if options.sources.is_empty() {
-        sizes::tone(options)?;
+        sizes::tone(&options)?;
         options.sources.push(Source::Tone);
     }
-    Ok(())
+    Ok(Asked::Run(Box::new(options)))
 }
 
 /// A trace is of one transfer.
@@ -280,7 +238,7 @@ fn traced(options: &Options) -> Result<(), String> {
 }
 
 /// What a recording takes of the options for announcements, and what it has alone.
-const RECORDING: [&str; 15] = [
+const RECORDING: [&str; 14] = [
     "--rate",
     "--channels",
     "--period",
@@ -294,7 +252,6 @@ const RECORDING: [&str; 15] = [
     "--strict",
     "--guard",
     "--indirect",
-    "--limit",
     "--",
 ];
 const RECORDING_ALONE: [&str; 5] = ["--record", "--periods", "--short-every", "--written-at", "--written"];
@@ -349,12 +306,6 @@ fn take<'w>(
     value: impl FnOnce() -> Result<&'w OsStr, String>,
 ) -> Result<(), String> {
     match name {
-        "--raw" => {
-            let file = value().map_err(|_| "--raw names the file of raw frames behind it: --raw FILE".to_string())?;
-            take_file(options, file, Source::Raw)?;
-        }
-        "--limit" => options.limit = input::limit(value()?)?,
-        "--report" => options.report = Some(output(name, value()?)?),
         "--seconds" => options.seconds = number(name, value()?, 0, 3600)? as u32,
         "--rate" => options.rate = Some(rate(value()?)?),
         "--channels" => options.channels = Some(number(name, value()?, 1, 255)? as u8),
@@ -383,15 +334,16 @@ fn take<'w>(
     Ok(())
 }
 
-fn take_file(options: &mut Options, word: &OsStr, kind: fn(OsString) -> Source) -> Result<(), String> {
-    if word.is_empty() {
-        return Err("a file's name is empty".into());
-    }
-    let mut named = options.sources.iter().filter_map(Source::file);
-    if word == input::STANDARD && named.any(|file| file == word) {
+fn take_file(options: &mut Options, word: &OsStr) -> Result<(), String> {
+    let source = match word.as_bytes() {
+        b"" => return Err("a file's name is empty".into()),
+        b"-" => Source::Input,
+        _ => Source::File(word.into()),
+    };
+    if source == Source::Input && options.sources.contains(&source) {
         return Err("- is named twice; standard input can be read once".into());
     }
-    options.sources.push(kind(word.into()));
+    options.sources.push(source);
     Ok(())
 }
 

@@ -1,9 +1,11 @@
 //! No write destroys what was read, and no two writes meet in one file: refused before anything is done.
 use crate::options::{Options, Source};
-use command::{input, output};
 use std::fs;
 use std::os::unix::fs::MetadataExt;
 use std::path::{Path, PathBuf};
+
+/// How many links a path may lead over, as in Linux.
+const LINKS: u32 = 40;
 
 /// The file that a path leads to, however it is spelled.
 #[derive(PartialEq, Eq)]
@@ -44,10 +46,11 @@ fn outputs(options: &Options) -> Vec<(String, PathBuf)> {
 }
 
 fn reads(source: &Source, written: &Place) -> bool {
-    let read = source.file().and_then(|file| match file {
-        file if file == input::STANDARD => place(Path::new("/dev/stdin")),
-        file => place(Path::new(file)),
-    });
+    let read = match source {
+        Source::Tone => None,
+        Source::Input => place(Path::new("/dev/stdin")),
+        Source::File(file) => place(file),
+    };
     read.as_ref() == Some(written)
 }
 
@@ -59,6 +62,18 @@ fn place(path: &Path) -> Option<Place> {
             node: found.ino(),
         }),
         Ok(_) => None,
-        Err(_) => output::end(path).ok().map(Place::New),
+        Err(_) => end(path, LINKS).map(Place::New),
+    }
+}
+
+/// Where a write would make a new file: a link may lead to one that is not there.
+fn end(path: &Path, links: u32) -> Option<PathBuf> {
+    let folder = match path.parent()? {
+        folder if folder.as_os_str().is_empty() => Path::new("."),
+        folder => folder,
+    };
+    match fs::read_link(path) {
+        Ok(next) => end(&folder.join(next), links.checked_sub(1)?),
+        Err(_) => Some(folder.canonicalize().ok()?.join(path.file_name()?)),
     }
 }

@@ -1,13 +1,13 @@
-//! A timeline of each announcement: turns across, a row for each period and its second of the recording, below it the number in flight. What was never
-//! submitted has its rows too. There is no time of day and no measured time in it, so that equal runs have equal pictures.
+//! A timeline of each announcement: turns across, a bar for each period, below it the number in flight. There is no time and no date in it,
+//! so that equal runs have equal pictures.
 use crate::report::Report;
 use crate::svg::{Anchor, Svg};
-use crate::timeline::{self, Bar, Fate, Timeline, ticks};
+use crate::timeline::{Bar, Fate, Timeline, ticks};
 use crate::told::{Fault, What};
 
 const WIDTH: f64 = 1000.0;
 /// The left and the right edge of what is drawn over the turns.
-const EDGES: (f64, f64) = (84.0, 920.0);
+const EDGES: (f64, f64) = (84.0, 960.0);
 /// From a panel's top to its first bar.
 const HEAD: f64 = 106.0;
 /// What all bars together may take.
@@ -35,7 +35,6 @@ text{font-family:sans-serif;font-size:12px;fill:black}
 .drained{fill:#8a8a8a}
 .open{fill:white;stroke:black;stroke-dasharray:3 2}
 .failed{fill:white;stroke:#c00000}
-.never{fill:#fbe9e7;stroke:#c00000;stroke-dasharray:2 3}
 .cross{stroke:#c00000;stroke-width:2.5}
 .wrong{stroke:#c00000;stroke-dasharray:5 3}
 .point{fill:#c00000;stroke:white}
@@ -66,17 +65,14 @@ struct Panel<'p> {
 
 impl<'p> Panel<'p> {
     fn new(report: &'p Report, top: f64) -> Self {
-        let periods = report.recording.frames.len().div_ceil(report.options.period as usize);
-        let time = Timeline::new(&report.told, periods);
+        let time = Timeline::new(&report.told);
         Self { report, time, top }
     }
 
     fn draw(&self, svg: &mut Svg) {
         self.head(svg);
         self.drain(svg);
-        self.never(svg);
         self.axes(svg);
-        self.seconds(svg);
         self.flight(svg);
         self.bars(svg);
         self.answer(svg);
@@ -92,12 +88,12 @@ impl<'p> Panel<'p> {
 
     /// How high a bar's row is.
     fn row(&self) -> f64 {
-        (BARS / self.time.rows().max(1) as f64).min(24.0)
+        (BARS / self.time.bars.len().max(1) as f64).min(24.0)
     }
 
     /// The upper and the lower edge of the bars.
     fn bars_edges(&self) -> (f64, f64) {
-        let high = (self.row() * self.time.rows() as f64).max(60.0);
+        let high = (self.row() * self.time.bars.len() as f64).max(60.0);
         (self.top + HEAD, self.top + HEAD + high)
     }
 
@@ -132,7 +128,7 @@ impl<'p> Panel<'p> {
         let bytes = self.report.recording.frames.len();
         let periods = bytes.div_ceil(self.report.options.period as usize);
         let facts = format!(
-            "{bytes} bytes, {periods} periods: {} submitted, {} accepted, {} came back with ok in the drain; {} of {} turns allowed",
+            "{bytes} bytes, {periods} periods: {} submitted, {} accepted before the answer, {} in the drain; {} of {} turns allowed",
             told.periods.len(),
             account.accepted.periods,
             account.drained.periods,
@@ -193,66 +189,13 @@ impl<'p> Panel<'p> {
         }
     }
 
-    /// The periods that were never submitted: their rows, and how long they last.
-    fn never(&self, svg: &mut Svg) {
+    fn period_ticks(&self, svg: &mut Svg) {
         let (upper, lower) = self.bars_edges();
-        let (submitted, all) = (self.report.told.periods.len(), self.time.periods);
-        if submitted == 0 {
+        let last = self.report.told.periods.len() as u64;
+        if last == 0 {
             let y = f64::midpoint(upper, lower);
             svg.text("plain", Anchor::Start, EDGES.0 + 12.0, y + 4.0, "nothing was submitted");
         }
-        if submitted >= all {
-            return;
-        }
-        let top = upper + self.row() * submitted as f64 / self.time.per_bar as f64;
-        let bytes = (submitted * self.report.options.period as usize).min(self.report.recording.frames.len());
-        let seconds = self.report.seconds() - self.report.recording.form.second(bytes);
-        svg.rect("never", EDGES.0, top, EDGES.1 - EDGES.0, lower - top);
-        if lower - top > LINE && submitted > 0 {
-            let periods = page::Count((all - submitted) as u64, "period");
-            let text = format!("never submitted: {periods}, {seconds:.2} seconds");
-            svg.text(
-                "plain",
-                Anchor::Middle,
-                f64::midpoint(EDGES.0, EDGES.1),
-                f64::midpoint(top, lower) + 4.0,
-                &text,
-            );
-        }
-    }
-
-    /// The second of the recording at which a row begins, on the right.
-    fn seconds(&self, svg: &mut Svg) {
-        let (upper, lower) = self.bars_edges();
-        let all = self.report.seconds();
-        let bytes = (self.time.per_bar * self.report.options.period as usize) as f64;
-        let a_row = bytes / self.report.recording.frames.len().max(1) as f64 * all;
-        if !(all > 0.0 && a_row > 0.0) {
-            return;
-        }
-        let (marks, decimals) = timeline::seconds(all, ((lower - upper) / 24.0).min(12.0));
-        for second in marks {
-            let y = upper + second / a_row * self.row();
-            svg.line("tick", (EDGES.1, y), (EDGES.1 + 5.0, y));
-            svg.text(
-                "plain",
-                Anchor::Start,
-                EDGES.1 + 8.0,
-                y + 4.0,
-                &format!("{second:.decimals$}"),
-            );
-        }
-        svg.text_up(
-            "plain",
-            WIDTH - 10.0,
-            f64::midpoint(upper, lower),
-            "second of the recording",
-        );
-    }
-
-    fn period_ticks(&self, svg: &mut Svg) {
-        let (upper, lower) = self.bars_edges();
-        let last = self.time.periods as u64;
         let most = ((lower - upper) / 20.0).min(15.0) as u64;
         for period in ticks(last, most) {
             let bar = (period - 1) / self.time.per_bar as u64;
@@ -369,11 +312,6 @@ impl<'p> Panel<'p> {
             svg.text("plain", Anchor::Start, x + 20.0, y, name(fate));
             x += 20.0 + LETTER * name(fate).len() as f64 + 16.0;
         }
-        if self.report.told.periods.len() < self.time.periods {
-            const NEVER: &str = "never submitted";
-            svg.rect("never", x, y - 9.0, 14.0, 9.0);
-            svg.text("plain", Anchor::Start, x + 20.0, y, NEVER);
-        }
         if self.time.per_bar > 1 {
             let text = format!("a bar is {} periods, and shows the worst of them", self.time.per_bar);
             svg.text("plain", Anchor::End, EDGES.1, y, &text);
@@ -406,8 +344,8 @@ const fn class(fate: Fate) -> &'static str {
 
 const fn name(fate: Fate) -> &'static str {
     match fate {
-        Fate::Accepted => "accepted",
-        Fate::Drained => "came back with ok in the drain",
+        Fate::Accepted => "accepted before the answer",
+        Fate::Drained => "accepted in the drain",
         Fate::NotCompleted => "not completed",
         Fate::Failed => "failed",
     }

@@ -23,10 +23,9 @@ impl Progress {
             .is_none_or(|shown| shown.elapsed() > Duration::from_millis(50));
         if self.terminal && due {
             self.shown = Some(Instant::now());
-            let mut to = std::io::stdout();
+            print!("\rspeaking: {offset} of {} bytes", self.total);
             // a terminal that is gone is noticed when the page is printed
-            let _ = write!(to, "\rspeaking: {offset} of {} bytes", self.total);
-            let _ = to.flush();
+            let _ = std::io::stdout().flush();
         }
     }
 }
@@ -34,7 +33,7 @@ impl Progress {
 impl Drop for Progress {
     fn drop(&mut self) {
         if self.shown.is_some() {
-            let _ = write!(std::io::stdout(), "\r\x1b[K");
+            print!("\r\x1b[K");
         }
     }
 }

@@ -4,8 +4,8 @@ use crate::options::Options;
 use crate::speak::{Console, drained, of, turns_enough};
 use crate::told::{Refused, Told, When};
 use page::{Built, CapturePage, Heard, Recorded, Stream, Times, Turns};
+use snd::{Captured, Reading, Turn};
 use std::time::Instant;
-use vsnd::{Captured, Reading, Turn};
 
 /// What stands in the recording before: a byte that is none of the tone's silence.
 const BEFORE: u8 = 0xa5;

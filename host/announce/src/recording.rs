@@ -2,47 +2,17 @@
 use crate::form::Form;
 use crate::options::{Options, Source};
 use crate::{join, sizes, tone, wave};
-use command::input;
 use page::InFile;
 use sha256::Sum;
-use std::ops::{Deref, Range};
-use std::rc::Rc;
-
-/// Frames: a part of what was read, of which there is one copy.
-#[derive(Clone)]
-pub struct Frames {
-    bytes: Rc<Vec<u8>>,
-    place: Range<usize>,
-}
-
-impl Frames {
-    /// All of these bytes.
-    pub fn all(bytes: Vec<u8>) -> Self {
-        let place = 0..bytes.len();
-        Self::part(bytes, place)
-    }
-
-    fn part(bytes: Vec<u8>, place: Range<usize>) -> Self {
-        let bytes = Rc::new(bytes);
-        Self { bytes, place }
-    }
-}
-
-impl Deref for Frames {
-    type Target = [u8];
-
-    fn deref(&self) -> &[u8] {
-        self.bytes.get(self.place.clone()).unwrap_or_default()
-    }
-}
+use std::io::Read;
 
 pub struct Recording {
     /// As the page names it.
     pub name: String,
-    pub frames: Frames,
+    pub frames: Vec<u8>,
     pub form: Form,
-    /// What the frames were read from.
-    pub source: page::Source,
+    /// Where the frames stood, if a WAVE file was read.
+    pub file: Option<InFile>,
     pub sha256: Sum,
     /// Where it was joined, its parts in order.
     pub parts: Vec<Part>,
@@ -52,8 +22,6 @@ pub struct Recording {
 pub struct Part {
     /// As the page names it.
     pub name: String,
-    /// Whether it has raw frames.
-    pub raw: bool,
     /// Where it begins in the frames.
     pub offset: usize,
     pub bytes: usize,
@@ -72,21 +40,21 @@ pub fn all(options: &Options) -> Result<Vec<Recording>, String> {
 
 fn read(options: &Options, source: &Source) -> Result<Recording, String> {
     let name = name(options, source);
-    let raw = |bytes: Vec<u8>| (page::Source::raw(&bytes), options.form(), Frames::all(bytes));
-    let (source, form, frames) = match source {
-        Source::Tone => {
-            let frames = Frames::all(tone::of(options.seconds, options.form()));
-            (page::Source::Made, options.form(), frames)
-        }
-        Source::Raw(file) => raw(input::read(file, options.limit)?),
-        Source::Wave(file) => {
-            let given = if file == input::STANDARD {
-                input::STANDARD.into()
-            } else {
-                command::quoted(&name)
-            };
-            wave(options, &name, &given, input::read(file, options.limit)?)?
-        }
+    let bytes = match source {
+        Source::Tone => Ok(tone::of(options.seconds, options.form())),
+        Source::Input => input(),
+        Source::File(file) => std::fs::read(file),
+    };
+    let bytes = bytes.map_err(|why| format!("cannot read {name}: {why}"))?;
+    let (frames, form, file) = if wave::begins(&bytes) {
+        let (form, place) = wave::read(options, &name, &bytes)?;
+        let file = InFile {
+            bytes: bytes.len(),
+            offset: place.start,
+        };
+        (bytes.get(place).unwrap_or_default().to_vec(), form, Some(file))
+    } else {
+        (bytes, options.form(), None)
     };
     sizes::periods(&name, frames.len(), options.period)?;
     let sha256 = sha256::sum(&frames);
@@ -94,27 +62,23 @@ fn read(options: &Options, source: &Source) -> Result<Recording, String> {
         name,
         frames,
         form,
-        source,
+        file,
         sha256,
         parts: Vec::new(),
     })
 }
 
-/// What the driver's reader finds in a file.
-fn wave(options: &Options, name: &str, given: &str, file: Vec<u8>) -> Result<(page::Source, Form, Frames), String> {
-    let (form, place) = wave::read(options, name, given, &file)?;
-    let source = page::Source::Wave(InFile {
-        bytes: file.len(),
-        offset: place.start,
-    });
-    Ok((source, form, Frames::part(file, place)))
+fn input() -> std::io::Result<Vec<u8>> {
+    let mut bytes = Vec::new();
+    std::io::stdin().read_to_end(&mut bytes)?;
+    Ok(bytes)
 }
 
 fn name(options: &Options, source: &Source) -> String {
     match source {
         Source::Tone => format!("a tone of {} s", options.seconds),
-        Source::Raw(file) | Source::Wave(file) if file == input::STANDARD => "standard input".into(),
-        Source::Raw(file) | Source::Wave(file) => plain(&file.to_string_lossy()),
+        Source::Input => "standard input".into(),
+        Source::File(file) => plain(&file.to_string_lossy()),
     }
 }
 
@@ -135,7 +99,7 @@ impl Recording {
     /// What a user should know of the frames before all else.
     pub fn warnings(&self, options: &Options) -> Vec<String> {
         let params = self.form.params(options.buffer, options.period);
-        let warnings = page::warnings(&params, self.frames.len()).chain(self.source.warning());
+        let warnings = page::warnings(&params, self.frames.len());
         warnings.map(|warning| warning.to_string()).collect()
     }
 }

@@ -15,15 +15,9 @@ pub struct Report<'r> {
 
 impl<'r> Report<'r> {
     pub fn new(options: &'r Options, recording: &'r Recording, told: Told) -> Self {
-        let account = Account::new(
-            &recording.frames,
-            recording.sha256,
-            options.period as usize,
-            &told.periods,
-        );
+        let account = Account::new(&recording.frames, options.period as usize, &told.periods);
         let parts = recording.parts.iter().map(|part| Joined {
             name: &part.name,
-            raw: part.raw,
             offset: part.offset,
             bytes: part.bytes,
         });
@@ -42,7 +36,7 @@ impl<'r> Report<'r> {
         Page {
             name: &recording.name,
             bytes: recording.frames.len(),
-            source: recording.source,
+            file: recording.file,
             sha256: recording.sha256,
             parts: &self.parts,
             params: recording.form.params(options.buffer, options.period),
@@ -83,14 +77,14 @@ impl<'r> Report<'r> {
         }
     }
 
-    /// The bytes that the device had accepted when the transfer answered, period by period.
-    pub fn accepted(&self) -> impl Iterator<Item = &[u8]> {
-        account::before_the_answer(&self.recording.frames, &self.told.periods)
+    /// The bytes that the device had accepted when the transfer answered.
+    pub fn accepted(&self) -> impl Iterator<Item = &u8> {
+        account::before_the_answer(&self.told.periods).flatten()
     }
 
     /// Whether the announcement was given: Ok, and the device had accepted all of it.
     pub fn given(&self) -> bool {
-        self.told.answer() == vsnd::Answer::Ok && self.account.whole(&self.recording.frames)
+        self.told.answer() == snd::Answer::Ok && self.account.whole(&self.recording.frames)
     }
 
     /// Where speech broke off: the first place that was not accepted.

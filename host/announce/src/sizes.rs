@@ -39,9 +39,9 @@ pub fn tone(options: &Options) -> Result<(), String> {
 /// How many places there are for periods that do not wait.
 pub fn places_of(options: &Options) -> usize {
     if options.indirect {
-        vsnd::PLACES_INDIRECT
+        snd::PLACES_INDIRECT
     } else {
-        vsnd::PLACES
+        snd::PLACES
     }
 }
 
@@ -66,11 +66,11 @@ pub fn recording(options: &Options) -> Result<(), String> {
             "{periods} periods of {period} bytes are {bytes} bytes; at most {MOST_PERIODS} periods and {MOST_TONE} bytes are recorded"
         ));
     }
-    let buffers = vsnd::SLOTS as u64 * (period + vsnd::CAPTURE_STATUS as u64);
+    let buffers = snd::SLOTS as u64 * (period + snd::CAPTURE_STATUS as u64);
     if buffers > MOST_TONE {
         return Err(format!(
             "{} buffers for periods of {period} bytes are {buffers} bytes; at most {MOST_TONE} are made",
-            vsnd::SLOTS
+            snd::SLOTS
         ));
     }
     Ok(())

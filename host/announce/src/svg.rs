@@ -97,7 +97,7 @@ impl Svg {
     }
 }
 
-pub fn escaped(text: &str) -> String {
+fn escaped(text: &str) -> String {
     let mut escaped = String::new();
     for letter in text.chars() {
         match letter {

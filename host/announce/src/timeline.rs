@@ -32,8 +32,6 @@ pub struct Column {
 }
 
 pub struct Timeline {
-    /// Periods of the announcement, submitted or not.
-    pub periods: usize,
     /// Turns of the transfer; those of the drain come after.
     pub transfer: u64,
     /// All turns.
@@ -47,13 +45,10 @@ pub struct Timeline {
 }
 
 impl Timeline {
-    /// Of an announcement of so many periods.
-    pub fn new(told: &Told, periods: usize) -> Self {
-        let periods = periods.max(told.periods.len());
-        let per_bar = periods.div_ceil(MOST_BARS).max(1);
+    pub fn new(told: &Told) -> Self {
+        let per_bar = told.periods.len().div_ceil(MOST_BARS).max(1);
         let turns = told.turns + told.drain_turns;
         let mut timeline = Self {
-            periods,
             transfer: told.turns,
             turns,
             bars: Vec::new(),
@@ -65,11 +60,6 @@ impl Timeline {
         timeline.bars = bars.filter_map(|periods| timeline.bar(periods)).collect();
         timeline.columns = timeline.columns(&told.periods);
         timeline
-    }
-
-    /// Rows of the bars: one to every so many periods, also to those that were never submitted.
-    pub fn rows(&self) -> usize {
-        self.periods.div_ceil(self.per_bar)
     }
 
     /// A turn's number among all turns.
@@ -144,18 +134,6 @@ const fn fate(period: &Period) -> Fate {
     }
 }
 
-/// Seconds for an axis up to `last`, each with as many decimals as their step has; at most so many.
-pub fn seconds(last: f64, most: f64) -> (Vec<f64>, usize) {
-    let powers = (-6..=9).flat_map(|power| [1.0, 2.0, 5.0].map(|digit| (digit * 10f64.powi(power), power)));
-    let (step, power) = powers
-        .into_iter()
-        .find(|(step, _)| last / step <= most)
-        .unwrap_or((last, 0));
-    let count = if step > 0.0 { (last / step) as u64 } else { 0 };
-    let decimals = usize::try_from(-power).unwrap_or(0);
-    ((0..=count).map(|number| number as f64 * step).collect(), decimals)
-}
-
 /// Numbers for an axis up to `last`: multiples of 1, 2 or 5 times a power of ten, at most so many.
 pub fn ticks(last: u64, most: u64) -> Vec<u64> {
     let mut steps = (0..=18).flat_map(|power| [1, 2, 5].map(|digit| digit * 10u64.pow(power)));
@@ -166,9 +144,9 @@ pub fn ticks(last: u64, most: u64) -> Vec<u64> {
 #[cfg(test)]
 #[allow(clippy::indexing_slicing)]
 mod tests {
-    use super::{Bar, Column, Fate, Timeline, seconds, ticks};
-    use crate::told::{Completed, Payload, Period, Told, When};
-    use vsnd::STATUS_OK;
+    use super::{Bar, Column, Fate, Timeline, ticks};
+    use crate::told::{Completed, Period, Told, When};
+    use snd::STATUS_OK;
 
     #[test]
     fn axes() {
@@ -177,21 +155,6 @@ mod tests {
         assert_eq!(ticks(9, 5), [2, 4, 6, 8]);
         assert_eq!(ticks(142, 10), [20, 40, 60, 80, 100, 120, 140]);
         assert_eq!(ticks(u64::MAX, 4).len(), 3);
-    }
-
-    #[test]
-    fn axes_of_seconds() {
-        assert_eq!(seconds(3.0, 6.0), (vec![0.0, 0.5, 1.0, 1.5, 2.0, 2.5, 3.0], 1));
-        assert_eq!(seconds(0.0, 6.0), (vec![0.0], 6));
-        assert_eq!(seconds(3600.0, 5.0).0.len(), 4);
-    }
-
-    /// What was never submitted has rows too.
-    #[test]
-    fn rows_of_what_was_not_submitted() {
-        let timeline = Timeline::new(&told(3, 1), 500);
-        assert_eq!((timeline.rows(), timeline.bars.len(), timeline.per_bar), (167, 1, 3));
-        assert_eq!(Timeline::new(&Told::default(), 0).rows(), 0);
     }
 
     /// Submitted one a turn from turn 1 on, each completed `after` turns later.
@@ -205,7 +168,7 @@ mod tests {
                 when: When::Transfer(number + after),
                 status: STATUS_OK,
             }),
-            payload: Some(Payload::Frames),
+            payload: Some(vec![0]),
         };
         Told {
             turns: periods + after,
@@ -216,7 +179,7 @@ mod tests {
 
     #[test]
     fn a_bar_to_a_period() {
-        let timeline = Timeline::new(&told(3, 1), 3);
+        let timeline = Timeline::new(&told(3, 1));
         let bar = |from, to| Bar {
             from,
             to,
@@ -237,7 +200,7 @@ mod tests {
             status: 0x8003,
         });
         late.payload = None;
-        let timeline = Timeline::new(&told, 2);
+        let timeline = Timeline::new(&told);
         let failed = Bar {
             from: 1,
             to: 4,
@@ -250,7 +213,7 @@ mod tests {
 
     #[test]
     fn thousands_share_bars_and_columns() {
-        let timeline = Timeline::new(&told(100_000, 9), 100_000);
+        let timeline = Timeline::new(&told(100_000, 9));
         assert_eq!((timeline.bars.len(), timeline.per_bar), (180, 556));
         assert!(timeline.columns.len() <= 438);
         let last = timeline.columns.last().map(|column| (column.to, column.most));

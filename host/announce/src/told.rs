@@ -1,7 +1,7 @@
 //! What happened in one announcement, as it was seen.
 pub use page::{Completed, Fault, GoingOn, Jacks, Refused, Virtio, What, When};
+use snd::{Answer, ChannelRange};
 use std::time::Duration;
-use vsnd::{Answer, ChannelRange};
 
 /// A period that was submitted.
 #[derive(Clone, PartialEq, Eq, Debug)]
@@ -15,38 +15,7 @@ pub struct Period {
     pub submitted: u64,
     pub completed: Option<Completed>,
     /// What the device took of it, if it accepted it.
-    pub payload: Option<Payload>,
-}
-
-/// What the device took of a period.
-#[derive(Clone, PartialEq, Eq, Debug)]
-pub enum Payload {
-    /// The frames' bytes of the period's own place: they are kept once, in the frames.
-    Frames,
-    /// Others.
-    Other(Vec<u8>),
-}
-
-impl Payload {
-    /// Of bytes that were taken at this offset, in periods of `size` bytes.
-    pub fn of(frames: &[u8], size: usize, offset: usize, taken: Vec<u8>) -> Self {
-        let due = frames.get(offset..).map(|rest| rest.split_at(size.min(rest.len())).0);
-        if offset.is_multiple_of(size) && due == Some(&taken) {
-            Self::Frames
-        } else {
-            Self::Other(taken)
-        }
-    }
-}
-
-impl Period {
-    /// The bytes that the device took of it.
-    pub fn taken<'t>(&'t self, frames: &'t [u8]) -> Option<&'t [u8]> {
-        match self.payload.as_ref()? {
-            Payload::Frames => frames.get(self.offset..)?.get(..self.length),
-            Payload::Other(taken) => Some(taken),
-        }
-    }
+    pub payload: Option<Vec<u8>>,
 }
 
 /// A control request, by its code, and how the device answered it.

@@ -2,9 +2,9 @@
 mod common;
 
 use common::{Folder, complains, frames, wave};
+use snd::{Format, Rate};
 use std::fs::{self, File, OpenOptions};
 use std::os::unix::fs::symlink;
-use vsnd::{Format, Rate};
 
 fn complaint(words: &str, sentence: &str) {
     complains(&Folder::new("complaint").run(words), sentence);
@@ -16,11 +16,15 @@ fn unreadable_and_unwritable_files() {
         "no-such-file.raw",
         "cannot read no-such-file.raw: No such file or directory (os error 2)",
     );
+    complaint(
+        "--accepted no-such-folder/a",
+        "cannot write no-such-folder/a: No such file or directory (os error 2)",
+    );
     // one that cannot be read, and none is spoken
     let folder = Folder::new("unreadable");
     folder.write("a.raw", &frames(100));
     complains(
-        &folder.run("--raw a.raw --raw no-such-file.raw --log log.json"),
+        &folder.run("a.raw no-such-file.raw --log log.json"),
         "cannot read no-such-file.raw: No such file or directory (os error 2)",
     );
     assert!(!folder.0.join("log.json").exists());
@@ -92,38 +96,32 @@ fn parts_that_cannot_be_joined() {
     }
     let whole = "each part but the last is a whole number of periods of 4096 bytes";
     complains(
-        &folder.run("--join --raw whole.raw --raw cut.raw --raw whole.raw --log log.json"),
+        &folder.run("--join whole.raw cut.raw whole.raw --log log.json"),
         &format!("{whole}: cut.raw has 10000 bytes of frames, and 2288 more would pad it"),
     );
     assert!(!folder.0.join("log.json").exists());
     complains(
-        &folder.run("--join --raw cut.raw --raw whole.raw --raw short.raw --raw cut.raw"),
+        &folder.run("--join cut.raw whole.raw short.raw cut.raw"),
         &format!(
             "{whole}: cut.raw has 10000 bytes of frames, and 2288 more would pad it; \
-             short.raw has 1 byte of frames, and 4095 more would pad it"
+             short.raw has 1 bytes of frames, and 4095 more would pad it"
         ),
     );
     // padded by as many it is joined, and so it is with a period that fits
     let mut padded = frames(10_000);
     padded.resize(10_000 + 2288, 0);
     folder.write("padded.raw", &padded);
+    assert_eq!(folder.run("--join padded.raw cut.raw").status.code(), Some(0));
     assert_eq!(
-        folder.run("--join --raw padded.raw --raw cut.raw").status.code(),
+        folder.run("--join cut.raw whole.raw --period 1000").status.code(),
         Some(0)
     );
-    assert_eq!(
-        folder
-            .run("--join --raw cut.raw --raw whole.raw --period 1000")
-            .status
-            .code(),
-        Some(0)
-    );
-    for words in ["--join", "--join whole.wav", "--join --raw whole.raw"] {
+    for words in ["--join", "--join whole.raw", "--join -- whole.raw"] {
         complains(&folder.run(words), "--join joins two FILEs or more");
     }
-    complains(&folder.run("--join=a --raw whole.raw"), "--join takes no value");
+    complains(&folder.run("--join=a whole.raw"), "--join takes no value");
     complains(
-        &folder.run("--join --raw whole.raw --record a --periods 3"),
+        &folder.run("--join whole.raw --record a --periods 3"),
         "--record a speaks nothing: leave whole.raw out",
     );
     complains(
@@ -131,11 +129,11 @@ fn parts_that_cannot_be_joined() {
         "--join goes with announcements: leave it out with --record",
     );
     complains(
-        &folder.run("--join --raw whole.raw --raw no-such-file.raw"),
+        &folder.run("--join whole.raw no-such-file.raw"),
         "cannot read no-such-file.raw: No such file or directory (os error 2)",
     );
     complains(
-        &folder.run("--join --raw whole.raw --raw whole.raw --period 1 --accepted whole.raw"),
+        &folder.run("--join whole.raw whole.raw --period 1 --accepted whole.raw"),
         "--accepted whole.raw would overwrite the input whole.raw",
     );
 }
@@ -152,10 +150,10 @@ fn parts_of_two_forms() {
     let two = "--join makes one announcement, and its parts have frames of two forms";
     let plain = "2 channels, S16, 48000 Hz";
     for (words, first, other) in [
-        ("--raw a.raw mono.wav", "a.raw", "mono.wav has 1 channel, S16, 48000 Hz"),
+        ("a.raw mono.wav", "a.raw", "mono.wav has 1 channel, S16, 48000 Hz"),
         ("a.wav slow.wav", "a.wav", "slow.wav has 2 channels, S16, 8000 Hz"),
         (
-            "a.wav --raw a.raw wide.wav",
+            "a.wav a.raw wide.wav",
             "a.wav",
             "wide.wav has 2 channels, S32, 48000 Hz",
         ),
@@ -166,9 +164,9 @@ fn parts_of_two_forms() {
         );
     }
     // raw frames and a file of the same form are of one
-    assert_eq!(folder.run("--join --raw a.raw a.wav").status.code(), Some(0));
+    assert_eq!(folder.run("--join a.raw a.wav").status.code(), Some(0));
     complains(
-        &folder.run("--join --raw a.raw a.wav --rate 8000"),
+        &folder.run("--join a.raw a.wav --rate 8000"),
         "a.wav says its own rate, channels and format: leave --rate out",
     );
 }
@@ -189,7 +187,7 @@ fn recordings() {
         complaint(words, &sentence);
     }
     complaint(
-        "--record a --periods 3 --raw b.raw",
+        "--record a --periods 3 b.raw",
         "--record a speaks nothing: leave b.raw out",
     );
     complaint("--record a --periods 3 -- -", "--record a speaks nothing: leave - out");
@@ -203,8 +201,6 @@ fn recordings() {
         "--wav=b",
         "--log b",
         "--picture b",
-        "--report b",
-        "--trace b",
     ] {
         let name = words.split([' ', '=']).next().unwrap();
         let sentence = format!("{name} goes with announcements: leave it out with --record");
@@ -233,6 +229,10 @@ fn recordings() {
     complaint(
         "--record a --periods 1 --period 33554432",
         "32 buffers for periods of 33554432 bytes are 1073742080 bytes; at most 1073741824 are made",
+    );
+    complaint(
+        "--record no-such-folder/a --periods 1",
+        "cannot write no-such-folder/a: No such file or directory (os error 2)",
     );
 }
 
@@ -289,7 +289,7 @@ fn wave_files() {
     );
     complains(
         &folder.run("float.wav"),
-        "float.wav has a sound that the driver does not take (14 BadSound): its format tag is 3, and PCM has 1; it takes PCM of 8, 16, 24 or 32 bits at \
+        "float.wav has a sound that the driver does not take (14 BadSound): it takes PCM of 8, 16, 24 or 32 bits at \
          5512, 8000, 11025, 16000, 22050, 32000, 44100, 48000, 64000, 88200, 96000, 176400, 192000, 384000 Hz; \
          sox float.wav -b 16 -r 48000 -t wavpcm out.wav writes such a file",
     );
@@ -305,101 +305,6 @@ fn wave_files() {
          good.wav has 1 channel, S16, 22050 Hz, and wide.wav has 2 channels, S32, 22050 Hz",
     );
     assert!(!folder.0.join("out.wav").exists());
-}
-
-/// What is no WAVE file is not spoken as noise: each is 13, and it is said how it begins and what to do.
-#[test]
-fn no_wave_files() {
-    let folder = Folder::new("no-wave");
-    let good = wave(2, Format::S16, Rate::Hz48000, &frames(1000));
-    let with = |first: &[u8; 4]| [&first[..], &good[4..]].concat();
-    let damaged = "it does not begin with RIFF";
-    for (name, bytes, begins) in [
-        (
-            "rf64.wav",
-            with(b"RF64"),
-            "it begins with RF64, and a WAVE file with RIFF",
-        ),
-        (
-            "rifx.wav",
-            with(b"RIFX"),
-            "it begins with RIFX, and a WAVE file with RIFF",
-        ),
-        ("a.ogg", with(b"OggS"), "it begins with OggS, and a WAVE file with RIFF"),
-        (
-            "a.aiff",
-            with(b"FORM"),
-            "it begins with FORM, and a WAVE file with RIFF",
-        ),
-        ("damaged.wav", with(b"\0IFF"), damaged),
-        ("README.md", b"# A proved driver\n".to_vec(), damaged),
-        ("feeder.raw", frames(5000), damaged),
-    ] {
-        folder.write(name, &bytes);
-        let sentence = |shown: &str, sox: &str| {
-            format!(
-                "{shown} is no WAVE file (13 NotWave): {begins}; \
-                 sox {sox} -t wavpcm out.wav may make one of it, and --raw FILE speaks raw frames"
-            )
-        };
-        complains(&folder.run(&format!("{name} --log log.json")), &sentence(name, name));
-        complains(&folder.run_with("-", &bytes), &sentence("standard input", "-"));
-    }
-    folder.write("empty.wav", b"");
-    complains(
-        &folder.run("empty.wav --log log.json"),
-        "empty.wav is no WAVE file (13 NotWave): it is empty",
-    );
-    complains(
-        &folder.run_with("-", b""),
-        "standard input is no WAVE file (13 NotWave): it is empty",
-    );
-    assert!(!folder.0.join("log.json").exists());
-}
-
-/// What is said of a sound names what is unlike, and a name as a shell takes it.
-#[test]
-fn sounds_that_are_not_taken() {
-    let folder = Folder::new("sounds");
-    let mut file = wave(1, Format::S16, Rate::Hz48000, &frames(100));
-    let takes = "it takes PCM of 8, 16, 24 or 32 bits at 5512, 8000, 11025, 16000, 22050, 32000, 44100, 48000, 64000, 88200, 96000, 176400, 192000, 384000 Hz";
-    file[24..28].copy_from_slice(&12_000u32.to_le_bytes());
-    file[28..32].copy_from_slice(&24_000u32.to_le_bytes());
-    folder.write("it's a b.wav", &file);
-    complains(
-        &folder.command(&["it's a b.wav"]).output().unwrap(),
-        &format!(
-            "it's a b.wav has a sound that the driver does not take (14 BadSound): its rate is 12000 Hz; {takes}; \
-             sox 'it'\\''s a b.wav' -b 16 -r 48000 -t wavpcm out.wav writes such a file"
-        ),
-    );
-}
-
-/// What has no end is not read, and a limit can be raised.
-#[test]
-fn endless_files() {
-    let folder = Folder::new("endless");
-    folder.write("a.raw", &frames(100));
-    for file in ["/dev/full", "/dev/zero", "."] {
-        let what = if file == "." { "a folder" } else { "no regular file" };
-        let sentence = format!("cannot read {file}: it is {what}; - reads standard input");
-        complains(&folder.run(file), &sentence);
-        complains(&folder.run(&format!("--raw {file}")), &sentence);
-    }
-    complains(
-        &folder.run("--raw a.raw --limit 99"),
-        "a.raw has more than 99 bytes: --limit BYTES reads more",
-    );
-    assert_eq!(folder.run("--raw a.raw --limit 100").status.code(), Some(0));
-    let input = folder.run_with("--raw - --limit=99", &frames(100));
-    complains(
-        &input,
-        "standard input has more than 99 bytes: --limit BYTES reads more",
-    );
-    complains(
-        &folder.run("--raw"),
-        "--raw names the file of raw frames behind it: --raw FILE",
-    );
 }
 
 /// A folder with a recording, other names for it, and links to files that are not there.
@@ -427,14 +332,14 @@ fn no_input_is_overwritten() {
         "link",
         "twin",
     ];
-    for output in ["--accepted", "--wav", "--log", "--picture", "--trace", "--report"] {
+    for output in ["--accepted", "--wav", "--log", "--picture"] {
         for path in spelled {
-            let said = folder.run(&format!("--seconds 0 --raw feeder.raw {output} {path}"));
+            let said = folder.run(&format!("--seconds 0 feeder.raw {output} {path}"));
             complains(&said, &format!("{output} {path} would overwrite the input feeder.raw"));
         }
     }
     complains(
-        &folder.run("--raw sub/up/link --log feeder.raw"),
+        &folder.run("sub/up/link --log feeder.raw"),
         "--log feeder.raw would overwrite the input sub/up/link",
     );
     assert_eq!(folder.read("feeder.raw"), frames(5_000));
@@ -474,10 +379,10 @@ fn no_two_outputs_meet() {
 fn redirected() {
     let folder = with_links("redirected");
     let file = folder.0.join("feeder.raw");
-    let mut command = folder.command(&["--raw", "-", "--log", "link"]);
+    let mut command = folder.command(&["-", "--log", "link"]);
     let said = command.stdin(File::open(&file).unwrap()).output().unwrap();
     complains(&said, "--log link would overwrite the input -");
-    let mut command = folder.command(&["--raw", "feeder.raw"]);
+    let mut command = folder.command(&["feeder.raw"]);
     let append = OpenOptions::new().append(true).open(&file).unwrap();
     let said = command.stdout(append).output().unwrap();
     complains(&said, "standard output would overwrite the input feeder.raw");

@@ -21,7 +21,7 @@ fn a_good_run() {
     let folder = Folder::new("log-good");
     let frames = frames(10_000);
     folder.write("feeder.raw", &frames);
-    let log = log(&folder, "--raw feeder.raw");
+    let log = log(&folder, "feeder.raw");
     assert_eq!(numbers(&log, ["version", "exit_status"]), [1, 0]);
     let [announcement] = log.at("announcements").list() else {
         panic!("one announcement")
@@ -50,7 +50,7 @@ fn a_good_run() {
 #[test]
 fn a_wave_file() {
     let folder = Folder::new("log-wav");
-    let file = common::wave(1, vsnd::Format::S24In3, vsnd::Rate::Hz22050, &frames(9_999));
+    let file = common::wave(1, snd::Format::S24In3, snd::Rate::Hz22050, &frames(9_999));
     folder.write("feeder.wav", &file);
     let log = log(&folder, "feeder.wav");
     let announcement = &log.at("announcements").list()[0];
@@ -140,7 +140,7 @@ fn what_the_device_said() {
     let folder = Folder::new("log-status");
     folder.write("a.raw", &frames(10));
     let said = |words: &str| {
-        let log = log(&folder, &format!("--raw a.raw {words}"));
+        let log = log(&folder, &format!("a.raw {words}"));
         log.at("announcements").list()[0].clone()
     };
     for (status, cause) in [
@@ -185,7 +185,7 @@ fn lengths_and_jacks() {
     let queries = |jacks| [[1, jacks], [0x0100, 68], [0x0200, 4]];
     for (strict, remap, answer) in [(false, &[[2, 4]][..], (0, "Ok")), (true, &[], (4, "NoInfo"))] {
         let words = if strict { "--strict" } else { "" };
-        let log = log(&folder, &format!("--raw a.raw --raw a.raw --short-jacks {words}"));
+        let log = log(&folder, &format!("a.raw a.raw --short-jacks {words}"));
         let [first, second] = log.at("announcements").list() else {
             panic!("two announcements")
         };
@@ -201,16 +201,16 @@ fn lengths_and_jacks() {
         let said = jacks.at("remap_answer");
         assert_eq!((said.at("number").number(), said.at("name").text()), answer);
     }
-    let guarded = log(&folder, "--raw a.raw --guard");
+    let guarded = log(&folder, "a.raw --guard");
     let announcement = &guarded.at("announcements").list()[0];
     assert_eq!(announcement.at("guard"), &Json::Truth(true));
     assert_eq!(announcement.at("indirect"), &Json::Truth(false));
-    let indirect = log(&folder, "--raw a.raw --indirect");
+    let indirect = log(&folder, "a.raw --indirect");
     let announcement = &indirect.at("announcements").list()[0];
     assert_eq!(announcement.at("indirect"), &Json::Truth(true));
     let announcement = &guarded.at("announcements").list()[0];
     assert_eq!(controls(announcement), [&queries(4)[..], &own].concat());
-    let log = log(&folder, "--raw a.raw");
+    let log = log(&folder, "a.raw");
     let announcement = &log.at("announcements").list()[0];
     assert_eq!(announcement.at("strict"), &Json::Truth(false));
     assert_eq!(announcement.at("guard"), &Json::Truth(false));
@@ -241,9 +241,9 @@ fn joined() {
         });
         (places, parts.collect::<Vec<_>>())
     };
-    let ((a, none), (b, _)) = (of("--raw a.raw"), of("--raw b.raw"));
+    let ((a, none), (b, _)) = (of("a.raw"), of("b.raw"));
     assert_eq!(none, []);
-    let (joined, parts) = of("--join --raw a.raw --raw b.raw");
+    let (joined, parts) = of("--join a.raw b.raw");
     let after: Vec<_> = b.iter().map(|(offset, length)| (offset + 8192, *length)).collect();
     assert_eq!(joined, [a, after].concat());
     let named = |name: &str, numbers| (name.to_string(), numbers);
@@ -254,7 +254,7 @@ fn joined() {
 fn going_on() {
     let folder = Folder::new("log-go-on");
     folder.write("a.raw", &frames(10_000));
-    let log = log(&folder, "--go-on --slow 5 --raw a.raw");
+    let log = log(&folder, "--go-on --slow 5 a.raw");
     let going_on = log.at("announcements").list()[0].at("going_on");
     let numbers = ["polled", "most_pending", "filled"].map(|name| going_on.at(name).number());
     assert_eq!(numbers, [15, 3, 2288]);
@@ -269,7 +269,7 @@ fn several_and_odd_names() {
     folder.write(name, &frames(10));
     folder.write("b.raw", b"");
     let said = folder
-        .command(&["--raw", name, "--raw", "b.raw", "--log", "log.json", "--budget", "0"])
+        .command(&[name, "b.raw", "--log", "log.json", "--budget", "0"])
         .output()
         .unwrap();
     assert_eq!(said.status.code(), Some(1));

@@ -18,12 +18,8 @@ fn lines<'p>(page: &'p str, name: &str) -> Vec<&'p str> {
 }
 
 /// Two channels of 16 bits at 48,000 Hz.
-fn time(bytes: usize) -> f64 {
-    bytes as f64 / (4.0 * 48_000.0)
-}
-
 fn seconds(bytes: usize) -> String {
-    format!("{:.6}", time(bytes))
+    format!("{:.6}", bytes as f64 / (4.0 * 48_000.0))
 }
 
 /// Speaks, and holds the page to what the device had accepted when the transfer answered: the bytes that were spoken.
@@ -36,9 +32,7 @@ fn heard(folder: &Folder, words: &str) -> Option<usize> {
     let log = json::read(&folder.text("log.json"));
     let told = log.at("announcements").list()[0].at("spoken");
     if lines(&page, "answer") == ["0 Ok"] {
-        let all = [format!("the device took all {:.2} seconds", time(BYTES))];
-        assert_eq!((spoken.len(), told), (0, &Json::Null), "{words}");
-        assert_eq!(operator, all, "{words}");
+        assert_eq!((spoken.len(), operator.len(), told), (0, 0, &Json::Null), "{words}");
         return None;
     }
     // what the device took, byte for byte
@@ -57,39 +51,13 @@ fn heard(folder: &Folder, words: &str) -> Option<usize> {
         ([periods, 9, accepted.len()], &Json::Truth(true)),
         "{words}"
     );
-    // where slots are owed the device may have played all that it was given
-    let announcement = &log.at("announcements").list()[0];
-    let given = (announcement.at("submitted").number() as usize * PERIOD).min(BYTES);
-    let owed = announcement.at("owed").number() > 0;
-    let (some, all, most) = (time(accepted.len()), time(BYTES), time(given));
-    // where two decimals would show the part as the whole there are more
-    let digits = if format!("{some:.2}") == format!("{all:.2}") || format!("{some:.2}") == "0.00" {
-        6
-    } else {
-        2
+    let (some, all) = (seconds(accepted.len()), seconds(BYTES));
+    let screen = match accepted.len() {
+        0 => "nothing was spoken when it failed: repeat the announcement".into(),
+        BYTES => format!("all {all} seconds were spoken; what failed came after"),
+        _ => format!("the first {some} of {all} seconds were spoken when it failed: repeat the announcement"),
     };
-    let most_digits = if given < BYTES && format!("{most:.2}") == format!("{all:.2}") || format!("{most:.2}") == "0.00"
-    {
-        6
-    } else {
-        2
-    };
-    let both = most_digits.max(digits);
-    let screen = match (accepted.len(), owed) {
-        (BYTES, _) => format!("all {all:.2} seconds were spoken; what failed came after"),
-        (0, false) => "nothing was spoken: repeat the announcement".into(),
-        (0, true) => format!(
-            "nothing is known to have been spoken, up to {most:.most_digits$} seconds may have been heard: repeat the announcement"
-        ),
-        (_, false) => {
-            format!("the first {some:.digits$} of {all:.digits$} seconds were spoken: repeat the announcement")
-        }
-        (_, true) => format!(
-            "the first {some:.digits$} of {all:.digits$} seconds were spoken, and up to {most:.both$} seconds may have been heard: repeat the announcement"
-        ),
-    };
-    assert_eq!(operator, [screen.as_str()], "{words}");
-    assert_eq!(announcement.at("operator").text(), screen);
+    assert_eq!(operator, [screen], "{words}");
     Some(accepted.len())
 }
 
@@ -105,7 +73,7 @@ fn a_device_that_fails_each_period() {
     for slow in [1, 2, 5] {
         for at in 1..=10 {
             for more in ["", "--strict --guard", "--fail-status 0x8001", "--indirect"] {
-                let spoken = heard(&folder, &format!("--raw a.raw --slow {slow} --fail-at {at} {more}"));
+                let spoken = heard(&folder, &format!("a.raw --slow {slow} --fail-at {at} {more}"));
                 assert_eq!(spoken, (at <= 9).then_some((at - 1) * PERIOD));
             }
         }
@@ -117,12 +85,12 @@ fn a_device_that_names_a_wrong_slot_at_each_completion() {
     let folder = folder("spoken-wrong");
     for slow in [1, 2, 5] {
         for at in 1..=10 {
-            let spoken = heard(&folder, &format!("--raw a.raw --slow {slow} --wrong-slot-at {at}"));
+            let spoken = heard(&folder, &format!("a.raw --slow {slow} --wrong-slot-at {at}"));
             assert_eq!(spoken, (at <= 9).then_some((at - 1) * PERIOD));
             // a period that fails behind it, in the drain
             heard(
                 &folder,
-                &format!("--raw a.raw --slow {slow} --wrong-slot-at {at} --fail-at {at}"),
+                &format!("a.raw --slow {slow} --wrong-slot-at {at} --fail-at {at}"),
             );
         }
     }
@@ -134,7 +102,7 @@ fn each_budget() {
     let folder = folder("spoken-budget");
     for slow in [1, 2, 5] {
         for budget in 0..=9 * slow + 1 {
-            let spoken = heard(&folder, &format!("--raw a.raw --slow {slow} --budget {budget}"));
+            let spoken = heard(&folder, &format!("a.raw --slow {slow} --budget {budget}"));
             let periods = budget / slow;
             assert_eq!(
                 spoken,
@@ -157,15 +125,15 @@ fn each_call_that_is_refused() {
         ("release", BYTES),
     ] {
         assert_eq!(
-            heard(&folder, &format!("--raw a.raw --fail-call {call}")),
+            heard(&folder, &format!("a.raw --fail-call {call}")),
             Some(spoken),
             "{call}"
         );
         // what failed first is told
-        let first = heard(&folder, &format!("--raw a.raw --fail-call {call} --fail-at 3"));
+        let first = heard(&folder, &format!("a.raw --fail-call {call} --fail-at 3"));
         assert_eq!(first, Some(spoken.min(2 * PERIOD)), "{call}");
     }
-    assert_eq!(heard(&folder, "--raw a.raw --short-jacks --fail-call remap"), None);
+    assert_eq!(heard(&folder, "a.raw --short-jacks --fail-call remap"), None);
 }
 
 /// On one device the ring keeps the count of the transfer before: of an announcement that ran no turn nothing was spoken.
@@ -173,9 +141,7 @@ fn each_call_that_is_refused() {
 fn each_of_several_announcements() {
     let folder = folder("spoken-several");
     let run = |words: &str| {
-        let output = folder.run(&format!(
-            "--raw a.raw --raw a.raw --raw a.raw --period {PERIOD} {words}"
-        ));
+        let output = folder.run(&format!("a.raw a.raw a.raw --period {PERIOD} {words}"));
         let page = String::from_utf8(output.stdout).unwrap();
         let spoken = lines(&page, "spoken").into_iter().map(str::to_string);
         spoken.collect::<Vec<_>>()
@@ -199,7 +165,7 @@ fn up_to_which_part() {
     for (name, periods) in [("feeder.raw", 2), ("pause.raw", 0), ("one.raw", 1), ("four.raw", 3)] {
         folder.write(name, &frames(periods * PERIOD as u32));
     }
-    let words = "--join --raw feeder.raw --raw pause.raw --raw one.raw --raw four.raw";
+    let words = "--join feeder.raw pause.raw one.raw four.raw";
     for (spoken, whole, into, all, part, name) in [
         (0, 0, 0, 2000, 1, "feeder.raw"),
         (1, 0, 1000, 2000, 1, "feeder.raw"),
@@ -223,7 +189,7 @@ fn up_to_which_part() {
                 panic!("one sentence: {page}")
             };
             assert_eq!(
-                operator.contains(&format!(" were spoken, up to {name}")),
+                operator.contains(&format!(", up to {name}: repeat")),
                 spoken > 0,
                 "{operator}"
             );
@@ -242,7 +208,7 @@ fn up_to_which_part() {
 #[test]
 fn what_does_not_wait() {
     let folder = folder("spoken-go-on");
-    let output = folder.run(&format!("--raw a.raw --go-on --fail-at 3 --period {PERIOD}"));
+    let output = folder.run(&format!("a.raw --go-on --fail-at 3 --period {PERIOD}"));
     let page = String::from_utf8(output.stdout).unwrap();
     assert_eq!((lines(&page, "spoken").len(), output.status.code()), (0, Some(1)));
 }

@@ -2,9 +2,9 @@
 mod common;
 
 use common::{Folder, complains, frames};
+use snd::Refusal;
+use snd::trace::{self, DIRECT, Field, Fields, Judged};
 use std::process::Output;
-use vsnd::Refusal;
-use vsnd::trace::{self, DIRECT, Field, Fields, Judged};
 
 /// The line that answers.
 fn answer(output: &Output) -> String {
@@ -29,8 +29,8 @@ fn every_fault_has_a_trace_that_is_accepted() {
     folder.write("b.raw", &frames(8_192));
     let faults = [
         ("", 0),
-        ("--raw a.raw", 0),
-        ("--raw a.raw --period 4", 0),
+        ("a.raw", 0),
+        ("a.raw --period 4", 0),
         ("--seconds 0", 0),
         ("--slow 3", 0),
         ("--slow 40", 0),
@@ -52,8 +52,8 @@ fn every_fault_has_a_trace_that_is_accepted() {
         ("--short-jacks --strict --fail-call remap", 0),
         ("--guard", 0),
         ("--virtio 1.3 --controls 2", 0),
-        ("--join --raw b.raw --raw a.raw", 0),
-        ("--join --raw b.raw --raw a.raw --fail-at 4", 2),
+        ("--join b.raw a.raw", 0),
+        ("--join b.raw a.raw --fail-at 4", 2),
     ];
     for (words, ended) in faults {
         let (trace, said) = traced(&folder, words);
@@ -99,7 +99,7 @@ fn no_turn_leaves_no_trace() {
 fn the_example_is_what_is_written() {
     let folder = Folder::new("trace-example");
     folder.write("ten.raw", b"ten bytes.");
-    let (trace, _said) = traced(&folder, "--raw ten.raw --channels 1 --period 4");
+    let (trace, _said) = traced(&folder, "ten.raw --channels 1 --period 4");
     let page = include_str!("../../../docs/TRACE.md");
     let (_, block) = page.split_once("are 79 bytes:\n\n").unwrap();
     let (block, _) = block.split_once("\n\n").unwrap();
@@ -118,9 +118,9 @@ fn what_has_no_trace_is_told() {
     folder.write("a.raw", &frames(100));
     folder.write("b.raw", &frames(100));
     let one = "--trace writes the trace of one announcement: name one FILE, or join them with --join";
-    complains(&folder.run("--raw a.raw --raw b.raw --trace t"), one);
+    complains(&folder.run("a.raw b.raw --trace t"), one);
     complains(
-        &folder.run("--raw a.raw --go-on --trace t"),
+        &folder.run("a.raw --go-on --trace t"),
         "--trace goes with a transfer: what does not wait has no turns to write it",
     );
     complains(
@@ -132,11 +132,11 @@ fn what_has_no_trace_is_told() {
         "--trace takes a file's name; standard output has the page",
     );
     complains(
-        &folder.run("--raw a.raw --trace a.raw"),
+        &folder.run("a.raw --trace a.raw"),
         "--trace a.raw would overwrite the input a.raw",
     );
     complains(
-        &folder.run("--raw a.raw --log t --trace t"),
+        &folder.run("a.raw --log t --trace t"),
         "--log t and --trace t are the same file",
     );
     assert!(!folder.0.join("t").exists());

@@ -1,8 +1,8 @@
 //! The port through its C entries, with stores and buffers that are used again, as a console keeps them.
-use crate::ways::{BUDGET, EVENT, FILLED, FULL, PLACES_SIZE, RING_PERIODS, Way, captured, full_pages, page, streams};
+use crate::ways::{BUDGET, EVENT, FULL, PLACES_SIZE, Way, captured, full_pages, page, streams};
+use snd::ffi::*;
+use snd::{MESSAGE_SIZE, PAGE_SIZE, RESULT_SIZE, RING_SIZE, STATE_SIZE, STATUS_OK};
 use std::hint::black_box;
-use vsnd::ffi::*;
-use vsnd::{MESSAGE_SIZE, PAGE_SIZE, RESULT_SIZE, RING_SIZE, STATE_SIZE, STATUS_OK};
 
 const OK: u64 = 0;
 const SEND: u64 = 256;
@@ -18,7 +18,6 @@ pub struct Entries {
     pages: [[u8; PAGE_SIZE]; 3],
     places: Vec<u8>,
     recording: Vec<u8>,
-    room: Vec<u8>,
 }
 
 impl Entries {
@@ -33,18 +32,17 @@ impl Entries {
             pages: full_pages(),
             places: vec![0; PLACES_SIZE],
             recording: vec![],
-            room: vec![],
         };
-        assert_eq!(vsnd_new(&mut new.state, 0, 2, 0), OK);
-        assert_eq!(vsnd_ring_new(&mut new.ring), OK);
+        assert_eq!(snd_new(&mut new.state, 0, 2, 0), OK);
+        assert_eq!(snd_ring_new(&mut new.ring), OK);
         assert_eq!(
-            vsnd_output_streams(&mut new.state, &new.ring, &mut new.message, &mut new.result),
+            snd_output_streams(&mut new.state, &new.ring, &mut new.message, &mut new.result),
             SEND + 16
         );
         let two = page(&streams());
         for (answer, said) in [(&new.ok, SEND + 16), (&two, SEND + 16), (&new.ok, OK)] {
             assert_eq!(
-                vsnd_feed(&mut new.state, answer, &mut new.message, &mut new.result),
+                snd_feed(&mut new.state, answer, &mut new.message, &mut new.result),
                 said
             );
         }
@@ -52,47 +50,8 @@ impl Entries {
     }
 
     fn start(&mut self, frames: &[u8]) {
-        let started = vsnd_pcm_xfer_start(&mut self.state, &mut self.ring, 0, frames, BUDGET, &mut self.message);
+        let started = snd_pcm_xfer_start(&mut self.state, &mut self.ring, 0, frames, BUDGET, &mut self.message);
         assert_eq!(started, GOING);
-    }
-
-    /// Starts an announcement and fills its ring.
-    fn fill(&mut self, frames: &[u8]) {
-        self.start(frames);
-        for _ in 0..RING_PERIODS {
-            assert_eq!(vsnd_turn(&mut self.ring, frames, 0, 0, 0), GOING);
-        }
-    }
-
-    /// Completes what is in flight and what is left.
-    fn empty(&mut self, frames: &[u8]) {
-        let mut slot = 0;
-        while vsnd_turn(&mut self.ring, frames, 1, slot % 32, STATUS_OK) == GOING {
-            slot += 1;
-        }
-        assert_eq!(slot as usize, RING_PERIODS + 1);
-    }
-
-    /// Submits a period; its token.
-    fn send(&mut self, period: &[u8]) -> u32 {
-        let (message, result) = (&mut self.message, &mut self.result);
-        let out = vsnd_pcm_xfer_nb(
-            &mut self.state,
-            &self.ring,
-            0,
-            period,
-            &mut self.places,
-            message,
-            result,
-        );
-        assert_eq!(out, OK);
-        self.told(0) as u32
-    }
-
-    /// Marks a token and finishes it.
-    fn finish(&mut self, token: u32) {
-        assert_eq!(vsnd_pcm_xfer_mark(&mut self.state, 1, token, STATUS_OK), OK);
-        assert_eq!(vsnd_pcm_xfer_ok(&mut self.state, token), OK);
     }
 
     /// The number of 8 bytes at a place of the result.
@@ -107,7 +66,7 @@ impl Way for Entries {
     fn set_period(&mut self, period: u32) {
         for stream in [0, 1] {
             let (message, result) = (&mut self.message, &mut self.result);
-            let sent = vsnd_pcm_set_params(
+            let sent = snd_pcm_set_params(
                 &mut self.state,
                 &self.ring,
                 stream,
@@ -121,26 +80,26 @@ impl Way for Entries {
                 result,
             );
             assert_eq!(sent, SEND + 24);
-            assert_eq!(vsnd_feed(&mut self.state, &self.ok, message, result), OK);
+            assert_eq!(snd_feed(&mut self.state, &self.ok, message, result), OK);
         }
     }
 
     fn control(&mut self) {
         let (message, result) = (&mut self.message, &mut self.result);
         assert_eq!(
-            vsnd_pcm_prepare(&mut self.state, &self.ring, 0, message, result),
+            snd_pcm_prepare(&mut self.state, &self.ring, 0, message, result),
             SEND + 8
         );
-        assert_eq!(vsnd_feed(&mut self.state, black_box(&self.ok), message, result), OK);
+        assert_eq!(snd_feed(&mut self.state, black_box(&self.ok), message, result), OK);
     }
 
     fn set_up(&mut self) {
         let (state, message, result) = (&mut self.full, &mut self.message, &mut self.result);
         let [jacks, streams, maps] = FULL;
-        assert_eq!(vsnd_new(state, jacks, streams, maps), OK);
-        assert_eq!(vsnd_output_streams(state, &self.ring, message, result), SEND + 16);
+        assert_eq!(snd_new(state, jacks, streams, maps), OK);
+        assert_eq!(snd_output_streams(state, &self.ring, message, result), SEND + 16);
         for (answer, said) in self.pages.iter().zip([SEND + 16, SEND + 16, OK]) {
-            assert_eq!(vsnd_feed(state, answer, message, result), said);
+            assert_eq!(snd_feed(state, answer, message, result), said);
         }
         black_box(&self.result);
     }
@@ -148,9 +107,9 @@ impl Way for Entries {
     fn announce(&mut self, frames: &[u8]) -> u64 {
         self.start(frames);
         for turns in 1.. {
-            assert_eq!(vsnd_offered(&self.ring, frames, &mut self.result), OK);
+            assert_eq!(snd_offered(&self.ring, frames, &mut self.result), OK);
             let (there, slot) = (self.told(0), self.told(8));
-            let said = vsnd_turn(&mut self.ring, frames, there as u32, slot as u32, STATUS_OK);
+            let said = snd_turn(&mut self.ring, frames, there as u32, slot as u32, STATUS_OK);
             if said != GOING {
                 assert_eq!(said, OK);
                 return turns;
@@ -162,42 +121,7 @@ impl Way for Entries {
     fn announce_blindly(&mut self, frames: &[u8]) -> u64 {
         self.start(frames);
         for turns in 1.. {
-            let said = vsnd_turn(&mut self.ring, frames, 1, (turns - 1) as u32 % 32, STATUS_OK);
-            if said != GOING {
-                assert_eq!(said, OK);
-                return turns;
-            }
-        }
-        0
-    }
-
-    fn wait(&mut self, frames: &[u8], quiet: u64) -> u64 {
-        self.fill(frames);
-        for _ in 0..quiet {
-            assert_eq!(vsnd_offered(&self.ring, frames, &mut self.result), OK);
-            assert_eq!(self.told(0), 0);
-            assert_eq!(vsnd_turn(&mut self.ring, frames, 0, 0, 0), GOING);
-        }
-        self.empty(frames);
-        quiet + FILLED
-    }
-
-    fn wait_blindly(&mut self, frames: &[u8], quiet: u64) -> u64 {
-        self.fill(frames);
-        for _ in 0..quiet {
-            assert_eq!(vsnd_turn(&mut self.ring, frames, 0, 0, 0), GOING);
-        }
-        self.empty(frames);
-        quiet + FILLED
-    }
-
-    fn announce_traced(&mut self, frames: &[u8]) -> u64 {
-        self.room.resize(19 + 20 * frames.len() / 4, 0);
-        let (ring, room) = (&mut self.ring, &mut self.room);
-        let started = vsnd_pcm_xfer_start_traced(&mut self.state, ring, 0, frames, BUDGET, room, &mut self.message);
-        assert_eq!(started, GOING);
-        for turns in 1.. {
-            let said = vsnd_turn_traced(ring, frames, room, 1, (turns - 1) as u32 % 32, STATUS_OK);
+            let said = snd_turn(&mut self.ring, frames, 1, (turns - 1) as u32 % 32, STATUS_OK);
             if said != GOING {
                 assert_eq!(said, OK);
                 return turns;
@@ -209,7 +133,7 @@ impl Way for Entries {
     fn capture(&mut self, periods: usize, period: usize) -> u64 {
         let bytes = captured(period);
         self.recording.resize(periods * period, 0);
-        let started = vsnd_pcm_capture_start(
+        let started = snd_pcm_capture_start(
             &mut self.state,
             &mut self.ring,
             1,
@@ -220,9 +144,9 @@ impl Way for Entries {
         );
         assert_eq!(started, GOING);
         for turns in 1.. {
-            assert_eq!(vsnd_capture_offered(&self.ring, &self.recording, &mut self.result), OK);
+            assert_eq!(snd_capture_offered(&self.ring, &self.recording, &mut self.result), OK);
             let (there, slot) = (self.told(0), self.told(8));
-            let said = vsnd_capture_turn(
+            let said = snd_capture_turn(
                 &mut self.ring,
                 &mut self.recording,
                 there as u32,
@@ -239,35 +163,24 @@ impl Way for Entries {
     }
 
     fn submit(&mut self, period: &[u8]) {
-        let token = self.send(period);
-        self.finish(token);
-    }
-
-    fn hold(&mut self, period: &[u8]) {
-        for place in 0..vsnd::PLACES {
-            assert_eq!(self.send(period) as usize, place);
-        }
-    }
-
-    fn count(&mut self) {
-        assert_eq!(vsnd_pending_count(black_box(&self.state), &mut self.result), OK);
-        assert_eq!(self.told(0), vsnd::PLACES as u64);
-    }
-
-    fn let_go(&mut self) {
-        (0..vsnd::PLACES).for_each(|token| self.finish(token as u32));
-    }
-
-    fn judge(&mut self, trace: &[u8]) {
-        assert_eq!(vsnd_judge(3, black_box(trace)), OK);
-    }
-
-    fn compare(&mut self, first: &[u8], second: &[u8]) {
-        assert_eq!(vsnd_compare(first, black_box(second), &mut self.result), OK);
+        let (message, result) = (&mut self.message, &mut self.result);
+        let out = snd_pcm_xfer_nb(
+            &mut self.state,
+            &self.ring,
+            0,
+            period,
+            &mut self.places,
+            message,
+            result,
+        );
+        assert_eq!(out, OK);
+        let token = self.told(0) as u32;
+        assert_eq!(snd_pcm_xfer_mark(&mut self.state, 1, token, STATUS_OK), OK);
+        assert_eq!(snd_pcm_xfer_ok(&mut self.state, token), OK);
     }
 
     fn event(&mut self) {
-        assert_eq!(vsnd_latest_notification(black_box(&EVENT), &mut self.result), OK);
+        assert_eq!(snd_latest_notification(black_box(&EVENT), &mut self.result), OK);
         black_box(&self.result);
     }
 }

@@ -30,7 +30,7 @@ fn main() {
 fn complain(usage: &str) -> ! {
     let names: Vec<_> = Work::ALL.iter().map(|work| work.name()).collect();
     eprintln!(
-        "bench takes {usage}. Ways: entries, vsnd, rust. Work: {}",
+        "bench takes {usage}. Ways: entries, snd, rust. Work: {}",
         names.join(", ")
     );
     std::process::exit(2)
@@ -44,9 +44,9 @@ fn once(way: &str, work: &str, times: &str) {
     };
     let mut way: Box<dyn Way> = match way {
         "entries" => Box::new(entries::Entries::new()),
-        "vsnd" => Box::new(safe::Safe::new()),
-        "rust" if !work.of_rust() => {
-            complain("another work: the Rust has no captures, traces or count of what is pending")
+        "snd" => Box::new(safe::Safe::new()),
+        "rust" if matches!(work, Work::Capture | Work::LongCapture) => {
+            complain("another work: the Rust has no captures")
         }
         "rust" => rust_text::way().unwrap_or_else(|| complain("a way that is at hand; the Rust's own text is not")),
         _ => complain("WAY WORK TIMES"),
@@ -79,7 +79,7 @@ fn table() {
     let (mut entries, mut safe, mut rust) = (entries::Entries::new(), safe::Safe::new(), rust_text::way());
     println!(
         "{:44} {:>12} {:>12} {:>12} {:>13}",
-        "nanoseconds", "C entries", "crate vsnd", "the Rust", "entries/Rust"
+        "nanoseconds", "C entries", "crate snd", "the Rust", "entries/Rust"
     );
     for &work in Work::ALL {
         let ours = measure(work, &mut entries);

@@ -1,10 +1,10 @@
 //! The Rust's own text, where it is at hand: compiled as it stands over the comparison's stand-ins for queue and transport, whose cost is in
 //! the figures.
-use crate::ways::{EVENT, FULL, RING_PERIODS, Way, full_pages, page};
+use crate::ways::{EVENT, FULL, Way, full_pages, page};
 use oracle::{Call, Control, End, Outside, Tokens};
+use snd::{PAGE_SIZE, PcmInfo, STATUS_OK};
 use std::cell::Cell;
 use std::rc::Rc;
-use vsnd::{PAGE_SIZE, PcmInfo, STATUS_OK};
 
 /// The Rust driver as a way to get the work done; none where its text is not at hand.
 pub fn way() -> Option<Box<dyn Way>> {
@@ -36,8 +36,6 @@ struct Prepared<const N: usize> {
     answers: Pages<N>,
     next: usize,
     turns: Rc<Cell<u64>>,
-    /// so many turns read nothing at first
-    quiet: u64,
 }
 
 impl<const N: usize> Outside for Prepared<N> {
@@ -57,10 +55,6 @@ impl<const N: usize> Outside for Prepared<N> {
     fn submit_one(&mut self, _token: u16, _buffer: &[u8]) {}
 
     fn reading(&mut self, flight: &[u16]) -> Option<(u32, u32)> {
-        if self.quiet > 0 {
-            self.quiet -= 1;
-            return None;
-        }
         flight.first().map(|&oldest| (oldest.into(), STATUS_OK))
     }
 
@@ -71,20 +65,7 @@ impl<const N: usize> Outside for Prepared<N> {
 
 impl Text {
     fn make<const N: usize>(&mut self, call: Call, answers: Pages<N>) -> Vec<u64> {
-        make(self.sound.as_mut(), call, answers, &self.turns, 0)
-    }
-
-    /// An announcement whose first turns are quiet; how many turns it took.
-    fn spoken(&mut self, frames: &[u8], quiet: u64) -> u64 {
-        self.turns.set(0);
-        make(
-            self.sound.as_mut(),
-            Call::PcmXfer(0, frames),
-            self.ok.clone(),
-            &self.turns,
-            quiet,
-        );
-        self.turns.get()
+        make(self.sound.as_mut(), call, answers, &self.turns)
     }
 }
 
@@ -93,7 +74,6 @@ fn make<const N: usize>(
     call: Call,
     answers: Pages<N>,
     turns: &Rc<Cell<u64>>,
-    quiet: u64,
 ) -> Vec<u64> {
     let (end, values) = sound.call(
         call,
@@ -101,7 +81,6 @@ fn make<const N: usize>(
             answers,
             next: 0,
             turns: turns.clone(),
-            quiet,
         }),
     );
     assert_eq!(end, End::Number(0));
@@ -133,27 +112,18 @@ impl Way for Text {
 
     fn set_up(&mut self) {
         let mut full = oracle::sound(FULL, Tokens::Slots, false).expect("its text is at hand");
-        make(full.as_mut(), Call::OutputStreams, self.full.clone(), &self.turns, 0);
+        make(full.as_mut(), Call::OutputStreams, self.full.clone(), &self.turns);
     }
 
     fn announce(&mut self, frames: &[u8]) -> u64 {
-        self.spoken(frames, 0)
+        self.turns.set(0);
+        let ok = self.ok.clone();
+        self.make(Call::PcmXfer(0, frames), ok);
+        self.turns.get()
     }
 
     fn announce_blindly(&mut self, frames: &[u8]) -> u64 {
         self.announce(frames)
-    }
-
-    fn wait(&mut self, frames: &[u8], quiet: u64) -> u64 {
-        self.spoken(frames, RING_PERIODS as u64 + quiet)
-    }
-
-    fn wait_blindly(&mut self, frames: &[u8], quiet: u64) -> u64 {
-        self.wait(frames, quiet)
-    }
-
-    fn announce_traced(&mut self, _frames: &[u8]) -> u64 {
-        unreachable!("the Rust has no traces")
     }
 
     fn capture(&mut self, _periods: usize, _period: usize) -> u64 {
@@ -165,26 +135,6 @@ impl Way for Text {
         let token = self.make(Call::PcmXferNb(0, period), ok.clone())[0] as u16;
         self.sound.complete(token, STATUS_OK);
         self.make(Call::PcmXferOk(token), ok);
-    }
-
-    fn hold(&mut self, _period: &[u8]) {
-        unreachable!("the Rust has no count of what is pending")
-    }
-
-    fn count(&mut self) {
-        unreachable!("the Rust has no count of what is pending")
-    }
-
-    fn let_go(&mut self) {
-        unreachable!("the Rust has no count of what is pending")
-    }
-
-    fn judge(&mut self, _trace: &[u8]) {
-        unreachable!("the Rust has no traces")
-    }
-
-    fn compare(&mut self, _first: &[u8], _second: &[u8]) {
-        unreachable!("the Rust has no traces")
     }
 
     fn event(&mut self) {

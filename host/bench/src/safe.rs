@@ -1,10 +1,10 @@
 //! The port through the safe crate, as a Rust console writes it.
-use crate::ways::{BUDGET, EVENT, FILLED, FULL, PLACES_SIZE, RING_PERIODS, Way, captured, full_pages, page, streams};
-use std::hint::black_box;
-use vsnd::{
+use crate::ways::{BUDGET, EVENT, FULL, PLACES_SIZE, Way, captured, full_pages, page, streams};
+use snd::{
     Captured, Capturing, Format, PAGE_SIZE, Page, Params, Places, Rate, Reading, Refusal, Ring, STATUS_OK, Sound, Step,
     StreamList, Submitted, Turn,
 };
+use std::hint::black_box;
 
 pub struct Safe {
     sound: Sound,
@@ -13,7 +13,6 @@ pub struct Safe {
     pages: [Page; 3],
     places: Places<Vec<u8>>,
     recording: Vec<u8>,
-    room: Vec<u8>,
 }
 
 fn of(bytes: [u8; PAGE_SIZE]) -> Page {
@@ -49,7 +48,6 @@ impl Safe {
             pages: full_pages().map(of),
             places: Places::new(vec![0; PLACES_SIZE]),
             recording: vec![],
-            room: vec![],
         }
     }
 
@@ -64,45 +62,6 @@ impl Safe {
     fn start(&mut self, frames: &[u8]) {
         let started = self.sound.pcm_xfer_start(&mut self.ring, 0, frames, BUDGET);
         assert_eq!(started, Ok(Step::Done(())));
-    }
-}
-
-/// The completion of the k-th period.
-fn completed(k: u64) -> Reading {
-    Reading::Completed {
-        slot: k as u32 % 32,
-        status: STATUS_OK,
-    }
-}
-
-impl Safe {
-    /// Starts an announcement and fills its ring.
-    fn fill(&mut self, frames: &[u8]) {
-        self.start(frames);
-        for _ in 0..RING_PERIODS {
-            assert_eq!(self.ring.turn(frames, Reading::Quiet), Ok(Turn::Going));
-        }
-    }
-
-    /// Completes what is in flight and what is left.
-    fn empty(&mut self, frames: &[u8]) {
-        let done = (0..).find(|&k| self.ring.turn(frames, completed(k)) == Ok(Turn::Done));
-        assert_eq!(done, Some(RING_PERIODS as u64 + 1));
-    }
-
-    /// Submits a period; its token.
-    fn send(&mut self, period: &[u8]) -> u32 {
-        match self.sound.pcm_xfer_nb(&self.ring, 0, period, &mut self.places) {
-            Ok(Submitted::Token(token)) => token,
-            _ => unreachable!("a place is free"),
-        }
-    }
-
-    /// Marks a token and finishes it.
-    fn finish(&mut self, slot: u32) {
-        let status = STATUS_OK;
-        assert_eq!(self.sound.pcm_xfer_mark(Reading::Completed { slot, status }), Ok(()));
-        assert_eq!(self.sound.pcm_xfer_ok(&mut self.places, slot), Ok(()));
     }
 }
 
@@ -152,50 +111,11 @@ impl Way for Safe {
     fn announce_blindly(&mut self, frames: &[u8]) -> u64 {
         self.start(frames);
         for turns in 1.. {
-            if self
-                .ring
-                .turn(frames, completed(turns - 1))
-                .expect("the device is good")
-                == Turn::Done
-            {
-                return turns;
-            }
-        }
-        0
-    }
-
-    fn wait(&mut self, frames: &[u8], quiet: u64) -> u64 {
-        self.fill(frames);
-        for _ in 0..quiet {
-            assert!(self.ring.offered(frames).expect("it runs").is_none());
-            assert_eq!(self.ring.turn(frames, Reading::Quiet), Ok(Turn::Going));
-        }
-        self.empty(frames);
-        quiet + FILLED
-    }
-
-    fn wait_blindly(&mut self, frames: &[u8], quiet: u64) -> u64 {
-        self.fill(frames);
-        for _ in 0..quiet {
-            assert_eq!(self.ring.turn(frames, Reading::Quiet), Ok(Turn::Going));
-        }
-        self.empty(frames);
-        quiet + FILLED
-    }
-
-    fn announce_traced(&mut self, frames: &[u8]) -> u64 {
-        let Self { sound, ring, room, .. } = self;
-        room.resize(19 + 20 * frames.len() / 4, 0);
-        assert_eq!(
-            sound.pcm_xfer_start_traced(ring, 0, frames, BUDGET, room),
-            Ok(Step::Done(()))
-        );
-        for turns in 1.. {
-            if ring
-                .turn_traced(frames, room, completed(turns - 1))
-                .expect("the device is good")
-                == Turn::Done
-            {
+            let reading = Reading::Completed {
+                slot: (turns - 1) as u32 % 32,
+                status: STATUS_OK,
+            };
+            if self.ring.turn(frames, reading).expect("the device is good") == Turn::Done {
                 return turns;
             }
         }
@@ -226,34 +146,18 @@ impl Way for Safe {
     }
 
     fn submit(&mut self, period: &[u8]) {
-        let token = self.send(period);
-        self.finish(token);
-    }
-
-    fn hold(&mut self, period: &[u8]) {
-        for place in 0..vsnd::PLACES {
-            assert_eq!(self.send(period) as usize, place);
-        }
-    }
-
-    fn count(&mut self) {
-        assert_eq!(black_box(&self.sound).pending_count(), Ok(vsnd::PLACES as u64));
-    }
-
-    fn let_go(&mut self) {
-        (0..vsnd::PLACES).for_each(|token| self.finish(token as u32));
-    }
-
-    fn judge(&mut self, trace: &[u8]) {
-        assert!(vsnd::trace::judge(3, black_box(trace)).is_ok());
-    }
-
-    fn compare(&mut self, first: &[u8], second: &[u8]) {
-        let mut list = [0; vsnd::trace::ENTRY_SIZE];
-        assert!(vsnd::trace::compare(first, black_box(second), &mut list).is_ok_and(|entries| entries.count() == 0));
+        let Ok(Submitted::Token(slot)) = self.sound.pcm_xfer_nb(&self.ring, 0, period, &mut self.places) else {
+            unreachable!("a place is free")
+        };
+        let reading = Reading::Completed {
+            slot,
+            status: STATUS_OK,
+        };
+        assert_eq!(self.sound.pcm_xfer_mark(reading), Ok(()));
+        assert_eq!(self.sound.pcm_xfer_ok(&mut self.places, slot), Ok(()));
     }
 
     fn event(&mut self) {
-        assert!(black_box(vsnd::latest_notification(black_box(&EVENT))).is_ok());
+        assert!(black_box(snd::latest_notification(black_box(&EVENT))).is_ok());
     }
 }

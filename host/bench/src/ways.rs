@@ -1,5 +1,5 @@
 //! The ways to get the same work done, and what they are given.
-use vsnd::{ChannelMap, JackInfo, PAGE_SIZE, PcmInfo, STATUS_OK};
+use snd::{ChannelMap, JackInfo, PAGE_SIZE, PcmInfo, STATUS_OK};
 
 /// A way to get the work done: each does the same, on the same inputs, with no device in between: the answers are prepared.
 pub trait Way {
@@ -13,39 +13,18 @@ pub trait Way {
     fn announce(&mut self, frames: &[u8]) -> u64;
     /// The same, with no look at what is offered.
     fn announce_blindly(&mut self, frames: &[u8]) -> u64;
-    /// An announcement that fills its ring, and then so many turns of it in which the device is quiet, each with a look at what is offered. Says
-    /// how many turns it took, with the few that fill the ring and empty it.
-    fn wait(&mut self, frames: &[u8], quiet: u64) -> u64;
-    /// The same, with no look at what is offered.
-    fn wait_blindly(&mut self, frames: &[u8], quiet: u64) -> u64;
-    /// An announcement that leaves a trace, with no look at what is offered. Says how many turns it took.
-    fn announce_traced(&mut self, frames: &[u8]) -> u64;
     /// A capture of so many periods of stream 1, each of which comes back whole in its own turn. Says how many turns it took.
     fn capture(&mut self, periods: usize, period: usize) -> u64;
     /// A submission that does not wait, its completion and its finish.
     fn submit(&mut self, period: &[u8]);
-    /// Takes every place with a submission that does not wait.
-    fn hold(&mut self, period: &[u8]);
-    /// Counts what is pending.
-    fn count(&mut self);
-    /// Finishes what `hold` left.
-    fn let_go(&mut self);
-    /// Judges a trace.
-    fn judge(&mut self, trace: &[u8]);
-    /// Compares two traces.
-    fn compare(&mut self, first: &[u8], second: &[u8]);
     /// Reads an event.
     fn event(&mut self);
 }
 
 /// An event of 8 bytes.
 pub const EVENT: [u8; 8] = [0x01, 0x11, 0, 0, 3, 0, 0, 0];
-/// Periods that a ring takes, with three descriptors each.
-pub const RING_PERIODS: usize = 10;
-/// Turns that fill the ring with them, and that empty it, send one more and end.
-pub const FILLED: u64 = 2 * RING_PERIODS as u64 + 2;
 /// The places of submissions that do not wait, for the longest period here.
-pub const PLACES_SIZE: usize = vsnd::PLACES * (4000 + 4);
+pub const PLACES_SIZE: usize = snd::PLACES * (4000 + 4);
 /// More than every announcement here needs.
 pub const BUDGET: u64 = 1 << 40;
 
@@ -53,28 +32,6 @@ pub const BUDGET: u64 = 1 << 40;
 pub fn captured(period: usize) -> Vec<u8> {
     let status = [STATUS_OK.to_le_bytes(), [0; 4]];
     [&vec![0x55; period][..], status.as_flattened()].concat()
-}
-
-/// The trace of an announcement of so many periods of 4 bytes, each completed in its own turn, and how many fields it has.
-pub fn trace(periods: u32) -> (Vec<u8>, u64) {
-    let mut bytes = field(
-        0,
-        &[&0u32.to_le_bytes(), &(periods * 4).to_le_bytes(), &4u32.to_le_bytes()],
-    );
-    for k in 0..periods {
-        let slot = [(k % 32) as u8];
-        bytes.extend(field(1, &[&slot, &(k * 4).to_le_bytes(), &4u32.to_le_bytes()]));
-        bytes.extend(field(2, &[&slot, &STATUS_OK.to_le_bytes()]));
-    }
-    bytes.extend(field(3, &[&[0]]));
-    (bytes, 2 + 2 * u64::from(periods))
-}
-
-/// A field of a trace.
-fn field(tag: u8, contents: &[&[u8]]) -> Vec<u8> {
-    let contents = contents.concat();
-    let [length, _] = (contents.len() as u16).to_le_bytes();
-    [&[tag, length, 0][..], &contents].concat()
 }
 
 /// The records of an output and an input stream.

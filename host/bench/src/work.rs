@@ -1,5 +1,5 @@
 //! What is measured.
-use crate::ways::{RING_PERIODS, Way, trace};
+use crate::ways::Way;
 use std::hint::black_box;
 
 /// Periods of an announcement.
@@ -16,16 +16,10 @@ pub enum Work {
     LongTurn,
     LongTurnAlone,
     LongAnnouncement,
-    Quiet,
-    QuietAlone,
-    Traced,
     Submission,
     LongSubmission,
-    Pending,
     Capture,
     LongCapture,
-    Judge,
-    Compare,
     Event,
 }
 
@@ -39,16 +33,10 @@ impl Work {
         Self::LongTurn,
         Self::LongTurnAlone,
         Self::LongAnnouncement,
-        Self::Quiet,
-        Self::QuietAlone,
-        Self::Traced,
         Self::Submission,
         Self::LongSubmission,
-        Self::Pending,
         Self::Capture,
         Self::LongCapture,
-        Self::Judge,
-        Self::Compare,
         Self::Event,
     ];
 
@@ -62,16 +50,10 @@ impl Work {
             Self::LongTurn => "long-turn",
             Self::LongTurnAlone => "long-turn-alone",
             Self::LongAnnouncement => "long-announcement",
-            Self::Quiet => "quiet",
-            Self::QuietAlone => "quiet-alone",
-            Self::Traced => "traced",
             Self::Submission => "submission",
             Self::LongSubmission => "long-submission",
-            Self::Pending => "pending",
             Self::Capture => "capture",
             Self::LongCapture => "long-capture",
-            Self::Judge => "judge",
-            Self::Compare => "compare",
             Self::Event => "event",
         }
     }
@@ -86,31 +68,20 @@ impl Work {
             Self::LongTurn => "one turn, frames 1,000 times longer",
             Self::LongTurnAlone => "one turn alone, frames 1,000 times longer",
             Self::LongAnnouncement => "an announcement, frames 1,000 times longer",
-            Self::Quiet => "a quiet turn, the ring full, with its offer",
-            Self::QuietAlone => "a quiet turn alone, the ring full",
-            Self::Traced => "a traced turn alone",
             Self::Submission => "a submission, its mark and its finish",
             Self::LongSubmission => "the same, a period 1,000 times longer",
-            Self::Pending => "a count of what is pending",
             Self::Capture => "one turn of a capture, with what it offers",
             Self::LongCapture => "the same, a period 1,000 times longer",
-            Self::Judge => "a trace judged, by field",
-            Self::Compare => "two traces compared, by field of one",
             Self::Event => "an event",
         }
     }
 
-    /// Whether the Rust has it too: it has no captures, traces or count of what is pending.
-    pub const fn of_rust(self) -> bool {
+    /// Whether the Rust has it too: its loop cannot be taken turn by turn, so its turn is a part of an announcement; and it has no captures.
+    pub const fn both(self) -> bool {
         !matches!(
             self,
-            Self::Traced | Self::Pending | Self::Capture | Self::LongCapture | Self::Judge | Self::Compare
+            Self::TurnAlone | Self::LongTurnAlone | Self::Capture | Self::LongCapture
         )
-    }
-
-    /// Whether the Rust's time can be held to it: its loop cannot be taken turn by turn, so its turn is a part of an announcement.
-    pub const fn both(self) -> bool {
-        self.of_rust() && !matches!(self, Self::TurnAlone | Self::LongTurnAlone | Self::QuietAlone)
     }
 
     /// Bytes of a period.
@@ -125,30 +96,20 @@ impl Work {
         }
     }
 
-    /// The frames of its announcement, if it has one; of a submission its period. Where the ring is to be full there is a period more.
+    /// The frames of its announcement, if it has one; of a submission its period.
     pub fn frames(self) -> Vec<u8> {
         match self {
-            Self::Control | Self::SetUp | Self::Judge | Self::Compare | Self::Event => vec![],
-            Self::Submission | Self::LongSubmission | Self::Pending => vec![0x55; self.period() as usize],
-            Self::Quiet | Self::QuietAlone => vec![0x55; (RING_PERIODS + 1) * self.period() as usize],
+            Self::Control | Self::SetUp | Self::Event => vec![],
+            Self::Submission | Self::LongSubmission => vec![0x55; self.period() as usize],
             _ => vec![0x55; PERIODS * self.period() as usize],
         }
     }
 }
 
-/// Does it `times` times, and says how many units of it that were: turns for a turn, fields for a trace, else `times`.
+/// Does it `times` times, and says how many units of it that were: turns for a turn, else `times`.
 pub fn run(work: Work, way: &mut dyn Way, frames: &[u8], times: u64) -> u64 {
     if !frames.is_empty() {
         way.set_period(work.period());
-    }
-    let (first, fields) = trace(if matches!(work, Work::Judge | Work::Compare) {
-        PERIODS as u32
-    } else {
-        0
-    });
-    let second = first.clone();
-    if work == Work::Pending {
-        way.hold(frames);
     }
     let mut once = || {
         match work {
@@ -158,28 +119,13 @@ pub fn run(work: Work, way: &mut dyn Way, frames: &[u8], times: u64) -> u64 {
             Work::Turn | Work::LongTurn => return way.announce(frames),
             Work::TurnAlone | Work::LongTurnAlone => return way.announce_blindly(frames),
             Work::Announcement | Work::LongAnnouncement => _ = way.announce(frames),
-            Work::Quiet => return way.wait(frames, PERIODS as u64),
-            Work::QuietAlone => return way.wait_blindly(frames, PERIODS as u64),
-            Work::Traced => return way.announce_traced(frames),
             Work::Submission | Work::LongSubmission => way.submit(frames),
-            Work::Pending => way.count(),
-            Work::Judge | Work::Compare => {
-                match work {
-                    Work::Judge => way.judge(&first),
-                    _ => way.compare(&first, &second),
-                }
-                return fields;
-            }
             Work::Capture | Work::LongCapture => return way.capture(PERIODS, work.period() as usize),
         }
         1
     };
     // held back from the optimiser, so that the function below is called and not jumped to
-    let done = black_box(counted(&mut once, times));
-    if work == Work::Pending {
-        way.let_go();
-    }
-    done
+    black_box(counted(&mut once, times))
 }
 
 /// tools/instructions counts inside this function, by its name.

@@ -93,32 +93,6 @@ pub fn written(sink: Sink) {
     }
 }
 
-/// Bytes of every length lent for the oldest and for slots that are none of it, where the turn looks and where it does not; then the same whole.
-pub fn few_bytes(sink: Sink) {
-    let status = wire::STATUS_OK;
-    let mut readings =
-        vec![Reading::Oldest { status }, Reading::Oldest { status: 0x8003 }, Reading::Later { k: 1, status }];
-    readings.extend([1, 31, 32, u32::MAX].map(|slot| Reading::Slot { slot, status }));
-    for reading in readings {
-        for written in [0, 7, 8, 9, WHOLE, WHOLE + 1, u32::MAX] {
-            for lent in (0..=9).chain([WHOLE - 1, WHOLE]) {
-                let tried = Heard { reading, written, lent };
-                let again = Heard { lent: WHOLE + 4, ..tried };
-                let owed = Step::Drain(vec![Reading::DONE; 3]);
-                for heard in
-                    [vec![tried; 3], vec![Heard::QUIET, tried, again], vec![DONE, tried], vec![DONE, DONE, tried]]
-                {
-                    // the last turn of the budget may be the one that is not run
-                    for (periods, budget) in [(0, 9), (1, heard.len() as u64), (2, 9)] {
-                        let first = capture(0, periods, 2 * PERIOD, budget, heard.clone());
-                        sink(case(vec![first, owed.clone(), good(1, vec![tried, again])]));
-                    }
-                }
-            }
-        }
-    }
-}
-
 /// Every script of five turns over the kinds of readings, of three periods.
 pub fn scripts(sink: Sink) {
     let short = Heard::of(Reading::DONE, 9);
@@ -234,10 +208,9 @@ pub fn owed(sink: Sink) {
     }
 }
 
-pub const GROUPS: [Group; 8] = [
+pub const GROUPS: [Group; 7] = [
     ("captures, lengths", lengths),
     ("captures, written", written),
-    ("captures, few bytes", few_bytes),
     ("captures, scripts", scripts),
     ("captures, rounds", rounds),
     ("captures, orders", orders),

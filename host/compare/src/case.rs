@@ -14,7 +14,7 @@ pub struct Case {
     pub strict: bool,
     /// the state is made with the guard over each stream's lifecycle
     pub guard: bool,
-    /// indirect descriptors are negotiated: the first ring is made for them
+    /// indirect descriptors are negotiated: the ring is made for them
     pub indirect: bool,
     pub steps: Vec<Step>,
 }
@@ -54,10 +54,6 @@ pub enum Step {
     Mark(Vec<Reading>),
     /// the finish of a token
     Finish(u32),
-    /// a new ring, of this mode: what is pending stays in the state
-    Ring {
-        indirect: bool,
-    },
     /// what the event queue holds
     Event(Option<Vec<u8>>),
     /// a request to the model device itself
@@ -233,9 +229,5 @@ impl Rng {
     }
     pub fn one_in(&mut self, n: u64) -> bool {
         self.below(n) == 0
-    }
-    /// A number that no byte holds and whose lowest byte is this: it would pass where it is cut.
-    pub fn past_a_byte(&mut self, low: u32) -> u32 {
-        low & 0xff | self.pick(&[1 << 8, 1 << 9, 1 << 16, 1 << 31, 0xffff_ff00])
     }
 }

@@ -22,8 +22,6 @@ pub trait Entries {
     fn fresh() -> Self;
     /// The sizes handed out: state, ring, message, result, page, model.
     fn sizes() -> [u64; 6];
-    /// The version handed out, and by the entry that is named after it.
-    fn versions() -> [u64; 2];
     fn lend(&mut self, lent: Lent);
 
     fn make(&mut self, counts: [u32; 3], guard: bool) -> u64;

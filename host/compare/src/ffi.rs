@@ -1,22 +1,20 @@
-//! The port's C entries, as host/include/vsnd.h declares them.
+//! The port's C entries, as host/include/snd.h declares them.
 
 unsafe extern "C" {
-    pub fn vsnd_version() -> u64;
-    pub fn vsnd_version_0_13_0() -> u64;
-    pub fn vsnd_state_size() -> u64;
-    pub fn vsnd_ring_size() -> u64;
-    pub fn vsnd_message_size() -> u64;
-    pub fn vsnd_result_size() -> u64;
-    pub fn vsnd_page_size() -> u64;
-    pub fn vsnd_model_size() -> u64;
-    pub fn vsnd_new(state: *mut u8, state_len: usize, jacks: u32, streams: u32, chmaps: u32) -> u64;
-    pub fn vsnd_new_guarded(state: *mut u8, state_len: usize, jacks: u32, streams: u32, chmaps: u32) -> u64;
-    pub fn vsnd_ring_new(ring: *mut u8, ring_len: usize) -> u64;
-    pub fn vsnd_ring_new_indirect(ring: *mut u8, ring_len: usize) -> u64;
-    pub fn vsnd_jacks(state: *const u8, state_len: usize, result: *mut u8, result_len: usize) -> u64;
-    pub fn vsnd_streams(state: *const u8, state_len: usize, result: *mut u8, result_len: usize) -> u64;
-    pub fn vsnd_chmaps(state: *const u8, state_len: usize, result: *mut u8, result_len: usize) -> u64;
-    pub fn vsnd_jack_remap(
+    pub fn snd_state_size() -> u64;
+    pub fn snd_ring_size() -> u64;
+    pub fn snd_message_size() -> u64;
+    pub fn snd_result_size() -> u64;
+    pub fn snd_page_size() -> u64;
+    pub fn snd_model_size() -> u64;
+    pub fn snd_new(state: *mut u8, state_len: usize, jacks: u32, streams: u32, chmaps: u32) -> u64;
+    pub fn snd_new_guarded(state: *mut u8, state_len: usize, jacks: u32, streams: u32, chmaps: u32) -> u64;
+    pub fn snd_ring_new(ring: *mut u8, ring_len: usize) -> u64;
+    pub fn snd_ring_new_indirect(ring: *mut u8, ring_len: usize) -> u64;
+    pub fn snd_jacks(state: *const u8, state_len: usize, result: *mut u8, result_len: usize) -> u64;
+    pub fn snd_streams(state: *const u8, state_len: usize, result: *mut u8, result_len: usize) -> u64;
+    pub fn snd_chmaps(state: *const u8, state_len: usize, result: *mut u8, result_len: usize) -> u64;
+    pub fn snd_jack_remap(
         state: *mut u8,
         state_len: usize,
         ring: *const u8,
@@ -29,7 +27,7 @@ unsafe extern "C" {
         result: *mut u8,
         result_len: usize,
     ) -> u64;
-    pub fn vsnd_pcm_set_params(
+    pub fn snd_pcm_set_params(
         state: *mut u8,
         state_len: usize,
         ring: *const u8,
@@ -38,15 +36,15 @@ unsafe extern "C" {
         buffer: u32,
         period: u32,
         features: u32,
-        channels: u32,
-        format: u32,
-        rate: u32,
+        channels: u8,
+        format: u8,
+        rate: u8,
         message: *mut u8,
         message_len: usize,
         result: *mut u8,
         result_len: usize,
     ) -> u64;
-    pub fn vsnd_pcm_prepare(
+    pub fn snd_pcm_prepare(
         state: *mut u8,
         state_len: usize,
         ring: *const u8,
@@ -57,7 +55,7 @@ unsafe extern "C" {
         result: *mut u8,
         result_len: usize,
     ) -> u64;
-    pub fn vsnd_pcm_release(
+    pub fn snd_pcm_release(
         state: *mut u8,
         state_len: usize,
         ring: *const u8,
@@ -68,7 +66,7 @@ unsafe extern "C" {
         result: *mut u8,
         result_len: usize,
     ) -> u64;
-    pub fn vsnd_pcm_start(
+    pub fn snd_pcm_start(
         state: *mut u8,
         state_len: usize,
         ring: *const u8,
@@ -79,7 +77,7 @@ unsafe extern "C" {
         result: *mut u8,
         result_len: usize,
     ) -> u64;
-    pub fn vsnd_pcm_stop(
+    pub fn snd_pcm_stop(
         state: *mut u8,
         state_len: usize,
         ring: *const u8,
@@ -90,7 +88,7 @@ unsafe extern "C" {
         result: *mut u8,
         result_len: usize,
     ) -> u64;
-    pub fn vsnd_output_streams(
+    pub fn snd_output_streams(
         state: *mut u8,
         state_len: usize,
         ring: *const u8,
@@ -100,7 +98,7 @@ unsafe extern "C" {
         result: *mut u8,
         result_len: usize,
     ) -> u64;
-    pub fn vsnd_input_streams(
+    pub fn snd_input_streams(
         state: *mut u8,
         state_len: usize,
         ring: *const u8,
@@ -110,18 +108,7 @@ unsafe extern "C" {
         result: *mut u8,
         result_len: usize,
     ) -> u64;
-    pub fn vsnd_rates_supported(
-        state: *mut u8,
-        state_len: usize,
-        ring: *const u8,
-        ring_len: usize,
-        stream: u32,
-        message: *mut u8,
-        message_len: usize,
-        result: *mut u8,
-        result_len: usize,
-    ) -> u64;
-    pub fn vsnd_formats_supported(
+    pub fn snd_rates_supported(
         state: *mut u8,
         state_len: usize,
         ring: *const u8,
@@ -132,7 +119,7 @@ unsafe extern "C" {
         result: *mut u8,
         result_len: usize,
     ) -> u64;
-    pub fn vsnd_channel_range_supported(
+    pub fn snd_formats_supported(
         state: *mut u8,
         state_len: usize,
         ring: *const u8,
@@ -143,7 +130,7 @@ unsafe extern "C" {
         result: *mut u8,
         result_len: usize,
     ) -> u64;
-    pub fn vsnd_features_supported(
+    pub fn snd_channel_range_supported(
         state: *mut u8,
         state_len: usize,
         ring: *const u8,
@@ -154,7 +141,18 @@ unsafe extern "C" {
         result: *mut u8,
         result_len: usize,
     ) -> u64;
-    pub fn vsnd_feed(
+    pub fn snd_features_supported(
+        state: *mut u8,
+        state_len: usize,
+        ring: *const u8,
+        ring_len: usize,
+        stream: u32,
+        message: *mut u8,
+        message_len: usize,
+        result: *mut u8,
+        result_len: usize,
+    ) -> u64;
+    pub fn snd_feed(
         state: *mut u8,
         state_len: usize,
         page: *const u8,
@@ -164,7 +162,7 @@ unsafe extern "C" {
         result: *mut u8,
         result_len: usize,
     ) -> u64;
-    pub fn vsnd_feed_written(
+    pub fn snd_feed_written(
         state: *mut u8,
         state_len: usize,
         page: *const u8,
@@ -175,7 +173,7 @@ unsafe extern "C" {
         result: *mut u8,
         result_len: usize,
     ) -> u64;
-    pub fn vsnd_feed_failure(
+    pub fn snd_feed_failure(
         state: *mut u8,
         state_len: usize,
         message: *mut u8,
@@ -183,7 +181,7 @@ unsafe extern "C" {
         result: *mut u8,
         result_len: usize,
     ) -> u64;
-    pub fn vsnd_pcm_xfer_start(
+    pub fn snd_pcm_xfer_start(
         state: *mut u8,
         state_len: usize,
         ring: *mut u8,
@@ -195,7 +193,7 @@ unsafe extern "C" {
         message: *mut u8,
         message_len: usize,
     ) -> u64;
-    pub fn vsnd_offered(
+    pub fn snd_offered(
         ring: *const u8,
         ring_len: usize,
         frames: *const u8,
@@ -203,7 +201,7 @@ unsafe extern "C" {
         result: *mut u8,
         result_len: usize,
     ) -> u64;
-    pub fn vsnd_turn(
+    pub fn snd_turn(
         ring: *mut u8,
         ring_len: usize,
         frames: *const u8,
@@ -212,8 +210,8 @@ unsafe extern "C" {
         slot: u32,
         status: u32,
     ) -> u64;
-    pub fn vsnd_drain_turn(ring: *mut u8, ring_len: usize, kind: u32, slot: u32, status: u32) -> u64;
-    pub fn vsnd_pcm_xfer_start_traced(
+    pub fn snd_drain_turn(ring: *mut u8, ring_len: usize, kind: u32, slot: u32, status: u32) -> u64;
+    pub fn snd_pcm_xfer_start_traced(
         state: *mut u8,
         state_len: usize,
         ring: *mut u8,
@@ -227,7 +225,7 @@ unsafe extern "C" {
         message: *mut u8,
         message_len: usize,
     ) -> u64;
-    pub fn vsnd_turn_traced(
+    pub fn snd_turn_traced(
         ring: *mut u8,
         ring_len: usize,
         frames: *const u8,
@@ -238,14 +236,14 @@ unsafe extern "C" {
         slot: u32,
         status: u32,
     ) -> u64;
-    pub fn vsnd_trace_length(ring: *const u8, ring_len: usize, result: *mut u8, result_len: usize) -> u64;
-    pub fn vsnd_trace_scan(trace: *const u8, trace_len: usize) -> u64;
-    pub fn vsnd_trace_scan_at(trace: *const u8, trace_len: usize) -> u64;
-    pub fn vsnd_judge(mode: u32, trace: *const u8, trace_len: usize) -> u64;
-    pub fn vsnd_judge_at(mode: u32, trace: *const u8, trace_len: usize) -> u64;
-    pub fn vsnd_entry_size() -> u64;
-    pub fn vsnd_differences(first: *const u8, first_len: usize, second: *const u8, second_len: usize) -> u64;
-    pub fn vsnd_compare(
+    pub fn snd_trace_length(ring: *const u8, ring_len: usize, result: *mut u8, result_len: usize) -> u64;
+    pub fn snd_trace_scan(trace: *const u8, trace_len: usize) -> u64;
+    pub fn snd_trace_scan_at(trace: *const u8, trace_len: usize) -> u64;
+    pub fn snd_judge(mode: u32, trace: *const u8, trace_len: usize) -> u64;
+    pub fn snd_judge_at(mode: u32, trace: *const u8, trace_len: usize) -> u64;
+    pub fn snd_entry_size() -> u64;
+    pub fn snd_differences(first: *const u8, first_len: usize, second: *const u8, second_len: usize) -> u64;
+    pub fn snd_compare(
         first: *const u8,
         first_len: usize,
         second: *const u8,
@@ -253,7 +251,7 @@ unsafe extern "C" {
         list: *mut u8,
         list_len: usize,
     ) -> u64;
-    pub fn vsnd_pcm_capture_start(
+    pub fn snd_pcm_capture_start(
         state: *mut u8,
         state_len: usize,
         ring: *mut u8,
@@ -266,7 +264,7 @@ unsafe extern "C" {
         message: *mut u8,
         message_len: usize,
     ) -> u64;
-    pub fn vsnd_capture_offered(
+    pub fn snd_capture_offered(
         ring: *const u8,
         ring_len: usize,
         recording: *const u8,
@@ -274,7 +272,7 @@ unsafe extern "C" {
         result: *mut u8,
         result_len: usize,
     ) -> u64;
-    pub fn vsnd_capture_turn(
+    pub fn snd_capture_turn(
         ring: *mut u8,
         ring_len: usize,
         recording: *mut u8,
@@ -285,16 +283,16 @@ unsafe extern "C" {
         bytes: *const u8,
         bytes_len: usize,
     ) -> u64;
-    pub fn vsnd_ring_running(ring: *const u8, ring_len: usize, result: *mut u8, result_len: usize) -> u64;
-    pub fn vsnd_ring_in_flight(ring: *const u8, ring_len: usize, result: *mut u8, result_len: usize) -> u64;
-    pub fn vsnd_ring_free_descriptors(ring: *const u8, ring_len: usize, result: *mut u8, result_len: usize) -> u64;
-    pub fn vsnd_ring_turns_run(ring: *const u8, ring_len: usize, result: *mut u8, result_len: usize) -> u64;
-    pub fn vsnd_ring_stream(ring: *const u8, ring_len: usize, result: *mut u8, result_len: usize) -> u64;
-    pub fn vsnd_ring_carried(ring: *const u8, ring_len: usize, slot: usize, result: *mut u8, result_len: usize) -> u64;
-    pub fn vsnd_ring_oldest(ring: *const u8, ring_len: usize, result: *mut u8, result_len: usize) -> u64;
-    pub fn vsnd_ring_kept(ring: *const u8, ring_len: usize, result: *mut u8, result_len: usize) -> u64;
-    pub fn vsnd_ring_accepted(ring: *const u8, ring_len: usize, result: *mut u8, result_len: usize) -> u64;
-    pub fn vsnd_pcm_xfer_nb(
+    pub fn snd_ring_running(ring: *const u8, ring_len: usize, result: *mut u8, result_len: usize) -> u64;
+    pub fn snd_ring_in_flight(ring: *const u8, ring_len: usize, result: *mut u8, result_len: usize) -> u64;
+    pub fn snd_ring_free_descriptors(ring: *const u8, ring_len: usize, result: *mut u8, result_len: usize) -> u64;
+    pub fn snd_ring_turns_run(ring: *const u8, ring_len: usize, result: *mut u8, result_len: usize) -> u64;
+    pub fn snd_ring_stream(ring: *const u8, ring_len: usize, result: *mut u8, result_len: usize) -> u64;
+    pub fn snd_ring_carried(ring: *const u8, ring_len: usize, slot: usize, result: *mut u8, result_len: usize) -> u64;
+    pub fn snd_ring_oldest(ring: *const u8, ring_len: usize, result: *mut u8, result_len: usize) -> u64;
+    pub fn snd_ring_kept(ring: *const u8, ring_len: usize, result: *mut u8, result_len: usize) -> u64;
+    pub fn snd_ring_accepted(ring: *const u8, ring_len: usize, result: *mut u8, result_len: usize) -> u64;
+    pub fn snd_pcm_xfer_nb(
         state: *mut u8,
         state_len: usize,
         ring: *const u8,
@@ -309,18 +307,18 @@ unsafe extern "C" {
         result: *mut u8,
         result_len: usize,
     ) -> u64;
-    pub fn vsnd_pcm_xfer_mark(state: *mut u8, state_len: usize, kind: u32, token: u32, status: u32) -> u64;
-    pub fn vsnd_pcm_xfer_ok(state: *mut u8, state_len: usize, token: u32) -> u64;
-    pub fn vsnd_pending_count(state: *const u8, state_len: usize, result: *mut u8, result_len: usize) -> u64;
-    pub fn vsnd_pending_token(
+    pub fn snd_pcm_xfer_mark(state: *mut u8, state_len: usize, kind: u32, token: u32, status: u32) -> u64;
+    pub fn snd_pcm_xfer_ok(state: *mut u8, state_len: usize, token: u32) -> u64;
+    pub fn snd_pending_count(state: *const u8, state_len: usize, result: *mut u8, result_len: usize) -> u64;
+    pub fn snd_pending_token(
         state: *const u8,
         state_len: usize,
         token: usize,
         result: *mut u8,
         result_len: usize,
     ) -> u64;
-    pub fn vsnd_latest_notification(event: *const u8, event_len: usize, result: *mut u8, result_len: usize) -> u64;
-    pub fn vsnd_config(
+    pub fn snd_latest_notification(event: *const u8, event_len: usize, result: *mut u8, result_len: usize) -> u64;
+    pub fn snd_config(
         config: *const u8,
         config_len: usize,
         version: u32,
@@ -328,7 +326,7 @@ unsafe extern "C" {
         result: *mut u8,
         result_len: usize,
     ) -> u64;
-    pub fn vsnd_latest_notification_in(
+    pub fn snd_latest_notification_in(
         event: *const u8,
         event_len: usize,
         version: u32,
@@ -336,17 +334,17 @@ unsafe extern "C" {
         result: *mut u8,
         result_len: usize,
     ) -> u64;
-    pub fn vsnd_wav_read(file: *const u8, file_len: usize, result: *mut u8, result_len: usize) -> u64;
-    pub fn vsnd_wav_write(
-        channels: u32,
-        format: u32,
-        rate: u32,
+    pub fn snd_wav_read(file: *const u8, file_len: usize, result: *mut u8, result_len: usize) -> u64;
+    pub fn snd_wav_write(
+        channels: u8,
+        format: u8,
+        rate: u8,
         frames: *const u8,
         frames_len: usize,
         file: *mut u8,
         file_len: usize,
     ) -> u64;
-    pub fn vsnd_model_new(
+    pub fn snd_model_new(
         model: *mut u8,
         model_len: usize,
         jacks: *const u8,
@@ -356,7 +354,7 @@ unsafe extern "C" {
         maps: *const u8,
         maps_len: usize,
     ) -> u64;
-    pub fn vsnd_model_control(
+    pub fn snd_model_control(
         model: *mut u8,
         model_len: usize,
         request: *const u8,
@@ -366,7 +364,7 @@ unsafe extern "C" {
         result: *mut u8,
         result_len: usize,
     ) -> u64;
-    pub fn vsnd_model_transfer(
+    pub fn snd_model_transfer(
         model: *mut u8,
         model_len: usize,
         request: *const u8,
@@ -374,7 +372,7 @@ unsafe extern "C" {
         answer: *mut u8,
         answer_len: usize,
     ) -> u64;
-    pub fn vsnd_model_payload(
+    pub fn snd_model_payload(
         model: *const u8,
         model_len: usize,
         request: *const u8,
@@ -382,18 +380,8 @@ unsafe extern "C" {
         result: *mut u8,
         result_len: usize,
     ) -> u64;
-    pub fn vsnd_model_params(
-        model: *const u8,
-        model_len: usize,
-        stream: u32,
-        result: *mut u8,
-        result_len: usize,
-    ) -> u64;
-    pub fn vsnd_model_played(
-        model: *const u8,
-        model_len: usize,
-        stream: u32,
-        result: *mut u8,
-        result_len: usize,
-    ) -> u64;
+    pub fn snd_model_params(model: *const u8, model_len: usize, stream: u32, result: *mut u8, result_len: usize)
+    -> u64;
+    pub fn snd_model_played(model: *const u8, model_len: usize, stream: u32, result: *mut u8, result_len: usize)
+    -> u64;
 }

@@ -46,10 +46,6 @@ fn untouched(bytes: &[u8]) -> bool {
     bytes.iter().all(|b| *b == FILL)
 }
 
-fn mode_of(indirect: bool) -> Mode {
-    if indirect { Mode::Indirect } else { Mode::Direct }
-}
-
 /// How many bytes of result a call's value takes, and the value.
 fn value(call: Option<Call>, result: &[u8]) -> (usize, Vec<u64>) {
     match call {
@@ -98,7 +94,7 @@ impl<E: Entries> Host<E> {
         }
         let (page, model) = (vec![0; PAGE], case.model.is_some());
         let (places, out, stray) = (vec![], [(0, 0); TOKENS], vec![]);
-        let (strict, mode) = (case.strict, mode_of(case.indirect));
+        let (strict, mode) = (case.strict, if case.indirect { Mode::Indirect } else { Mode::Direct });
         Host { entries, page, model, strict, mode, places, out, good: 0, accepted: vec![], stray }
     }
 
@@ -431,14 +427,6 @@ impl<E: Entries> Host<E> {
         Seen::new(End::Number(0), values)
     }
 
-    /// A new ring: it has nothing in flight and tells no completion.
-    fn ring(&mut self, indirect: bool) -> Seen {
-        let number = self.entries.ring_new(indirect);
-        (self.mode, self.good) = (mode_of(indirect), 0);
-        self.heard();
-        ended(number, vec![])
-    }
-
     fn event(&mut self, event: &[u8]) -> Seen {
         let mut result = [FILL; RESULT_SIZE + MORE];
         let number = self.entries.notification(event, &mut result);
@@ -534,7 +522,6 @@ impl<E: Entries> Driver for Host<E> {
             Step::Submit { stream, places, .. } => self.submit(*stream, *places as usize, &mut script),
             Step::Mark(readings) => self.mark(readings),
             Step::Finish(token) => ended(self.entries.xfer_ok(*token), vec![]),
-            Step::Ring { indirect } => self.ring(*indirect),
             Step::Event(event) => self.event(event.as_deref().unwrap_or(&[])),
             Step::Counts => self.counts(),
             Step::ModelControl(_) | Step::ModelTransfer(_) if !self.model => return None,

@@ -26,4 +26,4 @@ pub mod versions;
 pub mod waves;
 
 // it links the port's archive
-use vsnd as _;
+use snd as _;

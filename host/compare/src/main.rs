@@ -22,8 +22,6 @@ const PENDING: Seeds = 1..=10_000;
 const INDIRECT: Seeds = 1..=15_000;
 /// A million turns of captures and more.
 const CAPTURES: Seeds = 1..=10_000;
-/// With rings of either mode while tokens are pending.
-const RINGS: Seeds = 1..=10_000;
 const ENTRIES: Seeds = 1..=8_000;
 const WAVES: Seeds = 1..=200_000;
 /// Each has one transfer that writes a trace, and five traces that it is changed to.
@@ -52,14 +50,13 @@ fn main() {
         Run::Case(case) => finish(one(&case, with)),
         Run::Short => finish(short_cases(with)),
         Run::Differences => finish(shown::print() == 0),
-        Run::Random { cases, strict, guard, pending, indirect, captures, rings, entries, waves, traces } => {
+        Run::Random { cases, strict, guard, pending, indirect, captures, entries, waves, traces } => {
             let agreed = cases.is_none_or(|seeds| random_cases(with, seeds));
             let agreed = agreed && strict.is_none_or(|seeds| strict_cases(with, seeds));
             let agreed = agreed && guard.is_none_or(|seeds| guarded_cases(with, seeds));
             let agreed = agreed && pending.is_none_or(|seeds| pending_cases(with, seeds));
             let agreed = agreed && indirect.is_none_or(|seeds| indirect_cases(with, seeds));
             let agreed = agreed && captures.is_none_or(|seeds| capture_cases(with, seeds));
-            let agreed = agreed && rings.is_none_or(|seeds| ring_cases(with, seeds));
             let agreed = agreed && entries.is_none_or(random_entries);
             let agreed = agreed && waves.is_none_or(|seeds| random_waves(seeds) && large_waves());
             finish(agreed && traces.is_none_or(random_traces))
@@ -83,7 +80,7 @@ fn gate(with: With, short: bool) -> bool {
     let short = !short || short_cases(with);
     let random = random_cases(with, CASES) && strict_cases(with, STRICT) && guarded_cases(with, GUARD);
     let random = random && pending_cases(with, PENDING) && indirect_cases(with, INDIRECT);
-    let random = random && (!with.port || capture_cases(with, CAPTURES) && ring_cases(with, RINGS));
+    let random = random && (!with.port || capture_cases(with, CAPTURES));
     let entries = !with.port || entries_by_stage() && random_entries(ENTRIES);
     let waves = !with.port || random_waves(WAVES) && large_waves();
     let traces = !with.port || random_traces(TRACES) && every_byte_of_traces();
@@ -116,13 +113,12 @@ fn short_cases(with: With) -> bool {
     let (mut counts, since, mut agreed) = (Counts::default(), Instant::now(), true);
     for (_, group) in short::GROUPS
         .into_iter()
-        .chain([short::WIDE])
         .chain(short::STRICT)
         .chain(guarded::GROUPS)
         .chain(pending::GROUPS)
         .chain(captures::GROUPS)
         .chain(indirect::GROUPS)
-        .chain([indirect::CAPTURES, indirect::RINGS])
+        .chain([indirect::CAPTURES])
     {
         group(&mut |case| agreed = agreed && agrees(&case, with, &mut counts));
     }
@@ -164,10 +160,6 @@ fn capture_cases(with: With, seeds: Seeds) -> bool {
     from_seeds("captures", compare::random::capture, with, seeds)
 }
 
-fn ring_cases(with: With, seeds: Seeds) -> bool {
-    from_seeds("rings", compare::random::rings, with, seeds)
-}
-
 fn from_seeds(option: &str, made: fn(u64) -> Case, with: With, seeds: Seeds) -> bool {
     let (mut counts, since, first) = (Counts::default(), Instant::now(), *seeds.start());
     for seed in seeds {
@@ -182,23 +174,17 @@ fn from_seeds(option: &str, made: fn(u64) -> Case, with: With, seeds: Seeds) -> 
         "pending" => "random cases of what does not wait",
         "indirect" => "random cases with indirect descriptors",
         "captures" => "random cases of captures",
-        "rings" => "random cases with rings of either mode",
         _ => "random cases",
     };
     told(&format!("{name} from seed {first}"), &counts, since);
     true
 }
 
-/// The sizes and the version that a set of entries hands out.
-fn handed_out<E: Entries>() -> ([u64; 6], u64, [u64; 2]) {
-    (E::sizes(), E::entry_size(), E::versions())
-}
-
-/// What is handed out, and every entry at every stage.
+/// The sizes handed out, and every entry at every stage.
 fn entries_by_stage() -> bool {
-    let (port, rules) = (handed_out::<Port>(), handed_out::<Plain>());
+    let (port, rules) = ((Port::sizes(), Port::entry_size()), (Plain::sizes(), Plain::entry_size()));
     if port != rules {
-        println!("DIFFERENCE in the sizes and the version handed out: port {port:?}, rules {rules:?}");
+        println!("DIFFERENCE in the sizes handed out: port {port:?}, rules {rules:?}");
         return false;
     }
     let since = Instant::now();

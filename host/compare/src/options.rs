@@ -12,7 +12,6 @@ compare --guard N --seed S   the same under the guard
 compare --pending N --seed S the same of what does not wait
 compare --indirect N --seed S the same with indirect descriptors
 compare --captures N --seed S the same of captures, the port against the rules
-compare --rings N --seed S   the same with rings of either mode while tokens are pending, the port against the rules
 compare --short              the short cases alone
 compare --entries N --seed S N sequences of single entries, the port against the rules
 compare --wav N --seed S     N random WAVE files read and N written, and large ones, the port against the rules
@@ -28,7 +27,7 @@ pub enum Run {
         short: bool,
     },
     Short,
-    /// random cases, those of strict mode, those under the guard, those of what does not wait, those with indirect descriptors, those of captures, those of rings of either mode, sequences of entries, WAVE files, and traces, by their seeds
+    /// random cases, those of strict mode, those under the guard, those of what does not wait, those with indirect descriptors, those of captures, sequences of entries, WAVE files, and traces, by their seeds
     Random {
         cases: Option<Seeds>,
         strict: Option<Seeds>,
@@ -36,7 +35,6 @@ pub enum Run {
         pending: Option<Seeds>,
         indirect: Option<Seeds>,
         captures: Option<Seeds>,
-        rings: Option<Seeds>,
         entries: Option<Seeds>,
         waves: Option<Seeds>,
         traces: Option<Seeds>,
@@ -56,14 +54,13 @@ pub struct Options {
 }
 
 const WORDS: [&str; 5] = ["--short", "--differences", "--no-port", "--no-rust", "--no-short"];
-const WITH_VALUE: [&str; 15] = [
+const WITH_VALUE: [&str; 14] = [
     "--cases",
     "--strict",
     "--guard",
     "--pending",
     "--indirect",
     "--captures",
-    "--rings",
     "--entries",
     "--wav",
     "--traces",
@@ -74,18 +71,8 @@ const WITH_VALUE: [&str; 15] = [
     "--replay",
 ];
 /// These go together; of all others one at a time.
-const SEEDED: [&str; 10] = [
-    "--cases",
-    "--strict",
-    "--guard",
-    "--pending",
-    "--indirect",
-    "--captures",
-    "--rings",
-    "--entries",
-    "--wav",
-    "--traces",
-];
+const SEEDED: [&str; 9] =
+    ["--cases", "--strict", "--guard", "--pending", "--indirect", "--captures", "--entries", "--wav", "--traces"];
 const OTHERS: [&str; 6] = ["--short", "--differences", "--case", "--record", "--check", "--replay"];
 
 /// The options given, each with its value, if it takes one.
@@ -139,7 +126,7 @@ impl Given {
         let file = |name| self.value(name).unwrap_or_default().to_string();
         if self.has("--seed") && !SEEDED.iter().any(|name| self.has(name)) {
             return Err(
-                "--seed goes with --cases, --strict, --guard, --pending, --indirect, --captures, --rings, --entries, --wav or --traces"
+                "--seed goes with --cases, --strict, --guard, --pending, --indirect, --captures, --entries, --wav or --traces"
                     .into(),
             );
         }
@@ -158,7 +145,6 @@ impl Given {
                 pending: self.seeds("--pending")?,
                 indirect: self.seeds("--indirect")?,
                 captures: self.seeds("--captures")?,
-                rings: self.seeds("--rings")?,
                 entries: self.seeds("--entries")?,
                 waves: self.seeds("--wav")?,
                 traces: self.seeds("--traces")?,
@@ -177,7 +163,6 @@ pub fn options(args: impl IntoIterator<Item = String>, rust_at_hand: bool) -> Re
         _ if given.has("--no-rust") && given.has("--no-port") => "--no-rust and --no-port leave nothing to compare",
         Run::Short if given.has("--no-short") => "--short and --no-short leave no case",
         Run::Random { captures: Some(_), .. }
-        | Run::Random { rings: Some(_), .. }
         | Run::Random { entries: Some(_), .. }
         | Run::Random { waves: Some(_), .. }
         | Run::Random { traces: Some(_), .. }

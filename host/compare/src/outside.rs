@@ -134,13 +134,10 @@ impl Scripted {
         self.log.last_mut().expect("a turn began").sent = Some(slot);
     }
 
-    /// What a capture's turn read, and whether the turn ran. What was submitted for one that did not is offered again: it counts once.
+    /// What a capture's turn read, and whether the turn ran.
     pub fn read(&mut self, read: Option<(u32, u32)>, ran: bool) {
         let turn = self.log.last_mut().expect("a turn began");
         (turn.looked, turn.read) = (ran, read);
-        if !ran && turn.sent.is_some() {
-            self.sent.pop();
-        }
     }
 
     /// Stream id and period in one buffer, under a token.

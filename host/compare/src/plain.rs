@@ -54,9 +54,6 @@ impl Entries for Plain {
     fn sizes() -> [u64; 6] {
         [e::STATE_SIZE, e::RING_SIZE, rules::MESSAGE, e::RESULT_SIZE, rules::PAGE, e::MODEL_SIZE].map(|n| n as u64)
     }
-    fn versions() -> [u64; 2] {
-        [e::VERSION; 2]
-    }
     fn lend(&mut self, lent: Lent) {
         self.lent = lent;
     }
@@ -205,7 +202,10 @@ impl Entries for Plain {
     fn inside(&self) -> Option<Inside> {
         let seven = |stream: u32| match self.sound.params.get(&stream) {
             None => [0; 7],
-            Some(p) => [1, p.buffer, p.period, p.features, p.channels, p.format, p.rate],
+            Some(p) => {
+                let small = [p.channels, p.format, p.rate].map(u32::from);
+                [1, p.buffer, p.period, p.features, small[0], small[1], small[2]]
+            }
         };
         let params = (0..self.sound.counts[1]).map(seven).collect();
         let tables = if self.sound.set_up { self.sound.tables.clone() } else { Default::default() };

@@ -9,7 +9,7 @@ use crate::port::{LEAD, PAST, Port};
 use crate::random::STATUSES;
 use crate::stages;
 use rules::entries::{Asked, GUARD, LIVES, RESULT_SIZE, STATE_RESERVED, TOKENS};
-use rules::pending::{PLACES, Pending, TOKEN_SIZE, Token, WAITS, places_of};
+use rules::pending::{PLACES, TOKEN_SIZE, Token, WAITS, places_of};
 use rules::ring::{Mode, Way};
 use rules::sound::{Call, Params};
 use rules::trace::room_for;
@@ -278,8 +278,8 @@ pub enum Damage {
     Life(usize, u8),
     /// the guard is there where it was not, or the other way
     Guard,
-    /// a token becomes this one
-    Token(usize, Token),
+    /// a token's state and status become these
+    Token(usize, u32, u32),
     /// the descriptors of a submission: the first byte of a ring
     Per(u8),
 }
@@ -322,9 +322,10 @@ impl Pair {
                 port.state[LEAD + STATE_RESERVED] ^= GUARD;
                 rules.sound.guard ^= true;
             }
-            Damage::Token(at, token) => {
-                port.state[LEAD + TOKENS + TOKEN_SIZE * at..][..TOKEN_SIZE].copy_from_slice(&token.bytes());
-                rules.sound.pending.tokens[at] = token;
+            Damage::Token(at, state, status) => {
+                let bytes = wire::words(&[state, status]);
+                port.state[LEAD + TOKENS + TOKEN_SIZE * at..][..TOKEN_SIZE].copy_from_slice(&bytes);
+                rules.sound.pending.tokens[at] = Token { state, status };
             }
         }
     }
@@ -335,11 +336,10 @@ impl Pair {
         (store[STATE_RESERVED] & GUARD != 0) == sound.guard && store[LIVES..][..sound.lives.len()] == sound.lives
     }
 
-    /// The same of the tokens: the state's last bytes. The mode of a free one plays no part.
+    /// The same of the tokens: the state's last bytes.
     fn tokens_agree(&self) -> bool {
-        let known = |token: Token| Token { mode: if token.pending() { token.mode } else { 0 }, ..token };
-        let port = Pending::read(&self.port.state[LEAD + TOKENS..]);
-        port.tokens.map(known) == self.rules.sound.pending.tokens.map(known)
+        let expected = self.rules.sound.pending.bytes();
+        self.port.state[LEAD + TOKENS..][..expected.len()] == expected
     }
 
     pub fn step(&mut self, op: &Op) -> Result<(), String> {
@@ -450,17 +450,8 @@ fn what(rng: &mut Rng, guide: &Plain) -> What {
     }
 }
 
-/// A new ring while tokens are pending: of the other mode, or again of the one that they were submitted with.
-fn other_ring(guide: &Plain) -> What {
-    if guide.ring.per == Mode::Direct.per() { What::RingNewIndirect } else { What::RingNew }
-}
-
 fn of_what_does_not_wait(rng: &mut Rng, guide: &Plain) -> What {
     let tokens = &guide.sound.pending.tokens;
-    let often = if guide.sound.pending.fits(&guide.ring) { 12 } else { 4 };
-    if guide.sound.pending.count() > 0 && rng.one_in(often) {
-        return other_ring(guide);
-    }
     let of = |wanted: fn(&Token) -> bool| {
         let found = (0..).zip(tokens).filter(move |(_, token)| wanted(token)).map(|(at, _)| at);
         found.collect::<Vec<u32>>()
@@ -511,10 +502,8 @@ fn damage(rng: &mut Rng) -> Damage {
         return Damage::Guard;
     }
     if rng.one_in(2) {
-        let state = rng.pick(&[0, 0, 1, 2, 3, 256, 0x0100, u16::MAX]);
-        let (mode, status) =
-            (rng.pick(&[1, 1, 3, 3, 3, 0, 2, 0x0103, u16::MAX]), rng.pick(&[0, 0x8000, 0x8003, u32::MAX]));
-        return Damage::Token(rng.below(32) as usize, Token { state, mode, status });
+        let state = rng.pick(&[0, 0, 1, 2, 3, 256, 0x0100_0000, u32::MAX]);
+        return Damage::Token(rng.below(32) as usize, state, rng.pick(&[0, 0x8000, 0x8003, u32::MAX]));
     }
     let life = rng.pick(&[0, 1, 2, 3, 4, 5, 127, 128, 255]);
     Damage::Life(rng.pick(&[0, 0, 0, 1, 1, 2, 125, 126]), life)
@@ -535,9 +524,8 @@ fn call(rng: &mut Rng, guide: &Plain) -> Call {
             let period = rng.below(6) as u32;
             let buffer = period * rng.below(4) as u32 + rng.pick(&[0, 0, 0, 1]);
             let (format, rate) = (rng.pick(&[0, 5, 24, 24, 25, 255]), rng.pick(&[0, 7, 13, 13, 14, 255]));
-            let channels = rng.pick(&[0, 1, 2, 2, 2, 255, 256, u32::MAX]);
-            let params = Params { buffer, period, features: rng.word() as u32, channels, format, rate };
-            Call::SetParams { stream, params: if rng.one_in(8) { past_a_byte(rng, params) } else { params } }
+            let params = Params { buffer, period, features: rng.word() as u32, channels: 2, format, rate };
+            Call::SetParams { stream, params }
         }
         4 | 12 | 13 => Call::Command { code: wire::PREPARE + rng.below(4) as u32, stream },
         5 => Call::Remap { jack, association: rng.word() as u32, sequence: rng.word() as u32 },
@@ -548,17 +536,6 @@ fn call(rng: &mut Rng, guide: &Plain) -> Call {
         10 => Call::ChannelRange(stream),
         _ => Call::Features(stream),
     }
-}
-
-/// One of the three numbers that the request has a byte for is wider.
-fn past_a_byte(rng: &mut Rng, mut params: Params) -> Params {
-    let number = match rng.below(3) {
-        0 => &mut params.channels,
-        1 => &mut params.format,
-        _ => &mut params.rate,
-    };
-    *number = rng.past_a_byte(*number);
-    params
 }
 
 fn feed(rng: &mut Rng, guide: &Plain) -> What {
@@ -653,8 +630,8 @@ fn capture_turn(rng: &mut Rng, guide: &Plain) -> What {
         _ => 8 + rng.below(u64::from(period) + 1) as u32,
     };
     let bytes = match rng.below(12) {
-        0 | 1 => rng.below(u64::from(whole)) as u32,
-        2..=4 => whole,
+        0 => rng.below(u64::from(whole)) as u32,
+        1..=4 => whole,
         _ => written.min(whole),
     };
     What::CaptureTurn { recording: lent(rng, guide), kind, slot, written, status, lent: bytes }

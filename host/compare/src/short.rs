@@ -49,7 +49,7 @@ fn calls() -> Vec<Call> {
 
 pub fn numbers(sink: Sink) {
     for format in 0..=255 {
-        for rate in 0..=255 {
+        for rate in 0..=255u8 {
             // all pairs that the Rust can write; past them one at a time
             if format > 24 && rate > 13 && (format, rate) != (255, 255) {
                 continue;
@@ -60,30 +60,6 @@ pub fn numbers(sink: Sink) {
     }
     for number in 0..=255 {
         let params = Params { channels: number, features: 1 << (number % 32), ..params(8, 4) };
-        sink(device([0, 1, 0], vec![control(Call::SetParams { stream: 0, params }, tables())]));
-    }
-}
-
-/// Channels, formats and rates past a byte, each good in its lowest one: refused before set-up, and nothing is sent; then the good one.
-pub fn past_a_byte(sink: Sink) {
-    let bits = (8..32).map(|bit| 1 << bit).chain([256 + 255, 0x1_0100, 0xffff_ff00]);
-    for high in bits {
-        let good = params(8, 4);
-        let wide = [
-            Params { channels: good.channels | high, ..good },
-            Params { channels: high, ..good },
-            Params { format: good.format | high, ..good },
-            Params { rate: good.rate | high, ..good },
-            Params { channels: high, format: 25, rate: 14, ..params(8, 3) },
-        ];
-        for (params, stream) in wide.into_iter().flat_map(|params| [(params, 0), (params, 9)]) {
-            let refused = control(Call::SetParams { stream, params }, tables());
-            let again = control(Call::SetParams { stream, params }, vec![]);
-            sink(device([0, 1, 0], vec![refused, set(0, 8, 4), again]));
-        }
-    }
-    for channels in [0, 1, 254, 255, 256] {
-        let params = Params { channels, ..params(8, 4) };
         sink(device([0, 1, 0], vec![control(Call::SetParams { stream: 0, params }, tables())]));
     }
 }
@@ -429,9 +405,6 @@ fn own_cut(call: Call, status: u32, wrote: u64) -> Vec<Step> {
 pub fn own_lengths(sink: Sink) {
     in_strict_mode(announcements, sink);
 }
-
-/// Of numbers past a byte, which the Rust's types cannot write: they are not recorded.
-pub const WIDE: Group = ("numbers past a byte", past_a_byte);
 
 /// Every group of strict mode.
 pub const STRICT: [Group; 4] = [

@@ -1,12 +1,11 @@
 //! Every entry at every stage of a driver's life, without the guard and with it, with each lent slice in turn empty, one short, right and one
-//! long, with each reserved byte of the state in turn not 0, and with the guard, a stream's state, the ring's mode and a token in turn damaged: the
-//! port against the rules.
+//! long, with each reserved byte of the state in turn not 0, and with the guard and a stream's state in turn damaged: the port against the rules.
 use crate::captures::direction_at;
 use crate::case::{Body, Kind};
 use crate::entries::Lent;
 use crate::raw::{Damage, Op, Pair, What};
 use rules::entries::{Asked, RESULT_SIZE};
-use rules::pending::{PLACES, PLACES_INDIRECT, Token};
+use rules::pending::{PLACES, PLACES_INDIRECT};
 use rules::sound::{Call, Params};
 use rules::{MESSAGE, PAGE, RESERVED, wire};
 
@@ -18,7 +17,7 @@ fn ok(kind: Kind) -> What {
     What::Feed { status: wire::STATUS_OK, body: Body::of(kind, 5), len: PAGE }
 }
 
-fn set(stream: u32, buffer: u32, format: u32) -> What {
+fn set(stream: u32, buffer: u32, format: u8) -> What {
     let params = Params { buffer, period: 4, features: 1, channels: 2, format, rate: 7 };
     What::Call(Call::SetParams { stream, params })
 }
@@ -209,22 +208,7 @@ fn calls() -> Vec<What> {
     all.extend((wire::PREPARE..=wire::STOP).flat_map(|code| [0, 1, 2, 3].map(|stream| Call::Command { code, stream })));
     let mut all: Vec<What> = all.into_iter().map(What::Call).collect();
     all.extend([set(0, 8, 5), set(2, 8, 5), set(0, 9, 5), set(0, 8, 25)]);
-    all.extend(numbers().map(|params| What::Call(Call::SetParams { stream: 0, params })));
     all
-}
-
-/// Channels around a byte's ends, and each of the three small numbers good in its lowest byte alone.
-fn numbers() -> [Params; 7] {
-    let good = Params { buffer: 8, period: 4, features: 1, channels: 2, format: 5, rate: 7 };
-    [
-        Params { channels: 0, ..good },
-        Params { channels: 255, ..good },
-        Params { channels: 256, ..good },
-        Params { channels: 0x8000_0002, ..good },
-        Params { format: 0x105, ..good },
-        Params { rate: 0x1_0007, ..good },
-        Params { channels: 256, buffer: 9, ..good },
-    ]
 }
 
 fn rings() -> Vec<What> {
@@ -311,21 +295,8 @@ fn damages() -> Vec<Damage> {
     all.extend([0, 1, 2, 3, 4, 5, 255].map(|life| Damage::Life(0, life)));
     all.push(Damage::Guard);
     all.extend([0, 1, 2, 3, 4, 255].map(Damage::Per));
-    for (at, state, mode) in [
-        (0, 0, 0),
-        (0, 0, 2),
-        (0, 1, 3),
-        (0, 1, 1),
-        (0, 2, 3),
-        (0, u16::MAX, 3),
-        (15, 1, 1),
-        (15, 1, 0),
-        (16, 3, 1),
-        (31, 1, 3),
-        (31, 256, 1),
-        (31, 1, u16::MAX),
-    ] {
-        all.push(Damage::Token(at, Token { state, mode, status: 0x8003 }));
+    for (at, state) in [(0, 0), (0, 1), (0, 2), (0, u32::MAX), (15, 1), (16, 3), (31, 1), (31, 256)] {
+        all.push(Damage::Token(at, state, 0x8003));
     }
     all
 }

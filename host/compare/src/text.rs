@@ -1,13 +1,13 @@
 //! Cases as text, one a line: `JACKS STREAMS MAPS slots|descriptors [model SEED] [strict] [guard] [indirect] | STEP ; STEP ..`
 //!
 //! With `strict` each feed carries the length that was written: WROTE, a page where it is not named, or what the model says. One of more than a
-//! page is refused, and the next answer is to the same request. With `guard` the state is made by `vsnd_new_guarded`, with `indirect` the ring by
-//! `vsnd_ring_new_indirect`.
+//! page is refused, and the next answer is to the same request. With `guard` the state is made by `snd_new_guarded`, with `indirect` the ring by
+//! `snd_ring_new_indirect`.
 //!
 //! STEP = CALL [< ANSWER ..]. Calls: `remap JACK ASSOCIATION SEQUENCE`, `set STREAM BUFFER PERIOD FEATURES CHANNELS FORMAT RATE`,
 //! `prepare|release|start|stop STREAM`, `outputs`, `inputs`, `rates|formats|channels|features STREAM`, `counts`,
 //! `xfer STREAM LENGTH.SEED BUDGET READING ..`, `capture STREAM PERIODS LENGTH.SEED BUDGET HEARD ..`, `drain READING ..`, `submit STREAM LENGTH.SEED PLACES` (which does not wait, with so many
-//! bytes of places), `mark READING ..` (of the tokens that wait), `finish TOKEN`, `ring direct|indirect` (a new one), `event BYTES|none`, `ctl BYTES`, `tx BYTES` (the last two to the
+//! bytes of places), `mark READING ..` (of the tokens that wait), `finish TOKEN`, `event BYTES|none`, `ctl BYTES`, `tx BYTES` (the last two to the
 //! model device). ANSWER: STATUS[.KINDSEED][/WROTE][~PLACE=BYTE ..] with KIND n, j, s, m for noise or good records, `F` for the queue's
 //! failure, `M` for the model. READING: `q`, `o[:STATUS]` oldest, `kN[:STATUS]` N-th later, `sN[:STATUS]` slot N, `d` device; each may
 //! end in `*TIMES`. HEARD: READING[@WRITTEN[/LENT]], the length that the device says it wrote and how many bytes are lent, as many where it is
@@ -169,11 +169,12 @@ fn call_text(call: &Call) -> String {
 
 fn call_of(words: &[&str]) -> Call {
     let n = |i: usize| number::<u32>(words[i]);
+    let small = |i: usize| number::<u8>(words[i]);
     match words[0] {
         "remap" => Call::Remap { jack: n(1), association: n(2), sequence: n(3) },
         "set" => {
             let (buffer, period, features) = (n(2), n(3), n(4));
-            let params = Params { buffer, period, features, channels: n(5), format: n(6), rate: n(7) };
+            let params = Params { buffer, period, features, channels: small(5), format: small(6), rate: small(7) };
             Call::SetParams { stream: n(1), params }
         }
         "outputs" => Call::OutputStreams,
@@ -211,7 +212,6 @@ pub fn step_text(step: &Step) -> String {
         }
         Step::Mark(readings) => "mark".to_string() + &readings_text(readings),
         Step::Finish(token) => format!("finish {token}"),
-        Step::Ring { indirect } => format!("ring {}", if *indirect { "indirect" } else { "direct" }),
         Step::Event(None) => "event none".into(),
         Step::Event(Some(bytes)) => format!("event {}", hex(bytes)),
         Step::ModelControl(request) => format!("ctl {}", hex(request)),
@@ -236,7 +236,6 @@ pub fn step_of(text: &str) -> Step {
         }
         "mark" => Step::Mark(readings_of(&words[1..])),
         "finish" => Step::Finish(number(words[1])),
-        "ring" => Step::Ring { indirect: words[1] == "indirect" },
         "xfer" => {
             let frames = frames_of(words[2]);
             let readings = readings_of(&words[4..]);

@@ -1,7 +1,7 @@
 //! WAVE files, the port against the rules: random ones, good and damaged, each from its own seed, read and written; large ones. Every byte
 //! of the lent slices is compared, and bytes around them are not touched.
 use crate::case::{Frames, Rng};
-use crate::ffi::{vsnd_wav_read, vsnd_wav_write};
+use crate::ffi::{snd_wav_read, snd_wav_write};
 use crate::text::hex;
 use rules::entries::{RESULT_SIZE, number, wav_read, wav_write};
 use rules::wave::{self, FORMATS, Fault, HEADER, MOST, RATES, Unwritten, file_length};
@@ -77,14 +77,14 @@ impl Lent {
 
 fn port_read(file: &[u8], result: &mut [u8]) -> u64 {
     // SAFETY: both slices live through the call, and the one that is written overlaps no other
-    unsafe { vsnd_wav_read(file.as_ptr(), file.len(), result.as_mut_ptr(), result.len()) }
+    unsafe { snd_wav_read(file.as_ptr(), file.len(), result.as_mut_ptr(), result.len()) }
 }
 
-fn port_write([channels, format, rate]: [u32; 3], frames: &[u8], file: &mut [u8]) -> u64 {
+fn port_write([channels, format, rate]: [u8; 3], frames: &[u8], file: &mut [u8]) -> u64 {
     // SAFETY: both slices live through the call, and the one that is written overlaps no other
     unsafe {
         let (f, n) = (frames.as_ptr(), frames.len());
-        vsnd_wav_write(channels, format, rate, f, n, file.as_mut_ptr(), file.len())
+        snd_wav_write(channels, format, rate, f, n, file.as_mut_ptr(), file.len())
     }
 }
 
@@ -112,7 +112,7 @@ pub fn reads(file: &[u8], result: usize) -> Result<Kind, String> {
     let mut held = Lent::new(file);
     let said = port_read(held.slice(), lent.slice());
     let expected = number(wav_read(file, &mut plain));
-    let named = || format!("vsnd_wav_read of {} bytes, result of {result}: {}", file.len(), some(file));
+    let named = || format!("snd_wav_read of {} bytes, result of {result}: {}", file.len(), some(file));
     differ("the answer", said, expected, |n| n.to_string()).map_err(|text| format!("{}\n{text}", named()))?;
     bytes("the result", lent.left()?, &plain).map_err(|text| format!("{}\n{text}", named()))?;
     bytes("the file, which is not written", held.left()?, file).map_err(|text| format!("{}\n{text}", named()))?;
@@ -124,13 +124,13 @@ pub fn reads(file: &[u8], result: usize) -> Result<Kind, String> {
 }
 
 /// Writes a file by both; what was written is read back.
-pub fn writes(sound: [u32; 3], frames: &[u8], room: usize) -> Result<Kind, String> {
+pub fn writes(sound: [u8; 3], frames: &[u8], room: usize) -> Result<Kind, String> {
     let (mut lent, mut plain) = (Lent::new(&vec![FILL; room]), vec![FILL; room]);
     let mut held = Lent::new(frames);
     let said = port_write(sound, held.slice(), lent.slice());
     let [channels, format, rate] = sound;
     let expected = number(wav_write(channels, format, rate, frames, &mut plain));
-    let named = |text| format!("vsnd_wav_write {sound:?} of {} bytes, room {room}\n{text}", frames.len());
+    let named = |text| format!("snd_wav_write {sound:?} of {} bytes, room {room}\n{text}", frames.len());
     differ("the answer", said, expected, |n| n.to_string()).map_err(named)?;
     bytes("the file", lent.left()?, &plain).map_err(named)?;
     bytes("the frames, which are not written", held.left()?, frames).map_err(named)?;
@@ -143,12 +143,12 @@ pub fn writes(sound: [u32; 3], frames: &[u8], room: usize) -> Result<Kind, Strin
 }
 
 /// "Reading gives all back", whatever stands behind.
-fn reads_back(sound: [u32; 3], frames: &[u8], file: &[u8]) -> Result<(), String> {
+fn reads_back(sound: [u8; 3], frames: &[u8], file: &[u8]) -> Result<(), String> {
     let mut result = [FILL; RESULT_SIZE];
     let said = port_read(file, &mut result);
     let head = [HEADER, frames.len() as u64].map(u64::to_le_bytes).concat();
     differ("the answer to what was written", said, 0, |n| n.to_string())?;
-    bytes("what was written, read", &result[..19], &[&head[..], &sound.map(|number| number as u8)].concat())?;
+    bytes("what was written, read", &result[..19], &[&head[..], &sound].concat())?;
     bytes("the frames read", &file[HEADER as usize..][..frames.len()], frames)
 }
 
@@ -175,22 +175,16 @@ fn around(rng: &mut Rng, right: usize, more: usize) -> usize {
     }
 }
 
-/// Channels, format and rate, mostly good; now and then one that no byte holds.
-fn sound(rng: &mut Rng) -> [u32; 3] {
+fn sound(rng: &mut Rng) -> [u8; 3] {
     let channels = match rng.below(8) {
-        0 => rng.word() as u8 as u32,
-        1 => rng.pick(&[0, 254, 255, 256, u32::MAX]),
-        _ => 1 + rng.below(6) as u32,
+        0 => rng.word() as u8,
+        1 => rng.pick(&[0, 254, 255]),
+        _ => 1 + rng.below(6) as u8,
     };
     let format =
         if rng.one_in(6) { rng.pick(&[0, 3, 6, 10, 12, 15, 18, 24, 25, 128, 255]) } else { rng.pick(&FORMATS) };
-    let rate = if rng.one_in(8) { rng.pick(&[14, 15, 128, 255]) } else { rng.below(14) as u32 };
-    let mut all = [channels, format.into(), rate];
-    if rng.one_in(12) {
-        let at = rng.below(3) as usize;
-        all[at] = rng.past_a_byte(all[at]);
-    }
-    all
+    let rate = if rng.one_in(8) { rng.pick(&[14, 15, 128, 255]) } else { rng.below(14) as u8 };
+    [channels, format, rate]
 }
 
 fn frames_len(rng: &mut Rng) -> u64 {
@@ -198,9 +192,8 @@ fn frames_len(rng: &mut Rng) -> u64 {
 }
 
 /// Whole blocks mostly: so many of them, if the sound has any.
-fn frames_for(rng: &mut Rng, [channels, format, _]: [u32; 3], blocks: u64) -> u32 {
-    let format = FORMATS.into_iter().find(|known| u32::from(*known) == format);
-    let block = format.map_or(1, |format| wave::block(channels as u8, format).max(1));
+fn frames_for(rng: &mut Rng, [channels, format, _]: [u8; 3], blocks: u64) -> u32 {
+    let block = if FORMATS.contains(&format) { wave::block(channels, format).max(1) } else { 1 };
     let odd = if rng.one_in(6) { rng.below(block) } else { 0 };
     // large blocks are few
     (block * blocks.min(40_000 / block) + odd) as u32

@@ -1,7 +1,7 @@
-//! src/ffi.rs declares just what include/vsnd.h does: the same entries with the same parameters, in the same order. The header's version is
+//! src/ffi.rs declares just what include/snd.h does: the same entries with the same parameters, in the same order. The header's version is
 //! that of the workspace.
 
-const HEADER: &str = include_str!("../../include/vsnd.h");
+const HEADER: &str = include_str!("../../include/snd.h");
 const OURS: &str = include_str!("../src/ffi.rs");
 
 /// Each declaration as one line: the name, then `parameter: type` by Rust's names of the types.
@@ -10,7 +10,7 @@ fn of_header() -> Vec<String> {
     for part in HEADER.split("/*") {
         text += part.split_once("*/").map_or(part, |(_, after)| after);
     }
-    let found = text.split("uint64_t vsnd_").skip(1).filter_map(|rest| rest.split_once(");"));
+    let found = text.split("uint64_t snd_").skip(1).filter_map(|rest| rest.split_once(");"));
     found
         .map(|(declared, _)| {
             entry(declared, |p| {
@@ -32,7 +32,7 @@ fn of_header() -> Vec<String> {
 }
 
 fn of_ours() -> Vec<String> {
-    let found = OURS.split("pub fn vsnd_").skip(1).filter_map(|rest| rest.split_once(')'));
+    let found = OURS.split("pub fn snd_").skip(1).filter_map(|rest| rest.split_once(')'));
     found.map(|(declared, _)| entry(declared, str::to_string)).collect()
 }
 
@@ -45,14 +45,14 @@ fn entry(declared: &str, parameter: impl Fn(&str) -> String) -> String {
 
 #[test]
 fn the_declarations_are_the_headers() {
-    assert_eq!(of_header().len(), 72);
+    assert_eq!(of_header().len(), 70);
     assert_eq!(of_header(), of_ours());
 }
 
 /// What the header defines a name as.
 fn defined(name: &str) -> &'static str {
     let value = HEADER.lines().find_map(|line| line.strip_prefix(&format!("#define {name} ")));
-    value.unwrap_or_else(|| panic!("vsnd.h defines no {name}"))
+    value.unwrap_or_else(|| panic!("snd.h defines no {name}"))
 }
 
 #[test]
@@ -60,11 +60,10 @@ fn the_version_is_the_workspaces() {
     let manifest = include_str!("../../Cargo.toml");
     let (_, package) = manifest.split_once("[workspace.package]").expect("the workspace has a package");
     let version = package.lines().find_map(|line| line.strip_prefix("version = ")).expect("and a version");
-    let numbers =
-        ["MAJOR", "MINOR", "PATCH"].map(|part| defined(&format!("VSND_VERSION_{part}")).trim_end_matches('u'));
-    assert_eq!(format!("{:?}", numbers.join(".")), version, "vsnd.h and host/Cargo.toml");
+    let numbers = ["MAJOR", "MINOR", "PATCH"].map(|part| defined(&format!("SND_VERSION_{part}")).trim_end_matches('u'));
+    assert_eq!(format!("{:?}", numbers.join(".")), version, "snd.h and host/Cargo.toml");
     // minor and patch have three digits each in the one number
-    let whole = "(VSND_VERSION_MAJOR * 1000000u + VSND_VERSION_MINOR * 1000u + VSND_VERSION_PATCH)";
-    assert_eq!(defined("VSND_VERSION"), whole);
+    let whole = "(SND_VERSION_MAJOR * 1000000u + SND_VERSION_MINOR * 1000u + SND_VERSION_PATCH)";
+    assert_eq!(defined("SND_VERSION"), whole);
     assert!(numbers.iter().all(|number| number.parse::<u32>().expect("a number") < 1000));
 }

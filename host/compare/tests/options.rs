@@ -32,7 +32,7 @@ fn an_option_has_its_value_once() {
     refused(&["--cases", "1", "--cases", "2"], "--cases is given twice");
     refused(
         &["--seed", "5"],
-        "--seed goes with --cases, --strict, --guard, --pending, --indirect, --captures, --rings, --entries, --wav or --traces",
+        "--seed goes with --cases, --strict, --guard, --pending, --indirect, --captures, --entries, --wav or --traces",
     );
     refused(&["--short", "--check", "x"], "--short, --check: one of these at a time");
 }
@@ -47,7 +47,6 @@ fn a_run_of_no_case_is_refused() {
     refused(&["--cases", "2", "--seed", &last], &few);
     refused(&["--entries", "1", "--no-port"], "--no-port leaves nothing of this to run");
     refused(&["--captures", "1", "--no-port"], "--no-port leaves nothing of this to run");
-    refused(&["--rings", "1", "--no-port"], "--no-port leaves nothing of this to run");
     refused(&["--traces", "1", "--no-port"], "--no-port leaves nothing of this to run");
     refused(&["--wav", "1", "--no-port"], "--no-port leaves nothing of this to run");
     refused(&["--replay", "recorded.txt", "--no-port"], "--no-port leaves nothing of this to run");

@@ -4,10 +4,10 @@ use crate::port::{FILE_DATA, FILE_SELECT};
 use crate::timer::{SECOND, Timer};
 use core::arch::asm;
 use core::ptr::{read_volatile, write_volatile};
-use page::{InFile, Source};
+use page::InFile;
 use sha256::Sum;
-use vsnd::wav::{self, Wave};
-use vsnd::{Format, Params, Rate, Refusal};
+use snd::wav::{self, Wave};
+use snd::{Format, Params, Rate, Refusal};
 
 const SIGNATURE: u16 = 0;
 const ID: u16 = 1;
@@ -41,67 +41,57 @@ pub struct Recording {
     pub name: &'static str,
     pub frames: &'static [u8],
     pub sha256: Sum,
-    /// What the frames were read from.
-    pub source: Source,
-    /// What a WAVE file says of its sound.
-    sound: Option<(u8, Format, Rate)>,
+    /// What a WAVE file says of itself; none of raw frames.
+    pub wave: Option<Result<InWave, Refusal>>,
 }
 
-/// What came of reading a file.
+/// What the frames of a WAVE file are, and where in it they stand.
 #[derive(Clone, Copy)]
-pub enum Read {
-    Spoken(Recording),
-    /// The driver's reader refused it; so many bytes are known of it.
-    Refused {
-        bytes: usize,
-        refusal: Refusal,
-    },
-}
-
-impl Read {
-    /// A file of raw frames, or what the driver's reader finds in it.
-    fn of(name: &'static str, file: &'static [u8], raw: bool) -> Self {
-        let (frames, source, sound) = match wav::read(file) {
-            _ if raw => (file, Source::raw(file), None),
-            Ok(wave) => (
-                wave.frames,
-                in_wave(file, &wave),
-                Some((wave.channels, wave.format, wave.rate)),
-            ),
-            Err(refusal) => {
-                let bytes = file.len();
-                return Self::Refused { bytes, refusal };
-            }
-        };
-        Self::Spoken(Recording {
-            name,
-            frames,
-            sha256: sha256::sum(frames),
-            source,
-            sound,
-        })
-    }
-}
-
-/// Where the frames stand in a file, of which they are a part.
-fn in_wave(file: &[u8], wave: &Wave) -> Source {
-    Source::Wave(InFile {
-        bytes: file.len(),
-        offset: wave.frames.as_ptr().addr().wrapping_sub(file.as_ptr().addr()),
-    })
+pub struct InWave {
+    pub channels: u8,
+    pub format: Format,
+    pub rate: Rate,
+    pub file: InFile,
 }
 
 impl Recording {
+    /// A file that begins so is read as a WAVE file, whatever its name; any other has raw frames, and so has one that is refused.
+    fn of(name: &'static str, file: &'static [u8]) -> Self {
+        let read = file.starts_with(b"RIFF").then(|| wav::read(file));
+        let frames = match &read {
+            Some(Ok(wave)) => wave.frames,
+            _ => file,
+        };
+        let in_wave = |wave: Wave| InWave {
+            channels: wave.channels,
+            format: wave.format,
+            rate: wave.rate,
+            file: InFile {
+                bytes: file.len(),
+                // the frames are a part of the file
+                offset: frames.as_ptr().addr().wrapping_sub(file.as_ptr().addr()),
+            },
+        };
+        Self {
+            name,
+            frames,
+            sha256: sha256::sum(frames),
+            wave: read.map(|read| read.map(in_wave)),
+        }
+    }
+
     /// What the stream is set to: of a WAVE file what it says itself.
     pub fn params(&self, asked: &Params) -> Params {
-        match self.sound {
-            Some((channels, format, rate)) => Params {
+        match self.wave {
+            Some(Ok(InWave {
+                channels, format, rate, ..
+            })) => Params {
                 channels,
                 format,
                 rate,
                 ..*asked
             },
-            None => *asked,
+            _ => *asked,
         }
     }
 }
@@ -110,15 +100,7 @@ pub struct Files {
     timer: Timer,
     arena: Arena,
     copying: &'static mut Copying,
-    kept: [Option<Kept>; KEPT],
-}
-
-/// A file that was read, as it was asked for.
-#[derive(Clone, Copy)]
-struct Kept {
-    name: &'static str,
-    raw: bool,
-    read: Read,
+    kept: [Option<Recording>; KEPT],
 }
 
 fn select(what: u16) {
@@ -201,16 +183,16 @@ impl Files {
         (self.timer.within(SECOND, ended)? == 0).then_some(&*room)
     }
 
-    /// An announcement, by its name and whether it has raw frames: read once, and kept.
-    pub fn announcement(&mut self, name: &'static str, raw: bool) -> Option<Read> {
-        let mut kept = self.kept.iter().flatten();
-        if let Some(known) = kept.find(|kept| (kept.name, kept.raw) == (name, raw)) {
-            return Some(known.read);
+    /// A recording: read once, and kept.
+    pub fn recording(&mut self, name: &'static str) -> Option<Recording> {
+        let known = self.kept.iter().flatten().find(|kept| kept.name == name);
+        if let Some(recording) = known {
+            return Some(*recording);
         }
-        let read = Read::of(name, self.read(name)?, raw);
+        let recording = Recording::of(name, self.read(name)?);
         if let Some(place) = self.kept.iter_mut().find(|place| place.is_none()) {
-            *place = Some(Kept { name, raw, read });
+            *place = Some(recording);
         }
-        Some(read)
+        Some(recording)
     }
 }

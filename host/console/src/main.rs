@@ -6,7 +6,7 @@
 #![deny(clippy::unwrap_used, clippy::expect_used, clippy::panic, clippy::indexing_slicing)]
 
 use console::device::Device;
-use console::files::{self, Files, Read};
+use console::files::{self, Files};
 use console::memory::Arena;
 use console::script::{self, Asked, Verb};
 use console::speak::Console;
@@ -14,8 +14,7 @@ use console::timer::{self, Timer};
 use console::told::Told;
 use console::{LAST, say, serial, stack, stopped};
 use core::fmt::{Display, Write};
-use page::{Answered, Built, Together, UnreadPage};
-use vsnd::Refusal;
+use page::{Answered, Together};
 
 /// Ticks in which a device gives back what it held, after a release.
 const GIVEN_BACK: u64 = 50;
@@ -182,30 +181,9 @@ fn record(
     let owed = asked.owed.is_none_or(|owed| owed == page.owed);
     let right = number == asked.expect && owed && (number != 0 || page.given());
     show(&page);
-    if asked.keep {
-        serial::hand_out(recorded.kept());
-    }
-    Ok(expected(asked, right))
-}
-
-/// A file that cannot be spoken: its page, which has its answer and nothing that is not known.
-fn unread(name: &str, bytes: usize, refusal: Refusal, asked: &Asked, count: &mut Count) -> bool {
-    count.all += 1;
-    show(UnreadPage {
-        name,
-        bytes,
-        refusal,
-        built: Built::here(None),
-    });
-    let right = refusal.number() == asked.expect && asked.owed.is_none_or(|owed| owed == 0);
-    expected(asked, right)
-}
-
-/// Says whether the answer is the one that was expected.
-fn expected(asked: &Asked, right: bool) -> bool {
     let how = if right { "as expected" } else { "NOT AS EXPECTED" };
     say!("expected     {}: {how}\n", asked.expect);
-    right
+    Ok(right)
 }
 
 /// Speaks, prints the page, and holds the answer to what is expected.
@@ -216,13 +194,9 @@ fn speak(
     mut asked: Asked,
     count: &mut Count,
 ) -> Result<bool, &'static str> {
-    let read = files
-        .announcement(name, asked.raw)
+    let recording = files
+        .recording(name)
         .ok_or_else(|| stopped(format_args!("there is no file opt/console/{name}, or no room for it")))?;
-    let recording = match read {
-        Read::Spoken(recording) => recording,
-        Read::Refused { bytes, refusal } => return Ok(unread(name, bytes, refusal, &asked, count)),
-    };
     asked.params = recording.params(&asked.params);
     let mut told = Told::new();
     console.announce(&asked, &recording, &mut told);
@@ -244,5 +218,7 @@ fn speak(
             periods.saturating_mul(apart).saturating_add(1)
         );
     }
-    Ok(expected(&asked, right))
+    let how = if right { "as expected" } else { "NOT AS EXPECTED" };
+    say!("expected     {}: {how}\n", asked.expect);
+    Ok(right)
 }

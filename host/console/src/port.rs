@@ -8,8 +8,6 @@ pub struct Port(u16);
 /// The serial line (16550): what is sent, and whether there is room.
 pub const SERIAL_DATA: Port = Port(0x3f8);
 pub const SERIAL_STATUS: Port = Port(0x3fd);
-/// `isa-debugcon`: a file of the host, byte by byte.
-pub const KEPT: Port = Port(0xe9);
 /// `isa-debug-exit`: ends QEMU.
 pub const EXIT: Port = Port(0xf4);
 /// fw_cfg: which file, and its bytes one by one.

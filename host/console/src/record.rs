@@ -4,7 +4,7 @@ use crate::speak::{Console, MOST_DRAIN, of, turns};
 use crate::timer;
 use crate::told::{FAULT, LISTED, List};
 use page::{Built, CapturePage, Fault, Heard, Recorded, Refused, Stream, Times, Turns, What, When};
-use vsnd::{CAPTURE_STATUS, Captured, Reading, Refusal, SLOTS, STATUS_OK, Turn};
+use snd::{CAPTURE_STATUS, Captured, Reading, Refusal, SLOTS, STATUS_OK, Turn};
 
 /// What stands in a recording before.
 const BEFORE: u8 = 0xa5;
@@ -113,12 +113,8 @@ impl Recording {
         }
     }
 
-    /// What the driver kept.
-    pub fn kept(&self) -> &[u8] {
-        self.room.get(..self.kept).unwrap_or_default()
-    }
-
     pub fn page(&self, asked: &Asked) -> CapturePage<'_> {
+        let kept = self.room.get(..self.kept).unwrap_or_default();
         CapturePage {
             name: "the input stream",
             periods: self.periods,
@@ -131,7 +127,7 @@ impl Recording {
             submitted: self.submitted,
             heard: self.heard,
             kept: self.kept,
-            sha256: sha256::sum(self.kept()),
+            sha256: sha256::sum(kept),
             faults: self.faults.listed(),
             owed: self.owed,
             drain: self.drain,

@@ -1,13 +1,9 @@
 //! What to do, from outside: a line to each step, its verb first.
 use core::fmt;
-use vsnd::{Format, Params, Rate};
+use snd::{Format, Params, Rate};
 
 /// What an announcement or a recording is asked to be.
 pub struct Asked {
-    /// The file has raw frames; else it is a WAVE file, whatever it holds.
-    pub raw: bool,
-    /// What was recorded goes out of the guest.
-    pub keep: bool,
     pub params: Params,
     /// The first output or input stream where none is named.
     pub stream: Option<u32>,
@@ -20,30 +16,6 @@ pub struct Asked {
     pub expect: u32,
     /// Slots that are expected to be owed when the transfer answers.
     pub owed: Option<u64>,
-}
-
-impl Asked {
-    /// A console's usual.
-    const fn usual() -> Self {
-        Self {
-            raw: false,
-            keep: false,
-            params: Params {
-                buffer: 0,
-                period: 4096,
-                features: 0,
-                channels: 2,
-                format: Format::S16,
-                rate: Rate::Hz48000,
-            },
-            stream: None,
-            budget: None,
-            start: true,
-            tail: None,
-            expect: 0,
-            owed: None,
-        }
-    }
 }
 
 pub enum Verb<'s> {
@@ -111,15 +83,28 @@ fn number<T: core::str::FromStr>(word: &str) -> Result<T, Unread<'_>> {
     word.parse().map_err(|_| Unread(word))
 }
 
-/// The words `raw` and `keep`, and words of the form name=value; what is not named is a console's usual.
+/// Words of the form name=value; what is not named is a console's usual.
 fn asked<'s>(words: impl Iterator<Item = &'s str>) -> Result<Asked, Unread<'s>> {
-    let mut asked = Asked::usual();
+    let mut asked = Asked {
+        params: Params {
+            buffer: 0,
+            period: 4096,
+            features: 0,
+            channels: 2,
+            format: Format::S16,
+            rate: Rate::Hz48000,
+        },
+        stream: None,
+        budget: None,
+        start: true,
+        tail: None,
+        expect: 0,
+        owed: None,
+    };
     let mut buffer = None;
     for word in words {
         let params = &mut asked.params;
-        match word.split_once('=').unwrap_or((word, "")) {
-            ("raw", "") => asked.raw = true,
-            ("keep", "") => asked.keep = true,
+        match word.split_once('=').ok_or(Unread(word))? {
             ("buffer", value) => buffer = Some(number(value)?),
             ("period", value) => params.period = number(value)?,
             ("features", value) => params.features = number(value)?,

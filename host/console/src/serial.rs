@@ -1,5 +1,5 @@
 //! The serial line, and the end of the run.
-use crate::port::{EXIT, KEPT, SERIAL_DATA, SERIAL_STATUS};
+use crate::port::{EXIT, SERIAL_DATA, SERIAL_STATUS};
 use core::fmt;
 
 pub struct Serial;
@@ -25,11 +25,6 @@ macro_rules! say {
         // the line never refuses
         let _ = ::core::fmt::Write::write_fmt(&mut $crate::serial::Serial, format_args!("{}\n", format_args!($($text)*)));
     }};
-}
-
-/// Hands bytes out to a file of the host, where QEMU was given one.
-pub fn hand_out(bytes: &[u8]) {
-    bytes.iter().for_each(|byte| KEPT.write8(*byte));
 }
 
 /// How a run ended. QEMU's own failures have status 1, so these begin further up.

@@ -2,7 +2,7 @@
 use crate::files::Recording;
 use crate::script::Asked;
 use page::{Built, Completed, Drain, Fault, Gap, Page, Part, Refused, Same, Stream, Times, Turns, What, When, Why};
-use vsnd::{Offer, Reading, SLOTS, STATUS_OK};
+use snd::{Offer, Reading, SLOTS, STATUS_OK};
 
 /// Faults that a page lists; more are counted.
 pub(crate) const LISTED: usize = 16;
@@ -211,7 +211,7 @@ impl Told {
         Page {
             name: recording.name,
             bytes: recording.frames.len(),
-            source: recording.source,
+            file: recording.wave.and_then(Result::ok).map(|wave| wave.file),
             sha256: recording.sha256,
             parts: &[],
             params: asked.params,

@@ -1,8 +1,8 @@
-//! Calls every call, feed, turn and read of the crate `vsnd`, and of its model device, on anything at all. A panic would call a function that is nowhere defined, so the test that builds
+//! Calls every call, feed, turn and read of the crate `snd`, and of its model device, on anything at all. A panic would call a function that is nowhere defined, so the test that builds
 //! this only has to look whether that function is asked for.
 #![no_std]
-use vsnd::trace::Difference;
-use vsnd::{
+use snd::trace::Difference;
+use snd::{
     Captured, Capturing, Config, F_CTLS, Features, Format, Formats, Model, Notification, Page, Params, Pending, Places,
     Rate, Rates, Reading, Refusal, Ring, Sound, Started, Status, Step, StreamList, Submitted, Tracing, Unfed, Value,
     Version, latest_notification, latest_notification_in, trace, wav,

@@ -1,13 +1,10 @@
 //! The page of a recording: what a microphone wrote, and what was kept of it.
 use crate::faults::{Fault, Refused, When};
 use crate::frames::{Warning, second, warnings};
-use crate::operator::Advice;
-use crate::page::{
-    Answered, Built, Count, Lines, Stream, Times, Turns, after, built, bytes_of, modes, parameters, stream, turns,
-};
+use crate::page::{Built, Count, Lines, Stream, Times, Turns, after, built, modes, parameters, stream, turns};
 use core::fmt;
 use sha256::Sum;
-use vsnd::Params;
+use snd::Params;
 
 /// All that the page tells of a recording.
 pub struct CapturePage<'p> {
@@ -96,35 +93,10 @@ impl CapturePage<'_> {
 impl fmt::Display for CapturePage<'_> {
     fn fmt(&self, f: &mut fmt::Formatter<'_>) -> fmt::Result {
         let mut lines = Lines(f);
-        lines.line("answer", Answered(self.refused))?;
-        lines.line("operator", Operator(self))?;
         before(&mut lines, self)?;
         device(&mut lines, self)?;
-        after(&mut lines, "capture", &self.turns, &self.times)?;
+        after(&mut lines, "capture", self.refused, &self.turns, &self.times)?;
         built(&mut lines, &self.built)
-    }
-}
-
-/// The sentence on the operator's screen.
-struct Operator<'p>(&'p CapturePage<'p>);
-
-impl fmt::Display for Operator<'_> {
-    fn fmt(&self, f: &mut fmt::Formatter<'_>) -> fmt::Result {
-        let page = self.0;
-        let seconds = second(&page.params, page.kept);
-        let what = "recording";
-        match page.refused {
-            None if !page.given() => f.write_str("what was recorded is NOT what was heard: call for service"),
-            None if page.kept == 0 => f.write_str("there was nothing to record"),
-            None => write!(f, "{seconds:.2} seconds were recorded"),
-            Some((_call, refusal)) if page.kept == 0 => {
-                write!(f, "nothing was recorded: {}", Advice { refusal, what })
-            }
-            Some((_call, refusal)) => {
-                let advice = Advice { refusal, what };
-                write!(f, "{seconds:.2} seconds were recorded when it failed: {advice}")
-            }
-        }
     }
 }
 
@@ -134,7 +106,7 @@ fn before(lines: &mut Lines, page: &CapturePage) -> fmt::Result {
     let most = page.most();
     lines.line(
         "recording",
-        format_args!("{}, {asked}, at most {}", page.name, Count(most, "byte")),
+        format_args!("{}, {asked}, at most {most} bytes", page.name),
     )?;
     let cuts = warnings(&page.params, usize::MAX).filter(|warning| matches!(warning, Warning::PeriodCuts { .. }));
     for warning in cuts {
@@ -155,12 +127,15 @@ fn device(lines: &mut Lines, page: &CapturePage) -> fmt::Result {
         "submitted",
         format_args!("room for {}", Count(page.submitted, "period")),
     )?;
-    let (heard, most) = (Count(periods, "period"), Count(page.most(), "byte"));
+    let accepted = Count(periods, "period");
     match short {
-        0 => lines.line("heard", format_args!("{bytes} of {most}, in {heard}"))?,
+        0 => lines.line(
+            "accepted",
+            format_args!("{bytes} of {} bytes, in {accepted}", page.most()),
+        )?,
         short => lines.line(
-            "heard",
-            format_args!("{bytes} of {most}, in {heard}, {short} of them short"),
+            "accepted",
+            format_args!("{bytes} of {} bytes, in {accepted}, {short} of them short", page.most()),
         )?,
     }
     recorded(lines, page)?;
@@ -179,10 +154,9 @@ fn recorded(lines: &mut Lines, page: &CapturePage) -> fmt::Result {
     if page.kept == 0 && page.heard.recorded != Recorded::Not {
         return lines.line(NAME, "nothing: the room is as it was");
     }
-    let seconds = second(&page.params, page.kept);
-    lines.line(NAME, format_args!("{}: {}", bytes_of(page.kept), page.heard.recorded))?;
+    lines.line(NAME, format_args!("{} bytes: {}", page.kept, page.heard.recorded))?;
     lines.line(NAME, format_args!("sha256 {}", page.sha256))?;
-    lines.line(NAME, format_args!("{seconds:.6} s"))
+    lines.line(NAME, format_args!("{:.6} s", second(&page.params, page.kept)))
 }
 
 fn owed(lines: &mut Lines, page: &CapturePage) -> fmt::Result {

@@ -1,6 +1,6 @@
 //! What a device did wrong, and when.
 use core::fmt;
-use vsnd::{Refusal, Status};
+use snd::{Refusal, Status};
 
 /// A turn, counted from 1: of the transfer, or of the drain after it.
 #[derive(Clone, Copy, PartialEq, Eq, Debug)]

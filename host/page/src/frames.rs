@@ -1,7 +1,6 @@
 //! What is known of frames by their length and their parameters.
-use crate::page::{Count, bytes_of};
 use core::fmt;
-use vsnd::{Format, Params};
+use snd::{Format, Params};
 
 /// A format's name in the documents, and the bytes of a sample. One that has no whole byte to a sample counts as one.
 #[must_use]
@@ -66,8 +65,6 @@ pub enum Warning {
         /// Bytes of a frame.
         frame: usize,
     },
-    /// Raw frames begin as a WAVE file does.
-    Riff,
 }
 
 /// The warnings about so many bytes.
@@ -86,25 +83,17 @@ impl fmt::Display for Warning {
     fn fmt(&self, f: &mut fmt::Formatter<'_>) -> fmt::Result {
         match *self {
             Self::Nothing => f.write_str("there are no frames: nothing is spoken"),
-            Self::Cut { bytes, frame } => {
-                let be = if bytes == 1 { "is" } else { "are" };
-                write!(
-                    f,
-                    "the last frame is cut: {} {be} {} of {} and {} over; a device may never complete it",
-                    bytes_of(bytes),
-                    Count((bytes / frame) as u64, "frame"),
-                    bytes_of(frame),
-                    bytes % frame
-                )
-            }
+            Self::Cut { bytes, frame } => write!(
+                f,
+                "the last frame is cut: {bytes} bytes are {} frames of {frame} bytes and {} over; a device may never complete it",
+                bytes / frame,
+                bytes % frame
+            ),
             Self::PeriodCuts { period, frame } => write!(
                 f,
-                "a period of {} cuts frames of {} in two; --period {} would not",
-                bytes_of(period),
-                bytes_of(frame),
+                "a period of {period} bytes cuts frames of {frame} bytes in two; --period {} would not",
                 (period / frame).max(1) * frame
             ),
-            Self::Riff => f.write_str("these raw frames begin as a WAVE file does: its header is spoken too"),
         }
     }
 }

@@ -7,18 +7,15 @@ mod account;
 mod capture;
 mod faults;
 mod frames;
-mod operator;
 mod page;
 mod spoken;
-mod unread;
 
 pub use account::{Gap, Part, Same, Why, gaps};
 pub use capture::{CapturePage, Heard, Recorded};
 pub use faults::{Completed, Fault, Refused, What, When};
 pub use frames::{Warning, frame, sample, second, warnings};
 pub use page::{
-    Answered, Built, Count, Drain, GoingOn, InFile, Jacks, Joined, Page, Source, Stream, Times, Together, Turns,
-    Virtio, at_most,
+    ARCHIVE, Answered, Built, Drain, GoingOn, InFile, Jacks, Joined, Page, Stream, Times, Together, Turns, Virtio,
+    at_most,
 };
 pub use spoken::Spoken;
-pub use unread::UnreadPage;

@@ -1,13 +1,12 @@
 //! The auditor's page.
 use crate::account::{Gap, Part, Same};
 use crate::faults::{Fault, Refused};
-use crate::frames::{Warning, sample, second, warnings};
-use crate::operator::Operator;
+use crate::frames::{sample, second, warnings};
 use crate::spoken::spoken;
 use core::fmt;
 use core::time::Duration;
 use sha256::Sum;
-use vsnd::{Answer, ChannelRange, Config, Params, Version};
+use snd::{Answer, ChannelRange, Config, Params, Version};
 
 /// All that the page tells of an announcement. What is not known where it is written has no line.
 pub struct Page<'p> {
@@ -15,8 +14,8 @@ pub struct Page<'p> {
     pub name: &'p str,
     /// How many bytes the frames have.
     pub bytes: usize,
-    /// What they were read from.
-    pub source: Source,
+    /// Where they stood, if a file has more than the frames.
+    pub file: Option<InFile>,
     /// Of the frames.
     pub sha256: Sum,
     /// The parts of which they were joined, in order; none where they were not.
@@ -61,39 +60,6 @@ pub struct Page<'p> {
     pub built: Built<'p>,
 }
 
-/// What frames were read from.
-#[derive(Clone, Copy, PartialEq, Eq, Debug)]
-pub enum Source {
-    /// They were made, or joined of others.
-    Made,
-    /// Raw frames, as was asked for.
-    Raw {
-        /// Whether they begin as a WAVE file does.
-        riff: bool,
-    },
-    /// A WAVE file.
-    Wave(InFile),
-}
-
-impl Source {
-    /// Raw frames, as they are.
-    #[must_use]
-    pub fn raw(frames: &[u8]) -> Self {
-        Self::Raw {
-            riff: frames.starts_with(b"RIFF"),
-        }
-    }
-
-    /// What a user should know of it.
-    #[must_use]
-    pub const fn warning(self) -> Option<Warning> {
-        match self {
-            Self::Raw { riff: true } => Some(Warning::Riff),
-            Self::Raw { riff: false } | Self::Made | Self::Wave(_) => None,
-        }
-    }
-}
-
 /// Where frames stood in a file.
 #[derive(Clone, Copy, PartialEq, Eq, Debug)]
 pub struct InFile {
@@ -108,8 +74,6 @@ pub struct InFile {
 pub struct Joined<'p> {
     /// A name that fits on a line.
     pub name: &'p str,
-    /// Whether it has raw frames.
-    pub raw: bool,
     /// Where it begins in the frames.
     pub offset: usize,
     /// How many bytes it has.
@@ -204,23 +168,25 @@ pub struct Times {
 pub struct Built<'p> {
     /// None where there is no clock.
     pub date: Option<&'p str>,
-    /// The version of the driver.
-    pub driver: &'p str,
     /// As .ci/kit names it; none where it was built outside the repository.
     pub kit: Option<&'p str>,
     /// The sha256 of the archive that is linked.
     pub archive: Option<&'p str>,
 }
 
+/// The path of that archive when it was built, for a test.
+#[doc(hidden)]
+pub const ARCHIVE: &str = env!("PAGE_ARCHIVE");
+
 impl<'p> Built<'p> {
     /// As this was built.
     #[must_use]
-    pub const fn here(date: Option<&'p str>) -> Self {
+    pub fn here(date: Option<&'p str>) -> Self {
+        let known = |text: &'static str| (!text.is_empty()).then_some(text);
         Self {
             date,
-            driver: built::VERSION,
-            kit: built::KIT,
-            archive: built::ARCHIVE_SHA256,
+            kit: known(env!("PAGE_KIT")),
+            archive: known(env!("PAGE_ARCHIVE_SHA256")),
         }
     }
 }
@@ -228,11 +194,9 @@ impl<'p> Built<'p> {
 impl fmt::Display for Page<'_> {
     fn fmt(&self, f: &mut fmt::Formatter<'_>) -> fmt::Result {
         let mut lines = Lines(f);
-        verdict(&mut lines, self)?;
         before(&mut lines, self)?;
         device(&mut lines, self)?;
-        after(&mut lines, "transfer", &self.turns, &self.times)?;
-        pace(&mut lines, self)?;
+        after(&mut lines, "transfer", self.refused, &self.turns, &self.times)?;
         built(&mut lines, &self.built)
     }
 }
@@ -265,19 +229,13 @@ impl Lines<'_, '_> {
     }
 }
 
-/// The answer, and the sentence on the operator's screen, before all else.
-fn verdict(lines: &mut Lines, page: &Page) -> fmt::Result {
-    lines.line("answer", Answered(page.refused))?;
-    lines.line("operator", page.operator())
-}
-
 /// What was to be spoken.
 fn before(lines: &mut Lines, page: &Page) -> fmt::Result {
     announcement(lines, page)?;
     lines.line("frames", format_args!("sha256 {}", page.sha256))?;
     lines.line("recording", format_args!("{:.6} s", second(&page.params, page.bytes)))?;
     parts(lines, page)?;
-    for warning in warnings(&page.params, page.bytes).chain(page.source.warning()) {
+    for warning in warnings(&page.params, page.bytes) {
         lines.line("warning", warning)?;
     }
     modes(lines, page.strict, page.guard, page.indirect)?;
@@ -306,7 +264,7 @@ pub(crate) fn modes(lines: &mut Lines, strict: bool, guard: bool, indirect: bool
     if indirect {
         lines.line(
             "descriptors",
-            format_args!("indirect: one for each submission, so {} may be out", vsnd::SLOTS),
+            format_args!("indirect: one for each submission, so {} may be out", snd::SLOTS),
         )?;
     }
     Ok(())
@@ -349,22 +307,15 @@ fn parts(lines: &mut Lines, page: &Page) -> fmt::Result {
         lines.line("joined", format_args!("of {count} parts; no seam cuts a period"))?;
     }
     let mut line = "part";
-    for &Joined {
-        name,
-        raw,
-        offset,
-        bytes,
-    } in page.parts
-    {
+    for &Joined { name, offset, bytes } in page.parts {
         let period = offset.checked_div(page.params.period as usize).unwrap_or(0) + 1;
-        let (raw, bytes) = (if raw { "raw frames, " } else { "" }, Count(bytes as u64, "byte"));
         if offset < page.bytes {
             lines.line(
                 line,
-                format_args!("byte {offset}, period {period}: {name}, {raw}{bytes}"),
+                format_args!("byte {offset}, period {period}: {name}, {bytes} bytes"),
             )?;
         } else {
-            lines.line(line, format_args!("byte {offset}, the end: {name}, {raw}{bytes}"))?;
+            lines.line(line, format_args!("byte {offset}, the end: {name}, {bytes} bytes"))?;
         }
         line = "seam";
     }
@@ -372,18 +323,13 @@ fn parts(lines: &mut Lines, page: &Page) -> fmt::Result {
 }
 
 fn announcement(lines: &mut Lines, page: &Page) -> fmt::Result {
-    const NAME: &str = "announcement";
-    let (name, bytes) = (page.name, Count(page.bytes as u64, "byte"));
-    match page.source {
-        Source::Made => lines.line(NAME, format_args!("{name}, {bytes}")),
-        Source::Raw { .. } => lines.line(NAME, format_args!("{name}, raw frames, {bytes}")),
-        Source::Wave(InFile { bytes: all, offset }) => {
-            let all = Count(all as u64, "byte");
-            lines.line(
-                NAME,
-                format_args!("{name}, a WAVE file of {all}, {bytes} of frames from byte {offset}"),
-            )
-        }
+    let Page { name, bytes, .. } = page;
+    match page.file {
+        None => lines.line("announcement", format_args!("{name}, {bytes} bytes")),
+        Some(InFile { bytes: all, offset }) => lines.line(
+            "announcement",
+            format_args!("{name}, {all} bytes, {bytes} of frames from byte {offset}"),
+        ),
     }
 }
 
@@ -395,14 +341,14 @@ fn device(lines: &mut Lines, page: &Page) -> fmt::Result {
     }
     lines.line("submitted", Count(page.submitted, "period"))?;
     accepted(lines, page)?;
-    sum(lines, "accepted sum", &page.accepted)?;
+    sum(lines, "accepted", &page.accepted)?;
     for fault in page.faults {
         lines.line("fault", fault)?;
     }
     owed(lines, page)?;
     if page.owed > 0 {
         drained(lines, &page.drain)?;
-        sum(lines, "drained sum", &page.drain.accepted)?;
+        sum(lines, "drained", &page.drain.accepted)?;
     }
     for gap in page.gaps {
         lines.line("gap", gap)?;
@@ -411,8 +357,15 @@ fn device(lines: &mut Lines, page: &Page) -> fmt::Result {
     spoken(lines, page)
 }
 
-/// How long it took.
-pub(crate) fn after(lines: &mut Lines, what: &str, turns: &Turns, times: &Times) -> fmt::Result {
+/// The answer, and how long it took.
+pub(crate) fn after(
+    lines: &mut Lines,
+    what: &str,
+    refused: Option<Refused>,
+    turns: &Turns,
+    times: &Times,
+) -> fmt::Result {
+    lines.line("answer", Answered(refused))?;
     match at_most(turns.run, turns.allowed, times.longest) {
         Some(seconds) => {
             let turns = Count(turns.allowed, "turn");
@@ -430,31 +383,10 @@ pub(crate) fn after(lines: &mut Lines, what: &str, turns: &Turns, times: &Times)
     lines.line("wall time", format_args!("{:.6} s", times.whole.as_secs_f64()))
 }
 
-/// Seconds of sound that a device may take into a buffer of its own.
-const AHEAD: f64 = 0.25;
-
-/// Whether it can have been heard: a device that plays needs as long as the sound lasts, less what its buffers have room for.
-fn pace(lines: &mut Lines, page: &Page) -> fmt::Result {
-    let (taken, took) = (
-        second(&page.params, page.accepted.bytes),
-        page.times.whole.as_secs_f64(),
-    );
-    if taken - second(&page.params, page.params.buffer as usize) - AHEAD <= took {
-        return Ok(());
-    }
-    lines.line(
-        "plausible",
-        format_args!(
-            "no: {taken:.2} seconds of sound were taken in {took:.6} s, so this device did not play them as they came"
-        ),
-    )
-}
-
 pub(crate) fn built(lines: &mut Lines, built: &Built) -> fmt::Result {
     if let Some(date) = built.date {
         lines.line("date", date)?;
     }
-    lines.line("driver", format_args!("version {}", built.driver))?;
     match built.kit {
         Some(kit) => lines.line("kit", format_args!("{kit} (.ci/kit)"))?,
         None => lines.line("kit", "not known: built outside the repository")?,
@@ -466,12 +398,6 @@ pub(crate) fn built(lines: &mut Lines, built: &Built) -> fmt::Result {
 }
 
 impl Page<'_> {
-    /// The sentence on the operator's screen.
-    #[must_use]
-    pub const fn operator(&self) -> impl fmt::Display {
-        Operator(self)
-    }
-
     /// Whether the announcement was given: Ok, and the device had accepted all of it, in order.
     #[must_use]
     pub fn given(&self) -> bool {
@@ -499,9 +425,8 @@ impl fmt::Display for Answered {
     }
 }
 
-/// So many of a thing: "1 byte", "2 bytes".
-#[derive(Clone, Copy, PartialEq, Eq, Debug)]
-pub struct Count<'t>(pub u64, pub &'t str);
+/// So many of a thing.
+pub(crate) struct Count<'t>(pub u64, pub &'t str);
 
 impl fmt::Display for Count<'_> {
     fn fmt(&self, f: &mut fmt::Formatter<'_>) -> fmt::Result {
@@ -509,11 +434,6 @@ impl fmt::Display for Count<'_> {
         let ending = if *number == 1 { "" } else { "s" };
         write!(f, "{number} {thing}{ending}")
     }
-}
-
-/// So many bytes.
-pub(crate) const fn bytes_of(number: usize) -> Count<'static> {
-    Count(number as u64, "byte")
 }
 
 /// The auditor's question: did the console act on what the device did not say?
@@ -564,12 +484,11 @@ fn periods(lines: &mut Lines, bytes: usize, period: usize) -> fmt::Result {
     };
     match (whole, rest) {
         (0, 0) => lines.line(NAME, "0"),
-        (0, rest) => lines.line(NAME, format_args!("1: of {}", bytes_of(rest))),
-        (1, 0) => lines.line(NAME, format_args!("1: of {}", bytes_of(period))),
-        (whole, 0) => lines.line(NAME, format_args!("{whole}: each of {}", bytes_of(period))),
+        (0, rest) => lines.line(NAME, format_args!("1: of {rest} bytes")),
+        (whole, 0) => lines.line(NAME, format_args!("{whole}: each of {period} bytes")),
         (whole, rest) => lines.line(
             NAME,
-            format_args!("{}: {whole} of {}, the last of {rest}", whole + 1, bytes_of(period)),
+            format_args!("{}: {whole} of {period} bytes, the last of {rest}", whole + 1),
         ),
     }
 }
@@ -589,14 +508,17 @@ pub(crate) fn turns(lines: &mut Lines, turns: &Turns) -> fmt::Result {
 
 fn accepted(lines: &mut Lines, page: &Page) -> fmt::Result {
     let (part, all) = (&page.accepted, page.bytes);
-    let (bytes, of) = (part.bytes, bytes_of(all));
+    let bytes = part.bytes;
     let periods = Count(part.periods as u64, "period");
     let which = match part.same {
         Same::Run { from: 0 } if bytes == all => "the frames, byte for byte",
         Same::Run { from: 0 } => "the frames' first bytes, byte for byte",
-        same => return lines.line("accepted", format_args!("{bytes} of {of}, in {periods}: {same}")),
+        same => return lines.line("accepted", format_args!("{bytes} of {all} bytes, in {periods}: {same}")),
     };
-    lines.line("accepted", format_args!("{bytes} of {of}, in {periods}: {which}"))
+    lines.line(
+        "accepted",
+        format_args!("{bytes} of {all} bytes, in {periods}: {which}"),
+    )
 }
 
 impl fmt::Display for Same {
@@ -628,7 +550,7 @@ fn going_on(lines: &mut Lines, told: &GoingOn, indirect: bool) -> fmt::Result {
             format_args!("polled breakers {polled}; one was seen to open at poll {poll}"),
         )?,
     }
-    let places = if indirect { vsnd::PLACES_INDIRECT } else { vsnd::PLACES };
+    let places = if indirect { snd::PLACES_INDIRECT } else { snd::PLACES };
     lines.line(
         "pending",
         format_args!("at most {} of {places} places were taken at a time", told.most),
@@ -637,10 +559,7 @@ fn going_on(lines: &mut Lines, told: &GoingOn, indirect: bool) -> fmt::Result {
         0 => Ok(()),
         filled => lines.line(
             "filled",
-            format_args!(
-                "the last period, with {} of silence: what does not wait is a whole period",
-                bytes_of(filled)
-            ),
+            format_args!("the last period, with {filled} bytes of silence: what does not wait is a whole period"),
         ),
     }
 }
@@ -665,9 +584,8 @@ fn drained(lines: &mut Lines, drain: &Drain) -> fmt::Result {
     lines.line(
         "drained",
         format_args!(
-            "in {turns} of {allowed} allowed; {} more came back with ok meanwhile, in {periods}: {}",
-            bytes_of(part.bytes),
-            part.same
+            "in {turns} of {allowed} allowed; the device accepted {} bytes more meanwhile, in {periods}: {}",
+            part.bytes, part.same
         ),
     )
 }
@@ -691,8 +609,8 @@ fn broke_off(lines: &mut Lines, page: &Page) -> fmt::Result {
 mod tests {
     extern crate std;
     use super::Answered;
+    use snd::{Refusal, Status};
     use std::string::ToString;
-    use vsnd::{Refusal, Status};
 
     /// Ok, a refusal without a cause, and of 2 and 3 each cause: no two read the same.
     #[test]

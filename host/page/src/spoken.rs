@@ -1,6 +1,6 @@
-//! How much was spoken before it failed.
+//! The operator's question: how much was spoken before it failed?
 use crate::frames::second;
-use crate::page::{Count, Joined, Lines, Page, bytes_of};
+use crate::page::{Count, Joined, Lines, Page};
 use core::fmt;
 
 /// How many periods of this size so many bytes are; none of a period of no bytes.
@@ -45,7 +45,7 @@ impl Page<'_> {
 
     /// The part of a joined announcement that comes next after so many bytes, and its number, the first is 1. None where no byte is left, and of one that was
     /// not joined.
-    pub(crate) fn part_at(&self, bytes: usize) -> Option<(usize, &Joined<'_>)> {
+    fn part_at(&self, bytes: usize) -> Option<(usize, &Joined<'_>)> {
         let mut parts = (1..).zip(self.parts);
         parts.find(|(_number, part)| bytes < part.offset + part.bytes)
     }
@@ -59,22 +59,49 @@ pub(crate) fn spoken(lines: &mut Lines, page: &Page) -> fmt::Result {
     let (periods, of, bytes) = (spoken.periods, Count(spoken.of, "period"), spoken.bytes);
     lines.line(
         NAME,
-        format_args!("{periods} of {of}, {}, {:.6} seconds", bytes_of(bytes), spoken.seconds),
+        format_args!("{periods} of {of}, {bytes} bytes, {:.6} seconds", spoken.seconds),
     )?;
     if !spoken.same {
-        let (periods, bytes) = (
-            Count(page.accepted.periods as u64, "period"),
-            bytes_of(page.accepted.bytes),
-        );
-        lines.line(NAME, format_args!("NOT what the device accepted: {periods}, {bytes}"))?;
+        let (periods, bytes) = (Count(page.accepted.periods as u64, "period"), page.accepted.bytes);
+        lines.line(
+            NAME,
+            format_args!("NOT what the device accepted: {periods}, {bytes} bytes"),
+        )?;
     }
     if let Some((number, part)) = page.part_at(bytes) {
         let (whole, all, into) = (number - 1, page.parts.len(), bytes - part.offset);
-        let (name, bytes) = (part.name, bytes_of(part.bytes));
+        let Joined { name, bytes, .. } = part;
         lines.line(
             NAME,
-            format_args!("{whole} of {all} parts whole, then {into} of {bytes} of part {number}, {name}"),
+            format_args!("{whole} of {all} parts whole, then {into} of {bytes} bytes of part {number}, {name}"),
         )?;
     }
-    Ok(())
+    lines.line("operator", Screen { page, spoken })
+}
+
+/// The sentence on the operator's screen.
+struct Screen<'s> {
+    page: &'s Page<'s>,
+    spoken: Spoken,
+}
+
+impl fmt::Display for Screen<'_> {
+    fn fmt(&self, f: &mut fmt::Formatter<'_>) -> fmt::Result {
+        let Spoken { bytes, seconds, .. } = self.spoken;
+        let all = second(&self.page.params, self.page.bytes);
+        if bytes == 0 {
+            return f.write_str("nothing was spoken when it failed: repeat the announcement");
+        }
+        if bytes == self.page.bytes {
+            return write!(f, "all {all:.6} seconds were spoken; what failed came after");
+        }
+        write!(
+            f,
+            "the first {seconds:.6} of {all:.6} seconds were spoken when it failed"
+        )?;
+        if let Some((_number, part)) = self.page.part_at(bytes) {
+            write!(f, ", up to {}", part.name)?;
+        }
+        f.write_str(": repeat the announcement")
+    }
 }

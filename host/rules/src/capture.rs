@@ -30,13 +30,22 @@ impl<'a> Heard<'a> {
             _ => Heard::Completed { slot, written, bytes },
         }
     }
+
+    /// Fewer bytes are lent than the turn may have to read: those written, or those of a whole period where the device says that it wrote
+    /// more.
+    fn too_few(self, period: u64) -> bool {
+        match self {
+            Heard::Quiet => false,
+            Heard::Completed { written, bytes, .. } => {
+                (bytes.len() as u64) < u64::from(written).min(period.saturating_add(STATUS))
+            }
+        }
+    }
 }
 
 /// What a completion of the oldest brings: its payload, or "17 BadCapture for a written length under 8 or above period plus 8, then 2".
-/// Between the two the bytes are asked for, since they are read from there on: fewer lent than were written get 10.
 fn payload(period: u64, written: u32, bytes: &[u8]) -> Result<&[u8], Verdict> {
     let length = u64::from(written).checked_sub(STATUS).filter(|length| *length <= period).ok_or(BAD_CAPTURE)?;
-    let bytes = bytes.get(..written as usize).ok_or(BAD_LENGTH)?;
     let (payload, status) = bytes.split_at(length as usize);
     Status::read(u32_at(status, 0)).judged()?;
     Ok(payload)
@@ -63,16 +72,18 @@ impl Ring {
         }
     }
 
-    /// "Only the recording's first accepted bytes change." Too few bytes lent, which are missed in the midst of it, run no turn.
+    /// "Only the recording's first accepted bytes change."
     pub fn capture_turn(&mut self, recording: &mut [u8], heard: Heard) -> Turn {
+        if self.running && heard.too_few(self.period) {
+            return Turn::ended(BAD_LENGTH);
+        }
         if let Some(number) = self.bars(Way::Capture, recording.len() as u64) {
             return Turn::ended(number);
         }
         let Heard::Completed { slot, written, bytes } = heard else {
             return self.ruled(None, |_| Ok(()));
         };
-        let before = self.clone();
-        let said = self.ruled(Some(slot), |ring| {
+        self.ruled(Some(slot), |ring| {
             let rest = &mut recording[ring.kept as usize..];
             let payload = payload(ring.period, written, bytes)?;
             // all of it, in a ring that calls left; in any other as far as the recording goes
@@ -80,11 +91,7 @@ impl Ring {
             rest[..length].copy_from_slice(&payload[..length]);
             ring.kept += length as u64;
             Ok(())
-        });
-        if said == Turn::ended(BAD_LENGTH) {
-            *self = before;
-        }
-        said
+        })
     }
 }
 
@@ -100,7 +107,7 @@ impl Sound {
         message: &mut [u8],
     ) -> Say {
         let busy = self.busy_for_transfers(ring);
-        match self.transfer_checks(ring, Way::Capture, stream, [true, busy], message) {
+        match self.transfer_checks(ring, Way::Capture, stream, busy, message) {
             Ok(params) => ring.capture_start(stream, periods, params.period.into(), recording_len, budget).into(),
             Err(say) => say,
         }

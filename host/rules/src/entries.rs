@@ -1,5 +1,5 @@
 //! The C entries over the rules: the order of refusals, the lent stores and the result slice
-//! (host/include/vsnd.h says what each answers and writes).
+//! (host/include/snd.h says what each answers and writes).
 
 use crate::capture::Heard;
 use crate::event::{Event, latest_notification};
@@ -9,8 +9,6 @@ use crate::sound::{Call, Fed, Say, Sound, Value};
 use crate::trace::Fault;
 use crate::*;
 
-/// Of the archive, major, minor and patch with three digits each: `vsnd_version` answers it, and so does the entry that is named after it.
-pub const VERSION: u64 = 13_000;
 pub const STATE_SIZE: usize = 14703;
 pub const RING_SIZE: usize = 636;
 /// Where the reserved bytes of a state's store stand.
@@ -310,7 +308,7 @@ pub fn wav_read(file: &[u8], result: &mut [u8]) -> Answer {
     Ok(OK as u64)
 }
 
-pub fn wav_write(channels: u32, format: u32, rate: u32, frames: &[u8], file: &mut [u8]) -> Answer {
+pub fn wav_write(channels: u8, format: u8, rate: u8, frames: &[u8], file: &mut [u8]) -> Answer {
     wave::write(channels, format, rate, frames, file).map_err(|why| why.number() as u64)?;
     Ok(OK as u64)
 }

@@ -4,8 +4,7 @@
 //! over a stream's lifecycle; 2026-03, announcements from WAV; 2026-05, the device's status in 2 and 3;
 //! 2026-06, submissions that do not wait; 2026-08, VirtIO 1.3 beside 1.2; 2026-09, microphones;
 //! 2026-11, traces of transfers and their judge; 2026-12, two of them compared; 2026-13, what was heard before a failure;
-//! 2026-14, indirect descriptors. Then what no request says: the width of numbers at the C boundary, a ring of another mode than what is
-//! pending, and where a capture's bytes are asked for.
+//! 2026-14, indirect descriptors.
 //!
 //! Clarity before speed: tables are vectors, refusals are numbers.
 

@@ -8,22 +8,15 @@ use crate::wire::{self, u32_at, u64_at};
 use crate::*;
 use std::collections::BTreeMap;
 
-/// The values set for a stream. Each is as wide as it crosses: the last three are tested, and a byte each in the request.
+/// The values set for a stream.
 #[derive(Copy, Clone, Debug, PartialEq, Eq)]
 pub struct Params {
     pub buffer: u32,
     pub period: u32,
     pub features: u32,
-    pub channels: u32,
-    pub format: u32,
-    pub rate: u32,
-}
-
-impl Params {
-    /// Channels, format and rate as the request has them. Of numbers in range: nothing is cut.
-    pub fn small(&self) -> [u8; 3] {
-        [self.channels, self.format, self.rate].map(|number| number as u8)
-    }
+    pub channels: u8,
+    pub format: u8,
+    pub rate: u8,
 }
 
 #[derive(Copy, Clone, Debug, PartialEq, Eq)]
@@ -151,9 +144,8 @@ pub fn period_rule(p: &Params) -> bool {
     p.period != 0 && p.period <= p.buffer && p.buffer.is_multiple_of(p.period)
 }
 
-/// "Channels above 255 get 1 at set parameters, together with format and rate out of range"; channels 0 are sent.
 pub fn numbers_in_range(p: &Params) -> bool {
-    p.channels <= 255 && p.format <= 24 && p.rate <= 13
+    p.format <= 24 && p.rate <= 13
 }
 
 /// What the next thing to do is, before a byte of the message is written.
@@ -352,8 +344,7 @@ impl Sound {
             return refuse(BAD_STATE);
         }
         let mut request = wire::words(&[wire::SET_PARAMS, stream, p.buffer, p.period, p.features]);
-        request.extend(p.small());
-        request.push(0);
+        request.extend([p.channels, p.format, p.rate, 0]);
         Plan::Ask(request)
     }
 
@@ -434,21 +425,20 @@ impl Sound {
         }
     }
 
-    /// What a transfer of either way and a submission that does not wait test alike: stores that are consistent, and for a submission fit
-    /// together (`fits`), Busy, set-up, what bars the stream, parameters set. What is said where they fail, or those parameters.
+    /// What a transfer of either way and a submission that does not wait test alike: Busy, set-up, what bars the stream, parameters set.
+    /// What is said where they fail, or those parameters.
     pub(crate) fn transfer_checks(
         &mut self,
         ring: &Ring,
         way: Way,
         stream: u32,
-        [fits, busy]: [bool; 2],
+        busy: bool,
         message: &mut [u8],
     ) -> Result<Params, Say> {
         if message.len() < MESSAGE {
             return Err(Say::refused(BAD_LENGTH));
         }
-        let stores = self.consistent() && ring.consistent() && self.stream_consistent(stream);
-        if !stores || !fits {
+        if !self.consistent() || !ring.consistent() || !self.stream_consistent(stream) {
             return Err(Say::refused(INVALID_PARAM));
         }
         if busy {
@@ -480,7 +470,7 @@ impl Sound {
         message: &mut [u8],
     ) -> Say {
         let busy = self.busy_for_transfers(ring);
-        let params = match self.transfer_checks(ring, Way::Playback, stream, [true, busy], message) {
+        let params = match self.transfer_checks(ring, Way::Playback, stream, busy, message) {
             Ok(params) => params,
             Err(say) => return say,
         };

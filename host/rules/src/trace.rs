@@ -183,7 +183,7 @@ impl Sound {
         message: &mut [u8],
     ) -> Say {
         let busy = self.busy_for_transfers(ring);
-        match self.transfer_checks(ring, Way::Playback, stream, [true, busy], message) {
+        match self.transfer_checks(ring, Way::Playback, stream, busy, message) {
             Ok(params) => ring.start_traced(stream, frames_len, params.period.into(), budget, room).into(),
             Err(say) => say,
         }

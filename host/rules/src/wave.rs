@@ -195,12 +195,16 @@ pub fn file_length(frames: u64) -> u64 {
     HEADER + frames + frames % 2
 }
 
-/// Writes a file at the front of a slice, and tells its length. The three numbers are as wide as they cross: none is cut before it is tested.
-pub fn write(channels: u32, format: u32, rate: u32, frames: &[u8], file: &mut [u8]) -> Result<u64, Unwritten> {
+/// Writes a file at the front of a slice, and tells its length.
+pub fn write(channels: u8, format: u8, rate: u8, frames: &[u8], file: &mut [u8]) -> Result<u64, Unwritten> {
     let n = frames.len() as u64;
-    let format = FORMATS.into_iter().find(|known| u32::from(*known) == format).ok_or(Unwritten::Format)?;
+    if !FORMATS.contains(&format) {
+        return Err(Unwritten::Format);
+    }
     let hz = *RATES.get(rate as usize).ok_or(Unwritten::Rate)?;
-    let channels = u8::try_from(channels).ok().filter(|n| *n > 0).ok_or(Unwritten::Channels)?;
+    if channels == 0 {
+        return Err(Unwritten::Channels);
+    }
     let block = block(channels, format);
     if !n.is_multiple_of(block) {
         return Err(Unwritten::NotWholeBlocks);

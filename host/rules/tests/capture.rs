@@ -1,8 +1,8 @@
-//! Request 2026-09, "Microphones".
+//! Request 2026-09, "Microphones": each test names the rulings on it by their numbers.
 use rules::capture::Heard;
 use rules::entries::{self, Asked, RESULT_SIZE, RING_SIZE, STATE_SIZE, Store, number};
-use rules::pending::Token;
-use rules::ring::{Mode, Reading, Ring, Turn};
+use rules::pending::{Token, WAITS};
+use rules::ring::{Reading, Ring, Turn};
 use rules::sound::{Awaits, Call, Fed, Params, Say, Sound, Value};
 use rules::status::Verdict;
 use rules::wire::{self, STATUS_OK, u64_at};
@@ -99,7 +99,7 @@ fn caused(status: u32) -> Turn {
 }
 
 #[test]
-fn accepted_payloads_are_joined_in_the_recording() {
+fn rulings_1_and_9_payloads_are_joined() {
     let mut desk = Desk::running();
     for seed in 0..3 {
         let offer = desk.ring.capture_offered(20).unwrap().unwrap();
@@ -115,7 +115,7 @@ fn accepted_payloads_are_joined_in_the_recording() {
 }
 
 #[test]
-fn a_written_length_from_8_to_a_period_and_8_is_good_and_any_other_is_17() {
+fn ruling_8_written_lengths() {
     for (written, good) in [(0, false), (7, false), (8, true), (9, true), (WHOLE - 1, true), (WHOLE, true)] {
         let bytes = wrote(PERIOD as usize, 3, STATUS_OK);
         let mut bytes = bytes[..6.min(written.saturating_sub(8) as usize)].to_vec();
@@ -132,73 +132,44 @@ fn a_written_length_from_8_to_a_period_and_8_is_good_and_any_other_is_17() {
 }
 
 #[test]
-fn a_device_that_claims_more_than_its_buffer_is_refused_with_17_whatever_is_lent() {
+fn rulings_6_and_7_a_device_that_claims_more_than_its_buffer() {
     for written in [WHOLE + 1, WHOLE + 2, 1 << 31, u32::MAX] {
-        for lent in [0, 7, WHOLE - 1, WHOLE, WHOLE + 1, 40] {
+        // a whole buffer is all that a host can lend; with more of it nothing else is said
+        for lent in [WHOLE, WHOLE + 1, 40] {
             let (mut desk, bytes) = (Desk::running(), vec![1; lent as usize]);
             let said = desk.turn(Heard::Completed { slot: 0, written, bytes: &bytes });
             assert_eq!(said, Turn::ended(BAD_CAPTURE));
             assert!(desk.holds(&[]));
-            assert_eq!((desk.ring.turns, desk.ring.in_flight, desk.ring.running), (1, 0, false));
         }
+        let (mut desk, bytes) = (Desk::running(), vec![1; WHOLE as usize - 1]);
+        let before = desk.clone();
+        assert_eq!(desk.turn(Heard::Completed { slot: 0, written, bytes: &bytes }), Turn::ended(BAD_LENGTH));
+        assert_eq!(desk, before);
     }
 }
 
 #[test]
-fn fewer_bytes_lent_than_a_good_length_get_10_and_run_no_turn() {
+fn ruling_7_fewer_bytes_than_were_written_run_no_turn() {
     let bytes = wrote(6, 1, STATUS_OK);
-    for written in 0..=WHOLE + 2 {
+    for written in 1..=WHOLE {
         for lent in 0..=WHOLE {
-            for slot in [0, 1, 5, 32] {
-                let mut desk = Desk::running();
-                let before = desk.clone();
+            let mut desk = Desk::running();
+            let before = desk.clone();
+            // also for a slot that is none
+            for slot in [0, 5] {
                 let said = desk.turn(Heard::Completed { slot, written, bytes: &bytes[..lent as usize] });
-                let asked = slot == 0 && (8..=WHOLE).contains(&written);
-                assert_eq!(said == Turn::ended(BAD_LENGTH), asked && lent < written, "{slot} {written} {lent}");
-                assert_eq!(desk == before, asked && lent < written, "{slot} {written} {lent}");
-                // all others run the turn, and none of them is told by what is lent
-                if !asked {
-                    let number = if slot == 0 { BAD_CAPTURE } else { WRONG_TOKEN };
-                    assert_eq!((said, desk.ring.turns), (Turn::ended(number), 1), "{slot} {written} {lent}");
-                }
+                assert_eq!(said == Turn::ended(BAD_LENGTH), lent < written);
+                assert_eq!(desk == before, lent < written);
+                desk = before.clone();
             }
         }
     }
+    // nothing written: nothing need be lent
+    assert_eq!(Desk::running().turn(heard(0, &[])), Turn::ended(BAD_CAPTURE));
 }
 
 #[test]
-fn a_turn_refused_for_its_bytes_is_run_again_with_all_of_them() {
-    let bytes = wrote(6, 1, STATUS_OK);
-    // the last turn of a budget too, and with others in flight
-    for (quiet, budget) in [(0, 1), (0, 9), (1, 2), (2, 9)] {
-        let mut desk = Desk { budget, ..Desk::good() };
-        assert_eq!(desk.start(), Say::Going);
-        (0..quiet).for_each(|_| assert_eq!(desk.turn(Heard::Quiet), Turn::Going));
-        let (before, offer) = (desk.clone(), desk.ring.capture_offered(20));
-        for lent in [0, 8, 13] {
-            let few = Heard::Completed { slot: 0, written: WHOLE, bytes: &bytes[..lent] };
-            assert_eq!((desk.turn(few), &desk), (Turn::ended(BAD_LENGTH), &before));
-            assert_eq!(desk.ring.capture_offered(20), offer, "what it would have submitted is offered again");
-        }
-        let said = if quiet + 1 == budget { Turn::ended(OUT_OF_TURNS) } else { Turn::Going };
-        assert_eq!((desk.turn(heard(0, &bytes)), desk.ring.turns), (said, quiet + 1));
-        assert!(desk.holds(&[16, 17, 18, 19, 20, 21]));
-    }
-}
-
-#[test]
-fn a_turn_that_does_not_look_asks_for_no_bytes() {
-    let few = Heard::Completed { slot: 0, written: WHOLE, bytes: &[] };
-    // no period remains and nothing is in flight
-    let mut desk = Desk { periods: 0, ..Desk::good() };
-    assert_eq!((desk.start(), desk.turn(few)), (Say::Going, Turn::ended(OK)));
-    let mut desk = Desk { periods: 1, ..Desk::good() };
-    assert_eq!((desk.start(), desk.turn(heard(0, &wrote(6, 0, STATUS_OK)))), (Say::Going, Turn::Going));
-    assert_eq!(desk.turn(Heard::Completed { slot: 1, written: WHOLE, bytes: &[] }), Turn::ended(OK));
-}
-
-#[test]
-fn the_status_stands_behind_what_was_written() {
+fn ruling_6_the_status_stands_behind_what_was_written() {
     // a short payload; the bytes where the status of a whole one would stand say ok, those at the front too
     let mut bytes = wire::words(&[STATUS_OK]);
     bytes.extend(wire::words(&[0x8003, 0]));
@@ -215,7 +186,7 @@ fn the_status_stands_behind_what_was_written() {
 }
 
 #[test]
-fn short_payloads_leave_no_gap_in_the_recording() {
+fn ruling_9_short_payloads_leave_no_gap() {
     let mut desk = Desk::running();
     for (seed, length) in [(0, 2), (1, 0), (2, 6)] {
         assert_eq!(desk.turn(heard(seed.into(), &wrote(length, seed, STATUS_OK))), Turn::Going);
@@ -225,7 +196,7 @@ fn short_payloads_leave_no_gap_in_the_recording() {
 }
 
 #[test]
-fn a_bad_status_accepts_nothing_and_frees_the_slot() {
+fn ruling_8_a_bad_status_accepts_nothing_and_frees_the_slot() {
     for status in [0x8001, 0x8002, 0x8003, 0, 0x7fff, u32::MAX, 0x0001_8000] {
         let mut desk = Desk::running();
         assert_eq!(desk.turn(Heard::Quiet), Turn::Going);
@@ -238,27 +209,18 @@ fn a_bad_status_accepts_nothing_and_frees_the_slot() {
 }
 
 #[test]
-fn a_completion_is_told_by_its_slot_then_its_length_then_the_bytes_lent_then_its_status() {
+fn ruling_8_six_comes_before_17_and_17_before_2() {
     let short = wrote(0, 0, 0x8003);
-    for (slot, written, lent, said) in [
-        (5, 7, 0, Turn::ended(WRONG_TOKEN)),
-        (5, 8, 7, Turn::ended(WRONG_TOKEN)),
-        (32, 8, 8, Turn::ended(WRONG_TOKEN)),
-        (u32::MAX, u32::MAX, 0, Turn::ended(WRONG_TOKEN)),
-        (0, 7, 6, Turn::ended(BAD_CAPTURE)),
-        (0, 7, 7, Turn::ended(BAD_CAPTURE)),
-        (0, WHOLE + 1, 8, Turn::ended(BAD_CAPTURE)),
-        (0, 8, 7, Turn::ended(BAD_LENGTH)),
-        (0, 8, 8, caused(0x8003)),
+    for (slot, written, said) in [
+        (5, 7, Turn::ended(WRONG_TOKEN)),
+        (0, 7, Turn::ended(BAD_CAPTURE)),
+        (0, 8, caused(0x8003)),
+        (32, 8, Turn::ended(WRONG_TOKEN)),
+        (u32::MAX, 8, Turn::ended(WRONG_TOKEN)),
     ] {
         let mut desk = Desk::running();
-        let before = desk.clone();
-        assert_eq!(desk.turn(Heard::Completed { slot, written, bytes: &short[..lent] }), said);
+        assert_eq!(desk.turn(Heard::Completed { slot, written, bytes: &short[..written as usize] }), said);
         assert!(desk.holds(&[]));
-        if said == Turn::ended(BAD_LENGTH) {
-            assert_eq!(desk, before, "it runs no turn");
-            continue;
-        }
         // a wrong token frees nothing
         let owed = u64::from(said == Turn::ended(WRONG_TOKEN));
         assert_eq!((desk.ring.running, desk.ring.in_flight, desk.ring.turns), (false, owed, 1));
@@ -269,7 +231,7 @@ fn a_completion_is_told_by_its_slot_then_its_length_then_the_bytes_lent_then_its
 }
 
 #[test]
-fn a_capture_ends_with_ok_or_out_of_turns_as_a_playback_does() {
+fn ruling_11_ok_quiet_and_out_of_turns_are_playbacks() {
     // no period at all: Ok on turn 1
     let mut desk = Desk { periods: 0, recording: vec![], ..Desk::good() };
     assert_eq!((desk.start(), desk.turn(Heard::Quiet)), (Say::Going, Turn::ended(OK)));
@@ -288,7 +250,7 @@ fn a_capture_ends_with_ok_or_out_of_turns_as_a_playback_does() {
 
 /// A capture moves the ring as the playback of as many bytes does, whatever was written, if it is good.
 #[test]
-fn a_capture_moves_the_ring_as_a_playback_of_as_many_bytes_does() {
+fn ruling_12_the_same_turns_as_a_playback() {
     for script in 0..3u32.pow(7) {
         let mut desk = Desk { periods: 4, recording: vec![FILL; 24], budget: 7, ..Desk::good() };
         let mut playback = Ring::default();
@@ -318,7 +280,7 @@ fn a_capture_moves_the_ring_as_a_playback_of_as_many_bytes_does() {
 }
 
 #[test]
-fn a_recording_shorter_than_its_periods_is_refused_at_the_start() {
+fn ruling_2_recordings_around_n_periods() {
     for periods in [0u64, 1, 2, 3, 17] {
         let need = periods * PERIOD;
         for length in [need, need + 1, need + 50] {
@@ -341,7 +303,7 @@ fn a_recording_shorter_than_its_periods_is_refused_at_the_start() {
 
 /// Each fault in the order of the tests, alone and with each that comes later: its number is said, and nothing changes.
 #[test]
-fn each_refusal_of_a_capture_start_comes_before_the_next() {
+fn ruling_2_the_order_of_refusals() {
     type Fault = (u8, fn(&mut Desk));
     let faults: [Fault; 13] = [
         (BAD_LENGTH, |desk| desk.message.truncate(23)),
@@ -350,7 +312,7 @@ fn each_refusal_of_a_capture_start_comes_before_the_next() {
         (INVALID_PARAM, |desk| desk.ring.kept = 1),
         (INVALID_PARAM, |desk| _ = desk.sound.params.insert(1, Params { period: 5, ..PARAMS })),
         (BUSY, |desk| (desk.ring.head, desk.ring.in_flight) = (1, 1)),
-        (BUSY, |desk| desk.sound.pending.tokens[4] = Token::submitted(Mode::Direct)),
+        (BUSY, |desk| desk.sound.pending.tokens[4] = Token { state: WAITS, status: 0 }),
         (INVALID_PARAM, |desk| desk.stream = 3),
         (BAD_STATE, |desk| desk.sound.lives[1] = life::SET),
         (INVALID_PARAM, |desk| desk.sound.tables[1][1][wire::DIRECTION] = 0),
@@ -372,7 +334,7 @@ fn each_refusal_of_a_capture_start_comes_before_the_next() {
 }
 
 #[test]
-fn only_a_stream_of_direction_1_is_captured() {
+fn ruling_2_directions() {
     for direction in 0..=255 {
         let mut desk = Desk::good();
         desk.sound.tables[1][1][wire::DIRECTION] = direction;
@@ -385,7 +347,7 @@ fn only_a_stream_of_direction_1_is_captured() {
 }
 
 #[test]
-fn an_exchange_that_is_open_and_slots_that_are_owed_are_busy() {
+fn ruling_2_an_exchange_that_is_open_and_slots_that_are_owed_are_busy() {
     let mut desk = Desk::good();
     desk.sound.open = Some((Awaits::Own, Call::Command { code: wire::STOP, stream: 1 }));
     assert_eq!(desk.start(), Say::refused(BUSY));
@@ -404,7 +366,7 @@ fn an_exchange_that_is_open_and_slots_that_are_owed_are_busy() {
 }
 
 #[test]
-fn a_capture_that_begins_set_up_never_runs() {
+fn ruling_3_a_capture_that_begins_set_up_never_runs() {
     for guard in [false, true] {
         let barred = if guard { Say::refused(BAD_STATE) } else { Say::refused(IO_ERROR) };
         let other = if guard { Say::refused(BAD_STATE) } else { Say::refused(INVALID_PARAM) };
@@ -434,7 +396,7 @@ fn a_capture_that_begins_set_up_never_runs() {
 }
 
 #[test]
-fn a_turn_of_the_other_way_is_refused_with_1() {
+fn ruling_10_the_other_way() {
     // a playback's turn on a ring that runs a capture, by the length lent at the start: 20 of which 18 are asked for
     let mut desk = Desk::running();
     let before = desk.clone();
@@ -453,9 +415,9 @@ fn a_turn_of_the_other_way_is_refused_with_1() {
         let mut recording = vec![FILL; length];
         assert_eq!(ring.capture_turn(&mut recording, Heard::Quiet), Turn::ended(number));
         assert_eq!(ring.capture_turn(&mut recording, heard(0, &wrote(3, 1, STATUS_OK))), Turn::ended(number));
-        // no bytes are asked for there
+        // the bytes lent are asked for there too
         let few = Heard::Completed { slot: 0, written: 9, bytes: &[] };
-        assert_eq!(ring.capture_turn(&mut recording, few), Turn::ended(number));
+        assert_eq!(ring.capture_turn(&mut recording, few), Turn::ended(BAD_LENGTH));
         assert_eq!(ring.capture_offered(length as u64), Err(number));
         assert!(recording.iter().all(|byte| *byte == FILL));
     }
@@ -463,7 +425,7 @@ fn a_turn_of_the_other_way_is_refused_with_1() {
 }
 
 #[test]
-fn where_no_capture_runs_a_turn_is_1_whatever_is_lent() {
+fn ruling_7_where_nothing_runs_it_is_1_whatever_is_lent() {
     let mut desk = Desk::running();
     assert_eq!(desk.turn(heard(9, &[])), Turn::ended(WRONG_TOKEN));
     for ring in [Ring::default(), desk.ring] {
@@ -478,7 +440,7 @@ fn where_no_capture_runs_a_turn_is_1_whatever_is_lent() {
 }
 
 #[test]
-fn each_turn_is_lent_a_recording_as_long_as_at_the_start() {
+fn ruling_7_the_recording_is_as_long_as_at_the_start() {
     let desk = Desk::running();
     for length in [0, 17, 18, 19, 21] {
         let (mut ring, mut recording) = (desk.ring.clone(), vec![FILL; length]);
@@ -490,17 +452,14 @@ fn each_turn_is_lent_a_recording_as_long_as_at_the_start() {
     let mut desk = Desk::running();
     desk.ring.kept = 21;
     assert_eq!(desk.ring.capture_turn(&mut [], Heard::Quiet), Turn::ended(BAD_LENGTH));
-    for written in [1, 9] {
-        let few = Heard::Completed { slot: 0, written, bytes: &[] };
-        assert_eq!(desk.turn(few), Turn::ended(INVALID_PARAM), "its bytes are not asked for");
-    }
+    assert_eq!(desk.turn(Heard::Completed { slot: 0, written: 1, bytes: &[] }), Turn::ended(BAD_LENGTH));
     assert_eq!(desk.turn(Heard::Quiet), Turn::ended(INVALID_PARAM));
     assert_eq!(desk.ring.capture_offered(20), Err(INVALID_PARAM));
     assert_eq!(desk.ring.drain_turn(Reading::Quiet), INVALID_PARAM);
 }
 
 #[test]
-fn drain_turns_free_what_a_capture_owes_after_2_6_9_and_17() {
+fn ruling_11_drains_after_2_6_9_and_17() {
     let bad = wrote(2, 1, 0x8003);
     let ends: [(&[u8], u32, u64); 3] = [(&bad, 0, 2), (&[], 0, 2), (&bad, 3, 3)];
     for (bytes, slot, owed) in ends {

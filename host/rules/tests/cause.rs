@@ -1,4 +1,4 @@
-//! Request 2026-05, "Name the device's refusal".
+//! Request 2026-05, "Name the device's refusal": each test names the rulings on it by their numbers.
 use rules::entries::{self, RESULT_SIZE, RING_SIZE, STATE_SIZE, Store, number};
 use rules::ring::{Reading, Ring, Turn};
 use rules::sound::{Call, Fed, Params, Say, Sound, Value};
@@ -40,7 +40,7 @@ fn ready(counts: [u32; 3]) -> Sound {
 }
 
 #[test]
-fn the_status_reader_names_each_known_word_and_keeps_an_unknown_one() {
+fn rulings_1_and_2_the_status_reader() {
     let known =
         [(0x8000, Status::Ok), (0x8001, Status::BadMessage), (0x8002, Status::NotSupported), (0x8003, Status::IoError)];
     for (word, status) in known {
@@ -58,7 +58,7 @@ fn the_status_reader_names_each_known_word_and_keeps_an_unknown_one() {
 }
 
 #[test]
-fn a_refused_control_request_hands_its_status_on() {
+fn ruling_3_a_control_request_hands_its_word_on() {
     for word in WORDS {
         let before = ready([1, 1, 1]);
         let calls =
@@ -66,7 +66,7 @@ fn a_refused_control_request_hands_its_status_on() {
         for call in calls.into_iter().chain([set(0)]) {
             let mut sound = before.clone();
             assert_eq!(says(&mut sound, call, &[word]), Say::refused_by(2, word));
-            // and nothing else is another
+            // 6: and nothing else is another
             assert_eq!(sound, before);
         }
         // the query of streams, whatever waits for it
@@ -83,7 +83,7 @@ fn a_refused_control_request_hands_its_status_on() {
 }
 
 #[test]
-fn a_turn_that_fails_hands_its_status_on() {
+fn ruling_3_a_turn_hands_its_status_on() {
     for status in WORDS {
         let mut ring = Ring::default();
         assert_eq!(ring.start(0, 8, 4, 9), Turn::Going);
@@ -93,13 +93,13 @@ fn a_turn_that_fails_hands_its_status_on() {
         let mut ring = Ring::default();
         ring.start(0, 8, 4, 9);
         assert_eq!(ring.turn(8, Reading::Completed { slot: 1, status }), Turn::ended(6));
-        // drain turns ignore it
+        // 5: drain turns ignore it
         assert_eq!(ring.drain_turn(Reading::Completed { slot: 0, status }), 0);
     }
 }
 
 #[test]
-fn missing_parameters_and_unknown_events_carry_no_status() {
+fn ruling_3_no_parameters_and_no_event_are_caused_by_none() {
     let mut message = [0; 24];
     assert_eq!(ready([1, 1, 1]).xfer_start(&mut Ring::default(), 0, 8, 9, &mut message), Say::refused(2));
     // a transfer that waited for set-up, also where the tables before and after were refused
@@ -119,7 +119,7 @@ fn missing_parameters_and_unknown_events_carry_no_status() {
 }
 
 #[test]
-fn unsupported_carries_the_devices_status_or_none_where_the_jack_lacks_remap() {
+fn ruling_4_the_two_ways_to_3() {
     for word in WORDS {
         assert_eq!(says(&mut ready([1, 1, 1]), REMAP, &[word]), Say::refused_by(3, word));
     }
@@ -130,7 +130,7 @@ fn unsupported_carries_the_devices_status_or_none_where_the_jack_lacks_remap() {
 }
 
 #[test]
-fn the_statuses_of_jacks_and_maps_are_not_handed_on() {
+fn ruling_5_what_is_not_handed_on() {
     let strict = |sound: &mut Sound, call: Call, status: u32, written: u64| {
         let mut message = [0; 24];
         assert!(matches!(sound.call(&Ring::default(), call, &mut message), Say::Send(_)));
@@ -157,7 +157,7 @@ fn the_statuses_of_jacks_and_maps_are_not_handed_on() {
 }
 
 #[test]
-fn only_2_and_3_have_a_status_in_the_high_half() {
+fn ruling_7_the_high_half() {
     for number in 0..=20 {
         let high = if matches!(number, 2 | 3) { 0x8000 } else { 0u64 };
         assert_eq!(Verdict::from(number).answer(), high << 32 | u64::from(number));
@@ -208,7 +208,7 @@ impl Entered {
 }
 
 #[test]
-fn the_entries_answer_2_and_3_with_their_status() {
+fn ruling_7_at_the_entries() {
     for word in WORDS {
         let of = |number: u64| u64::from(word) << 32 | number;
         let mut at = Entered::new(ready([1, 1, 1]));

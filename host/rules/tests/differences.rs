@@ -1,4 +1,4 @@
-//! Request 2026-12, "Compare two traces".
+//! Request 2026-12, "Compare two traces": each test names the rulings on it by their numbers.
 use rules::differences::{
     Difference::{self, OnlyFirst, OnlySecond, Other},
     ENTRY, Refused, applied, compare, differences, printed,
@@ -32,7 +32,7 @@ fn announcements() -> [Vec<u8>; 2] {
 }
 
 #[test]
-fn the_example_of_two_announcements_is_printed_whole() {
+fn ruling_7_the_whole_example() {
     let [whole, failed] = announcements();
     assert_eq!((judge(&whole), judge(&failed)), (Ok(()), Ok(())));
     let expected = "\
@@ -53,7 +53,7 @@ differences 5
 }
 
 #[test]
-fn a_difference_is_written_as_an_entry_of_its_numbers() {
+fn ruling_4_an_entry_in_bytes() {
     let difference = Other { at: 0x0102, first: submitted(3, 0x0403_0201, 5), second: submitted(4, 6, 0x0807_0605) };
     #[rustfmt::skip]
     let expected = [
@@ -90,7 +90,7 @@ fn short_traces() -> Vec<Vec<Field>> {
 
 /// "An empty list exactly when the bytes are equal, and applying the list to the first gives the second."
 #[test]
-fn the_list_of_any_two_short_traces_is_empty_when_they_are_equal_and_makes_the_second_of_the_first() {
+fn rulings_2_3_and_6_every_pair_of_short_traces() {
     let all = short_traces();
     for first in &all {
         for second in all.iter().step_by(3) {
@@ -108,7 +108,7 @@ fn the_list_of_any_two_short_traces_is_empty_when_they_are_equal_and_makes_the_s
 }
 
 #[test]
-fn other_tags_at_one_position_are_one_only_in_each() {
+fn ruling_3_kinds() {
     let (a, b) = (bytes(&[start(5), end(0)]), bytes(&[start(6), submitted(0, 0, 4), end(0)]));
     let expected = vec![
         Other { at: 0, first: start(5), second: start(6) },
@@ -122,7 +122,7 @@ fn other_tags_at_one_position_are_one_only_in_each() {
 }
 
 #[test]
-fn the_first_trace_is_judged_before_the_second() {
+fn ruling_1_which_is_judged_first() {
     let good = bytes(&[start(0), end(0)]);
     let bad = |at| Fault { number: BAD_TRACE, at };
     for (first, second, refused) in [
@@ -140,7 +140,7 @@ fn the_first_trace_is_judged_before_the_second() {
 }
 
 #[test]
-fn the_list_is_full_exactly_when_the_differences_outnumber_the_room() {
+fn ruling_5_full_exactly_when_they_outnumber_the_room() {
     let [whole, failed] = announcements();
     for (first, second, count) in [(&whole, &failed, 5), (&failed, &whole, 5), (&whole, &whole, 0)] {
         for length in 0..=6 * ENTRY {

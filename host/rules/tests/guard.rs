@@ -1,4 +1,4 @@
-//! Request 2026-02, "PCM lifecycle".
+//! Request 2026-02, "PCM lifecycle": each test names the rulings on it by their numbers.
 use rules::life::{self, permits, takes_transfers};
 use rules::ring::Ring;
 use rules::sound::{Awaits, Call, Fed, Params, Say, Sound, Value};
@@ -76,7 +76,7 @@ const WAYS: [&[u32]; 5] = [
 ];
 
 #[test]
-fn the_lifecycle_table_permits_just_the_commands_of_the_standard() {
+fn rulings_3_and_4_the_table() {
     // set, prepare, release, start, stop: a line a state
     let table = [[1, 1, 0, 0, 0], [1, 1, 1, 1, 0], [1, 1, 0, 0, 0], [0, 0, 0, 0, 1], [0, 0, 1, 1, 0]];
     for (life, line) in (0..).zip(table) {
@@ -84,12 +84,12 @@ fn the_lifecycle_table_permits_just_the_commands_of_the_standard() {
         assert_eq!(takes_transfers(life), matches!(life, 1 | 3));
     }
     assert_eq!(COMMANDS.map(life::after), [0, 1, 2, 3, 4]);
-    // what is no state permits nothing
+    // 15: what is no state permits nothing
     assert!((5..=255).all(|life| !takes_transfers(life) && COMMANDS.iter().all(|code| !permits(life, *code))));
 }
 
 #[test]
-fn a_stream_moves_only_by_a_command_that_is_permitted_and_answered_ok() {
+fn rulings_2_3_5_and_11_each_state_and_each_command() {
     for (life, way) in (0..).zip(WAYS) {
         let desk = Desk::ready(true).ok(way, 1);
         assert_eq!((desk.sound.lives[0], desk.sound.lives[1]), (0, life));
@@ -97,7 +97,7 @@ fn a_stream_moves_only_by_a_command_that_is_permitted_and_answered_ok() {
             let mut tried = desk.clone();
             if !permits(life, code) {
                 assert_eq!(tried.call(command(code, 1), &[]), Say::refused(12));
-                // nothing is written and nothing changes
+                // 10: nothing is written and nothing changes
                 assert_eq!(tried, desk);
                 continue;
             }
@@ -120,13 +120,13 @@ fn a_stream_moves_only_by_a_command_that_is_permitted_and_answered_ok() {
         let mut played = desk.clone();
         let said = if takes_transfers(life) { Say::Going } else { Say::refused(12) };
         assert_eq!(played.transfer(1), said);
-        // a transfer does not move the state
+        // 13: a transfer does not move the state
         assert_eq!(played.sound, desk.sound);
     }
 }
 
 #[test]
-fn a_bad_state_is_told_right_after_the_stream_range() {
+fn rulings_5_and_6_the_order_of_refusals() {
     let mut desk = Desk::ready(true).ok(WAYS[3], 0);
     for code in COMMANDS {
         assert_eq!(desk.call(command(code, 2), &[]), Say::refused(1), "the range comes first");
@@ -144,22 +144,22 @@ fn a_bad_state_is_told_right_after_the_stream_range() {
 }
 
 #[test]
-fn a_transfer_is_taken_of_a_prepared_or_started_stream_only() {
+fn rulings_7_8_and_12_transfers() {
     let mut desk = Desk::ready(true);
     assert_eq!(desk.transfer(2), Say::refused(1));
     assert_eq!(desk.transfer(0), Say::refused(12));
-    // prepare straight away, though no parameters are known
+    // 8: prepare straight away, though no parameters are known
     assert_eq!(desk.call(command(wire::PREPARE, 0), &[STATUS_OK]), DONE);
     assert_eq!(desk.transfer(0), Say::refused(2));
     assert_eq!(desk.call(command(wire::SET_PARAMS, 0), &[STATUS_OK]), DONE);
     assert_eq!(desk.transfer(0), Say::refused(12), "a prepared stream must be prepared again");
-    // release keeps the parameters
+    // 12: release keeps the parameters
     let mut desk = desk.ok(&[wire::PREPARE, wire::RELEASE, wire::PREPARE], 0);
     assert_eq!(desk.transfer(0), Say::Going);
 }
 
 #[test]
-fn a_call_that_the_guard_bars_at_a_feed_leaves_set_up_done() {
+fn rulings_1_9_and_10_set_up() {
     // 12 at the third feed; set-up stays done
     let mut desk = Desk::new(true);
     assert_eq!(desk.call(command(wire::START, 0), &[STATUS_OK; 3]), Say::refused(12));
@@ -178,7 +178,7 @@ fn a_call_that_the_guard_bars_at_a_feed_leaves_set_up_done() {
 }
 
 #[test]
-fn without_the_guard_no_stream_state_is_looked_at_or_moved() {
+fn ruling_14_no_guard_no_lives() {
     let mut desk = Desk::ready(false);
     desk.sound.lives = [200; 127];
     for code in COMMANDS.into_iter().rev() {
@@ -189,7 +189,7 @@ fn without_the_guard_no_stream_state_is_looked_at_or_moved() {
 }
 
 #[test]
-fn a_stream_state_that_is_none_permits_nothing() {
+fn ruling_15_a_life_above_4_permits_nothing() {
     let desk = Desk::ready(true).ok(WAYS[1], 0);
     for life in 5..=255 {
         let mut desk = desk.clone();
@@ -204,7 +204,7 @@ fn a_stream_state_that_is_none_permits_nothing() {
 }
 
 #[test]
-fn a_command_that_is_out_is_in_range_under_the_guard() {
+fn ruling_16_a_command_that_is_out_is_in_range_under_the_guard() {
     let mut desk = Desk::ready(false);
     assert!(matches!(desk.call(command(wire::START, 2), &[]), Say::Send(8)));
     assert!(matches!(desk.sound.open, Some((Awaits::Own, _))));

@@ -1,7 +1,7 @@
-//! Request 2026-14, "Indirect descriptors".
+//! Request 2026-14, "Indirect descriptors": each test names the rulings on it by their numbers.
 use rules::capture::Heard;
 use rules::entries::{Asked, RESULT_SIZE, RING_SIZE, Store, number, ring_read};
-use rules::pending::{FREE, MARKED, PLACES, PLACES_INDIRECT, TOKENS, Token, WAITS, places_of};
+use rules::pending::{FREE, PLACES, PLACES_INDIRECT, TOKENS, Token, WAITS, places_of};
 use rules::ring::{Mode, Reading, Ring, Turn};
 use rules::sound::{Call, Fed, Params, Say, Sound, Value};
 use rules::trace::{Fault, Field, bytes, judge_in, judge_of};
@@ -29,7 +29,7 @@ fn read(ring: &Ring, asked: Asked) -> (u64, u64) {
 }
 
 #[test]
-fn a_ring_of_another_mode_than_three_or_one_is_inconsistent() {
+fn rulings_1_and_10_a_mode_is_three_or_one() {
     assert_eq!((Ring::new(Mode::Direct), Ring::default().per), (Ring::default(), 3));
     assert_eq!(Ring::new(Mode::Indirect).per, 1);
     for per in [0, 1, 2, 3, 4, 32, u64::MAX] {
@@ -45,7 +45,7 @@ fn a_ring_of_another_mode_than_three_or_one_is_inconsistent() {
 
 /// Periods of one byte, nothing comes back: how many go out, and where head and tail are.
 #[test]
-fn ten_periods_go_out_in_direct_mode_and_thirty_two_in_indirect_mode() {
+fn rulings_2_to_5_quiet() {
     for mode in Mode::ALL {
         for n in [0, 1, 9, 10, 11, 31, 32, 33, 40] {
             let mut ring = Ring::new(mode);
@@ -71,7 +71,7 @@ fn ten_periods_go_out_in_direct_mode_and_thirty_two_in_indirect_mode() {
 
 /// "Head equals tail when empty and when full": full and no period left, rule 1 does nothing and rule 2 judges.
 #[test]
-fn a_full_ring_whose_head_is_its_tail_is_not_taken_for_an_empty_one() {
+fn ruling_4_full_is_not_done() {
     let mut ring = Ring::new(Mode::Indirect);
     assert_eq!(ring.start(0, 32, 1, 99), Turn::Going);
     for _ in 0..40 {
@@ -98,7 +98,7 @@ fn a_full_ring_whose_head_is_its_tail_is_not_taken_for_an_empty_one() {
 
 /// Demand 3 in each mode: n periods, one completion among any g turns, Ok no later than turn n times g plus 1, and all of it in order.
 #[test]
-fn in_each_mode_a_transfer_ends_with_ok_in_time_and_in_order() {
+fn rulings_2_and_3_demand_3() {
     for mode in Mode::ALL {
         for n in [0, 1, 2, 9, 10, 11, 31, 32, 33, 64, 70] {
             for g in 1..=5 {
@@ -134,7 +134,7 @@ fn in_each_mode_a_transfer_ends_with_ok_in_time_and_in_order() {
 }
 
 #[test]
-fn more_in_flight_than_the_descriptors_hold_is_inconsistent() {
+fn ruling_3_more_than_fit_is_inconsistent() {
     for (mode, held, said) in
         [(Mode::Direct, 10, 0), (Mode::Direct, 11, 1), (Mode::Indirect, 32, 0), (Mode::Indirect, 33, 1)]
     {
@@ -148,7 +148,7 @@ fn more_in_flight_than_the_descriptors_hold_is_inconsistent() {
 
 /// Started, traced, captured, drained, refused: the mode stays.
 #[test]
-fn every_call_keeps_the_mode_of_its_ring() {
+fn rulings_8_and_9_every_call_keeps_the_mode() {
     for mode in Mode::ALL {
         let mut ring = Ring::new(mode);
         let kept = |ring: &Ring| ring.per == mode.per() && ring.consistent();
@@ -200,7 +200,7 @@ fn submit(sound: &mut Sound, ring: &Ring, places: &mut [u8]) -> Say {
 }
 
 #[test]
-fn there_are_16_places_in_direct_mode_and_32_in_indirect_mode() {
+fn ruling_6_places_of_each_mode() {
     assert_eq!(Mode::ALL.map(places_of), [PLACES, PLACES_INDIRECT]);
     assert_eq!((PLACES, PLACES_INDIRECT), (16, TOKENS));
     for mode in Mode::ALL {
@@ -229,156 +229,23 @@ fn there_are_16_places_in_direct_mode_and_32_in_indirect_mode() {
         // 10 before 15
         let mut sound = set();
         assert_eq!(submit(&mut sound, &ring, &mut vec![0; 6 * count - 1]), Say::refused(BAD_LENGTH));
-        sound.pending.tokens[..count].fill(Token::submitted(mode));
+        sound.pending.tokens[..count].fill(Token { state: WAITS, status: 0 });
         assert_eq!(submit(&mut sound, &ring, &mut vec![0; 6 * count - 1]), Say::refused(BAD_LENGTH));
         assert_eq!(submit(&mut sound, &ring, &mut vec![0; 6 * count]), Say::refused(FULL));
     }
 }
 
-/// "Told by the ring that a submission is handed": as many are taken in both modes, and one has places left.
+/// "Told by the ring that a submission is handed": one state and two rings, which a host should not have.
 #[test]
-fn the_ring_of_a_submission_tells_how_many_places_there_are() {
-    let mut places = vec![0; 6 * 32];
-    for (mode, said) in [(Mode::Direct, Say::refused(FULL)), (Mode::Indirect, Say::Done(Value::Token(16)))] {
-        let mut sound = set();
-        sound.pending.tokens[..16].fill(Token::submitted(mode));
-        assert_eq!(submit(&mut sound, &Ring::new(mode), &mut places), said);
-    }
-}
-
-fn other(mode: Mode) -> Mode {
-    if mode == Mode::Direct { Mode::Indirect } else { Mode::Direct }
-}
-
-/// What a submission and every start say with a ring of this mode. What is refused changes nothing.
-fn four(sound: &Sound, mode: Mode) -> [Say; 4] {
-    type Entry = fn(&mut Sound, &mut Ring, &mut [u8]) -> Say;
-    let calls: [Entry; 4] = [
-        |sound, ring, places| submit(sound, ring, places),
-        |sound, ring, _| sound.xfer_start(ring, 0, 2, 5, &mut [0; 24]),
-        |sound, ring, _| sound.xfer_start_traced(ring, 0, 2, 5, 39, &mut [0; 24]),
-        |sound, ring, _| sound.capture_start(ring, 0, 1, 2, 5, &mut [0; 24]),
-    ];
-    calls.map(|call| {
-        let (mut tried, mut ring, mut places) = (sound.clone(), Ring::new(mode), vec![0xee; 6 * 32]);
-        let say = call(&mut tried, &mut ring, &mut places);
-        if let Say::Refused(_) = say {
-            assert_eq!((&tried, ring, places), (sound, Ring::new(mode), vec![0xee; 6 * 32]));
-        }
-        say
-    })
-}
-
-/// The state of `set`, whose stream is an input too.
-fn input() -> Sound {
-    let mut sound = set();
-    sound.tables[1][0][wire::DIRECTION] = wire::INPUT;
-    sound
-}
-
-fn taken() -> [Say; 4] {
-    [Say::Done(Value::Token(0)), Say::Going, Say::Going, Say::Going]
-}
-
-#[test]
-fn while_a_token_is_pending_a_ring_of_the_other_mode_is_refused_with_1() {
-    for mode in Mode::ALL {
-        for status in [STATUS_OK, 0x8003] {
-            let (mut sound, mut places) = (input(), vec![0; 6 * 32]);
-            assert_eq!([four(&sound, mode), four(&sound, other(mode))], [taken(), taken()]);
-            assert_eq!(submit(&mut sound, &Ring::new(mode), &mut places), Say::Done(Value::Token(0)));
-            // a marked one is pending until it is finished
-            for marked in [false, true] {
-                assert_eq!(sound.pcm_xfer_mark(Reading::from_words(marked.into(), 0, status)), OK);
-                // "A blocking transfer while any is pending is Busy", with a ring of either mode
-                let busy = [Say::refused(INVALID_PARAM), Say::refused(BUSY), Say::refused(BUSY), Say::refused(BUSY)];
-                assert_eq!(four(&sound, other(mode)), busy);
-                let same = [Say::Done(Value::Token(1)), Say::refused(BUSY), Say::refused(BUSY), Say::refused(BUSY)];
-                assert_eq!(four(&sound, mode), same);
-            }
-            // 2 frees too: with nothing pending any mode is taken
-            assert_eq!(sound.pcm_xfer_ok(0).number, if status == STATUS_OK { OK } else { rules::IO_ERROR });
-            assert_eq!([four(&sound, mode), four(&sound, other(mode))], [taken(), taken()]);
-        }
-    }
-}
-
-#[test]
-fn every_pending_token_has_a_say_and_no_free_one_has() {
-    for at in 0..TOKENS {
-        for (state, mode) in [(WAITS, 3), (MARKED, 3), (3, 1), (u16::MAX, 1), (WAITS, 1)] {
-            let mut sound = input();
-            sound.pending.tokens[at] = Token { state, mode, status: STATUS_OK };
-            for ring in Mode::ALL {
-                let refused = four(&sound, ring).map(|say| say == Say::refused(INVALID_PARAM));
-                assert_eq!(refused, [ring.per() != mode.into(), false, false, false], "token {at} of {mode}");
-            }
-        }
-        for mode in [0, 1, 2, 3, 0x0103, u16::MAX] {
-            let mut sound = input();
-            sound.pending.tokens[at] = Token { state: FREE, mode, status: 7 };
-            assert!(Mode::ALL.iter().all(|ring| four(&sound, *ring)[1] == Say::Going), "a free token of {mode}");
-        }
-    }
-}
-
-/// No call leaves such tokens: of both modes, or of a mode that is none.
-#[test]
-fn tokens_of_both_modes_or_of_none_fit_no_ring() {
-    let of = |mode| Token { state: WAITS, mode, status: 0 };
-    for (first, second) in [(1, 3), (3, 1), (0, 0), (2, 2), (3, 0), (0x0103, 0x0103), (u16::MAX, 1)] {
-        let mut sound = input();
-        (sound.pending.tokens[0], sound.pending.tokens[31]) = (of(first), of(second));
-        for mode in Mode::ALL {
-            let said = [Say::refused(INVALID_PARAM), Say::refused(BUSY), Say::refused(BUSY), Say::refused(BUSY)];
-            assert_eq!(four(&sound, mode), said, "{first} {second}");
-        }
-        // they are told, marked and finished like any other
-        assert_eq!((sound.pending_count(), sound.pending_token(31)), (Ok(2), Ok((1, 0))));
-        for token in [0, 31] {
-            assert_eq!((sound.pcm_xfer_mark(completed(token)), sound.pcm_xfer_ok(token as u32).number), (OK, OK));
-        }
-        assert!(Mode::ALL.iter().all(|mode| four(&sound, *mode) == taken()));
-    }
-}
-
-#[test]
-fn a_mark_keeps_the_mode_that_a_submission_remembers() {
-    for mode in Mode::ALL {
-        let (mut sound, mut places) = (set(), vec![0; 6 * 32]);
-        assert_eq!(submit(&mut sound, &Ring::new(mode), &mut places), Say::Done(Value::Token(0)));
-        assert_eq!(sound.pending.tokens[0], Token { state: WAITS, mode: mode.per() as u16, status: 0 });
-        assert_eq!(sound.pcm_xfer_mark(Reading::Completed { slot: 0, status: 0x8002 }), OK);
-        assert_eq!(sound.pending.tokens[0], Token { state: MARKED, mode: mode.per() as u16, status: 0x8002 });
-    }
-}
-
-#[test]
-fn a_ring_of_the_other_mode_comes_after_lengths_and_before_busy_and_set_up() {
-    let mut sound = set();
-    sound.pending.tokens[3] = Token::submitted(Mode::Direct);
-    let ring = Ring::new(Mode::Indirect);
-    let nb = |sound: &Sound, ring: &Ring, message: usize| {
-        sound.clone().pcm_xfer_nb(ring, 0, b"ab", &mut [0; 6 * 32], &mut vec![0; message])
-    };
-    let start = |sound: &Sound, ring: &Ring, message: usize| {
-        sound.clone().xfer_start(&mut ring.clone(), 0, 2, 5, &mut vec![0; message])
-    };
-    let mut running = ring.clone();
-    assert_eq!(running.start(0, 4, 2, 1), Turn::Going);
-    let mut owed = running.clone();
-    assert_eq!(owed.turn(4, Reading::Quiet), Turn::ended(OUT_OF_TURNS));
-    let mut open = sound.clone();
-    let stop = Call::Command { code: wire::STOP, stream: 0 };
-    assert_eq!(open.call(&ring, stop, &mut [0; 24]), Say::Send(8), "no control call asks for the mode");
-    let mut new = Sound::new([0, 1, 0]);
-    new.pending.tokens[3] = Token::submitted(Mode::Direct);
-    for (sound, ring) in [(&sound, &ring), (&sound, &running), (&sound, &owed), (&open, &ring), (&new, &ring)] {
-        assert_eq!([nb(sound, ring, 23), start(sound, ring, 23)], [Say::refused(BAD_LENGTH), Say::refused(BAD_LENGTH)]);
-        assert_eq!([nb(sound, ring, 24), start(sound, ring, 24)], [Say::refused(INVALID_PARAM), Say::refused(BUSY)]);
-    }
-    // a place that is too short comes later, as all of a submission's own
-    assert_eq!(submit(&mut sound, &ring, &mut []), Say::refused(INVALID_PARAM));
+fn ruling_6_the_ring_tells_it() {
+    let (mut sound, mut places) = (set(), vec![0; 6 * 32]);
+    sound.pending.tokens[..16].fill(Token { state: WAITS, status: 0 });
+    assert_eq!(submit(&mut sound.clone(), &Ring::default(), &mut places), Say::refused(FULL));
+    assert_eq!(submit(&mut sound, &Ring::new(Mode::Indirect), &mut places), Say::Done(Value::Token(16)));
+    sound.pending.tokens[..16].fill(Token { state: FREE, status: 0 });
+    assert_eq!(submit(&mut sound, &Ring::default(), &mut places), Say::Done(Value::Token(0)));
+    // whatever mode gave it out, a token is marked and finished alike
+    assert_eq!((sound.pcm_xfer_mark(completed(16)), sound.pcm_xfer_ok(16).number), (OK, OK));
 }
 
 fn not_a_run(at: usize) -> Result<(), Fault> {
@@ -393,7 +260,7 @@ fn burst(count: u8) -> Vec<Field> {
 }
 
 #[test]
-fn the_judge_takes_the_mode_from_its_caller() {
+fn ruling_7_the_judge() {
     for mode in Mode::ALL {
         let most = most(mode) as u8;
         let per = mode.per() as u32;
@@ -420,7 +287,7 @@ fn the_judge_takes_the_mode_from_its_caller() {
 /// What a ring of a mode writes is accepted in it. A direct run is an indirect one too: where it waited for room, the completion may have come in
 /// the turn of the last submission. An indirect one that had more than ten out is no direct one.
 #[test]
-fn what_a_ring_writes_is_accepted_in_its_own_mode() {
+fn ruling_7_what_the_turns_write() {
     for mode in Mode::ALL {
         for (n, quiet) in [(0, 0), (5, 3), (10, 20), (11, 10), (11, 12), (33, 31), (33, 32), (40, 33), (70, 40)] {
             let (mut ring, mut room) = (Ring::new(mode), vec![0; 19 + 20 * n as usize]);

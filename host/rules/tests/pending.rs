@@ -1,8 +1,8 @@
-//! Request 2026-06, "Start an announcement and go on".
+//! Request 2026-06, "Start an announcement and go on": each test names the rulings on it by their numbers.
 use rules::entries::{self, RESULT_SIZE, RING_SIZE, STATE_SIZE, Store, number};
 use rules::life;
 use rules::pending::{FREE, MARKED, PLACES, Pending, TOKENS, Token, WAITS};
-use rules::ring::{Mode, Reading, Ring, Turn};
+use rules::ring::{Reading, Ring, Turn};
 use rules::sound::{Awaits, Call, Fed, Params, Say, Sound, Value};
 use rules::status::Verdict;
 use rules::wire::{self, STATUS_OK};
@@ -15,10 +15,8 @@ const PLACE: usize = PERIOD + 4;
 const STORE: usize = PLACES * PLACE;
 const FILL: u8 = 0xb7;
 
-/// One that was submitted with a direct ring, as the desk's is; of a free one the mode plays no part.
-fn token(state: u16, status: u32) -> Token {
-    let mode = if state == FREE { 0 } else { 3 };
-    Token { state, mode, status }
+fn token(state: u32, status: u32) -> Token {
+    Token { state, status }
 }
 
 fn page(status: u32) -> Vec<u8> {
@@ -93,8 +91,8 @@ type Fault = (&'static str, fn(&mut Desk), u64);
 const NO_PARAMS: u64 = 0x8000_0000_0002;
 const SET_UP: u64 = 256 + 16;
 
-/// What bars a call: the lengths, the stores' consistency, a ring of another mode than what is pending, an exchange, a ring in use.
-const FIRST: [Fault; 13] = [
+/// What bars a call: the lengths, the stores' consistency, an exchange, a ring in use.
+const FIRST: [Fault; 12] = [
     ("state store", |d| d.state_len -= 1, 10),
     ("ring store", |d| d.ring_len -= 1, 10),
     ("message", |d| d.message.truncate(23), 10),
@@ -103,7 +101,6 @@ const FIRST: [Fault; 13] = [
     ("ring", |d| d.ring.kept = 9, 1),
     ("format", |d| own_params(d, Params { format: 25, ..PARAMS }), 1),
     ("period", |d| own_params(d, Params { buffer: 13, ..PARAMS }), 1),
-    ("other mode", |d| d.tokens()[5] = Token::submitted(Mode::Indirect), 1),
     ("exchange open", exchange, 8),
     ("transfer runs", |d| assert_eq!(d.ring.start(0, 8, 4, 9), Turn::Going), 8),
     ("slot owed", owes, 8),
@@ -185,18 +182,18 @@ fn ordered(faults: &[Fault], enter: fn(&mut Desk) -> u64) -> usize {
 }
 
 #[test]
-fn each_refusal_of_a_submission_comes_before_the_next() {
+fn ruling_7_the_order_of_a_submission() {
     let faults = [&FIRST[..], &STREAM, &OWN].concat();
-    assert_eq!(faults.len(), 19);
-    // 19 alone, 171 pairs, of which eight do not go together
-    assert_eq!(ordered(&faults, Desk::enter), 19 + 171 - 8);
+    assert_eq!(faults.len(), 18);
+    // 18 alone, 153 pairs, of which eight do not go together
+    assert_eq!(ordered(&faults, Desk::enter), 18 + 153 - 8);
     let mut desk = Desk::good();
     assert_eq!(desk.enter(), 0);
     assert_eq!((&desk.result[..8], &desk.result[8..]), (&[0; 8][..], &[FILL; RESULT_SIZE - 8][..]));
 }
 
 #[test]
-fn a_submission_by_value_has_the_same_order() {
+fn ruling_7_the_same_by_value() {
     let by_value = |desk: &mut Desk| match desk.submit() {
         Say::Refused(why) => why.answer(),
         Say::Send(n) => 256 + n as u64,
@@ -208,11 +205,11 @@ fn a_submission_by_value_has_the_same_order() {
         .into_iter()
         .filter(|f| !f.0.contains("store") && f.0 != "result")
         .collect();
-    assert_eq!(ordered(&faults, by_value), 16 + 120 - 8);
+    assert_eq!(ordered(&faults, by_value), 15 + 105 - 8);
 }
 
 #[test]
-fn a_transfer_start_is_busy_by_what_is_pending_before_set_up_and_all_that_follows() {
+fn ruling_10_the_order_of_a_transfers_start() {
     fn start(desk: &mut Desk) -> u64 {
         let state = Store { len: desk.state_len, value: Some(&mut desk.sound) };
         let ring = Store { len: desk.ring_len, value: Some(&mut desk.ring) };
@@ -222,8 +219,8 @@ fn a_transfer_start_is_busy_by_what_is_pending_before_set_up_and_all_that_follow
         ("one waits", |d| d.tokens()[3] = token(WAITS, 0), 8),
         ("one is marked", |d| d.tokens()[15] = token(MARKED, STATUS_OK), 8),
     ];
-    // it has no result slice; what is pending is Busy, of whatever mode, before set-up and all that follows
-    let first: Vec<Fault> = FIRST.into_iter().filter(|fault| !["result", "other mode"].contains(&fault.0)).collect();
+    // it has no result slice; what is pending is Busy, before set-up and all that follows
+    let first: Vec<Fault> = FIRST.into_iter().filter(|fault| fault.0 != "result").collect();
     let faults = [&first[..10], &pending, &first[10..], &STREAM].concat();
     assert_eq!(ordered(&faults, start), 16 + 120 - 8);
     assert_eq!(start(&mut Desk::good()), 9);
@@ -231,9 +228,9 @@ fn a_transfer_start_is_busy_by_what_is_pending_before_set_up_and_all_that_follow
 }
 
 #[test]
-fn any_token_of_the_table_that_is_pending_bars_a_transfer() {
+fn ruling_10_any_token_of_the_table_bars_a_transfer() {
     for at in 0..TOKENS {
-        for state in [WAITS, MARKED, 3, u16::MAX] {
+        for state in [WAITS, MARKED, 3, u32::MAX] {
             let mut desk = Desk::good();
             desk.tokens()[at] = token(state, STATUS_OK);
             let before = desk.clone();
@@ -247,7 +244,7 @@ fn any_token_of_the_table_that_is_pending_bars_a_transfer() {
 }
 
 #[test]
-fn a_submission_copies_stream_and_period_into_the_lowest_free_place() {
+fn rulings_4_5_and_6_what_is_copied() {
     for more in [0, 1, 15, 16, 40] {
         let mut desk = Desk::good();
         desk.places = vec![FILL; STORE + more];
@@ -261,7 +258,7 @@ fn a_submission_copies_stream_and_period_into_the_lowest_free_place() {
             assert_eq!(desk.message, [FILL; 24]);
             assert_eq!(desk.sound.pending.count(), k + 1);
         }
-        // Full, exactly if 16 are pending
+        // 15: exactly if 16 are pending
         assert_eq!(desk.submit(), Say::refused(15));
         // the lowest free
         for k in [9, 4, 12] {
@@ -278,7 +275,7 @@ fn a_submission_copies_stream_and_period_into_the_lowest_free_place() {
 }
 
 #[test]
-fn a_store_whose_places_are_too_short_is_refused_with_10() {
+fn ruling_4_stores_that_have_no_place() {
     for length in (0..STORE).step_by(7).chain([15, STORE - 1]) {
         let mut desk = Desk::good();
         desk.places = vec![FILL; length];
@@ -292,7 +289,7 @@ fn a_store_whose_places_are_too_short_is_refused_with_10() {
 }
 
 #[test]
-fn tokens_past_the_places_count_as_pending_and_are_never_taken() {
+fn rulings_3_and_15_tokens_past_the_places() {
     // no call leaves them taken; they count as pending, and no submission takes them
     let mut desk = Desk::good();
     desk.tokens()[PLACES..].fill(token(WAITS, 0));
@@ -308,7 +305,7 @@ fn tokens_past_the_places_count_as_pending_and_are_never_taken() {
 }
 
 #[test]
-fn what_is_pending_bars_no_submission_and_no_control_call() {
+fn rulings_8_and_11_what_is_pending_bars_no_submission_and_no_control_call() {
     let mut desk = Desk::good();
     assert_eq!(desk.submit(), Say::Done(Value::Token(0)));
     let places = desk.places.clone();
@@ -316,13 +313,13 @@ fn what_is_pending_bars_no_submission_and_no_control_call() {
     for call in [set, Call::Command { code: wire::START, stream: 1 }] {
         assert!(matches!(desk.sound.call(&desk.ring, call, &mut desk.message), Say::Send(_)));
         let pending = desk.sound.pending;
-        // an exchange that is open does
+        // 8: an exchange does
         assert_eq!(desk.submit(), Say::refused(8));
         assert_eq!(desk.sound.feed(Fed::Page(&page(STATUS_OK)), &mut desk.message), DONE);
         assert_eq!(desk.sound.pending, pending);
     }
     assert_eq!((desk.submit(), desk.submit()), (Say::Done(Value::Token(1)), Say::Done(Value::Token(2))));
-    // new parameters are for the next submission, what is pending keeps its bytes
+    // 11: new parameters are for the next submission, what is pending keeps its bytes
     desk.sound.params.insert(1, Params { period: 4, ..PARAMS });
     assert_eq!(desk.submit(), Say::refused(1));
     desk.payload.truncate(4);
@@ -331,7 +328,7 @@ fn what_is_pending_bars_no_submission_and_no_control_call() {
 }
 
 #[test]
-fn a_submission_that_begins_set_up_ends_at_a_feed() {
+fn ruling_9_a_submission_that_begins_set_up_ends_at_a_feed() {
     let ends: [(&[u32], u32, bool, Say); 6] = [
         (&[STATUS_OK; 3], 1, false, Say::refused(2)),
         (&[0x8001, STATUS_OK, 0x8001], 1, false, Say::refused(2)),
@@ -357,7 +354,7 @@ fn a_submission_that_begins_set_up_ends_at_a_feed() {
 }
 
 #[test]
-fn a_submission_asks_for_the_stream_state_under_the_guard_and_for_no_direction() {
+fn ruling_19_the_guard_and_the_direction() {
     for (life, taken) in
         [(life::SET, false), (1, true), (life::RELEASED, false), (life::STARTED, true), (4, false), (5, false)]
     {
@@ -389,7 +386,7 @@ fn table() -> Desk {
 }
 
 #[test]
-fn a_completion_marks_a_token_that_waits_and_is_6_for_any_other() {
+fn ruling_13_marks() {
     for status in [STATUS_OK, 0x8001, 0, u32::MAX] {
         // pending and not marked yet: Ok whatever the status is
         let mut desk = table();
@@ -406,7 +403,7 @@ fn a_completion_marks_a_token_that_waits_and_is_6_for_any_other() {
 }
 
 #[test]
-fn a_finish_takes_marked_tokens_in_any_order_and_frees_them() {
+fn ruling_14_finishes() {
     let mut desk = table();
     let before = desk.sound.clone();
     for (number, said) in [(0, 16), (1, 16), (4, 6), (15, 6), (16, 6), (31, 6), (32, 6), (99, 6), (u32::MAX, 6)] {
@@ -425,8 +422,8 @@ fn a_finish_takes_marked_tokens_in_any_order_and_frees_them() {
 }
 
 #[test]
-fn any_state_above_waiting_is_a_marked_token() {
-    for state in [2, 3, 256, u16::MAX] {
+fn ruling_3_any_other_number_is_marked() {
+    for state in [2, 3, 256, u32::MAX] {
         let mut desk = Desk::good();
         desk.tokens()[5] = token(state, 0x8003);
         assert_eq!(desk.sound.pending_token(5), Ok((2, 0x8003)));
@@ -451,7 +448,7 @@ fn four(sound: &mut Sound, state_len: usize, result_len: usize, token: u32) -> [
 }
 
 #[test]
-fn mark_finish_and_the_reads_test_lengths_then_the_state_then_the_token() {
+fn ruling_12_the_order_at_the_entries() {
     let numbers = |sound: &mut Sound, state: usize, result: usize, token: u32| {
         four(sound, state, result, token).map(|(answer, _)| answer)
     };
@@ -487,7 +484,7 @@ fn mark_finish_and_the_reads_test_lengths_then_the_state_then_the_token() {
 }
 
 #[test]
-fn mark_and_finish_need_no_set_up_and_are_never_busy() {
+fn ruling_12_no_set_up_and_never_busy() {
     let mut sound = Sound::new([1, 2, 1]);
     assert_eq!((sound.pcm_xfer_mark(completed(0, STATUS_OK)), sound.pcm_xfer_ok(0)), (6, 6.into()));
     assert_eq!((sound.pending_count(), sound.pending_token(0)), (Ok(0), Ok((0, 0))));
@@ -524,11 +521,11 @@ fn the_two_reads() {
 fn the_store_ends_with_the_tokens() {
     assert_eq!((entries::TOKENS, STATE_SIZE), (14447, 14447 + 32 * 8));
     let mut desk = table();
-    desk.tokens()[31] = Token { state: 0x0201, mode: 0x0403, status: 0x0807_0605 };
+    desk.tokens()[31] = token(0x0403_0201, 0x0807_0605);
     let bytes = desk.sound.pending.bytes();
     assert_eq!(
         (bytes.len(), &bytes[24..32], &bytes[248..]),
-        (256, &[2, 0, 3, 0, 2, 0x80, 0, 0][..], &[1, 2, 3, 4, 5, 6, 7, 8][..])
+        (256, &[2, 0, 0, 0, 2, 0x80, 0, 0][..], &[1, 2, 3, 4, 5, 6, 7, 8][..])
     );
     assert_eq!(Pending::read(&bytes), desk.sound.pending);
     assert_eq!(Sound::new_guarded([9, 9, 9]).pending.bytes(), [0; 256]);

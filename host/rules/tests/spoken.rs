@@ -1,4 +1,4 @@
-//! Request 2026-13, "What was heard before a failure".
+//! Request 2026-13, "What was heard before a failure": each test names the rulings on it by their numbers.
 use rules::capture::Heard;
 use rules::entries::{Asked, RESULT_SIZE, RING_SIZE, Store, number, ring_read};
 use rules::ring::{Reading, Ring, Turn};
@@ -83,7 +83,7 @@ fn held(ring: &Ring, log: &Log, frames_len: u64, answer: u8) {
 
 /// Every script of seven turns, of frames around three periods, with small budgets.
 #[test]
-fn after_every_short_script_the_accepted_the_failing_and_the_owed_periods_follow_each_other() {
+fn rulings_1_2_5_and_8_every_short_script() {
     let kinds = [Told::Quiet, Told::Good, Told::Bad, Told::Wrong];
     let mut ends = std::collections::BTreeMap::<u8, u32>::new();
     for number in 0..kinds.len().pow(7) {
@@ -108,7 +108,7 @@ fn after_every_short_script_the_accepted_the_failing_and_the_owed_periods_follow
 
 /// The ring is full, and comes round: 40 periods, each place of a failure, each depth.
 #[test]
-fn they_follow_each_other_too_in_a_full_ring_whose_slots_come_round() {
+fn ruling_5_ten_in_flight_and_slots_that_come_round() {
     for quiet in [0, 1, 5, 9, 10, 11] {
         for good in 0..=40 {
             for (last, answer) in [(Told::Bad, IO_ERROR), (Told::Wrong, WRONG_TOKEN), (Told::Quiet, OUT_OF_TURNS)] {
@@ -144,7 +144,7 @@ fn failed() -> Ring {
 }
 
 #[test]
-fn drain_turns_and_refused_starts_keep_the_count_of_good_completions() {
+fn rulings_2_and_4_drains_and_refused_starts_keep_it() {
     let mut ring = failed();
     assert_eq!((ring.accepted(), ring.in_flight), (1, 1));
     // Busy, and a drain turn of a wrong slot, a quiet one, and the right one with any status
@@ -172,7 +172,7 @@ fn read(ring: &Ring) -> (u64, u64) {
 }
 
 #[test]
-fn the_count_of_good_completions_is_read_from_the_ring() {
+fn ruling_3_the_read() {
     let mut ring = Ring::default();
     assert_eq!(read(&ring), (0, 0));
     assert_eq!(ring.start(0, 10, PERIOD, 9), Turn::Going);
@@ -192,7 +192,7 @@ fn the_count_of_good_completions_is_read_from_the_ring() {
 }
 
 #[test]
-fn more_good_completions_than_turns_are_inconsistent() {
+fn ruling_7_more_good_ones_than_turns_is_inconsistent() {
     let mut ring = Ring::default();
     assert_eq!(ring.start(0, 10, PERIOD, 9), Turn::Going);
     assert_eq!(ring.turn(10, Reading::Quiet), Turn::Going);
@@ -206,7 +206,7 @@ fn more_good_completions_than_turns_are_inconsistent() {
 }
 
 #[test]
-fn a_bad_length_of_a_capture_counts_as_the_failing_period() {
+fn ruling_6_captures() {
     let mut recording = [0; 12];
     let wrote = |length: usize, status: u32| [vec![7; length], wire::words(&[status, 0])].concat();
     for (status, written, answer) in [(0x8003, 12, IO_ERROR), (STATUS_OK, 7, BAD_CAPTURE), (STATUS_OK, 13, BAD_CAPTURE)]

@@ -1,4 +1,4 @@
-//! Request 2026-11, "Judge a foreign trace". Judged are all short runs, each byte of
+//! Request 2026-11, "Judge a foreign trace": each test names the rulings on it by their numbers. Judged are all short runs, each byte of
 //! them changed, each cut, each field doubled, taken away, exchanged and put in: against all runs of that start, written by the turns.
 use rules::ring::{Reading, Ring, Turn};
 use rules::sound::{Call, Fed, Params, Say, Sound, Value};
@@ -173,7 +173,7 @@ fn changed(trace: &[u8]) -> Vec<Vec<u8>> {
 }
 
 #[test]
-fn of_short_runs_and_all_their_changes_the_judge_accepts_just_the_runs() {
+fn rulings_12_to_17_every_short_run_and_its_changes() {
     let (mut known, mut accepted, mut refused) = (Runs::default(), 0, BTreeSet::new());
     for of in [(STREAM, 0, 4), (0, 3, 4), (1, 4, 4), (STREAM, 7, 4), (2, 8, 4)] {
         let statuses = BTreeSet::from([STATUS_OK, 0x8003]);
@@ -193,7 +193,7 @@ fn of_short_runs_and_all_their_changes_the_judge_accepts_just_the_runs() {
 }
 
 #[test]
-fn of_three_and_four_periods_the_judge_accepts_just_the_runs() {
+fn rulings_12_to_17_three_and_four_periods() {
     let (mut known, statuses) = (Runs::default(), BTreeSet::from([STATUS_OK]));
     for of in [(5, 10, 4), (5, 13, 4)] {
         for (at, run) in runs(of, &statuses).iter().enumerate() {
@@ -206,7 +206,7 @@ fn of_three_and_four_periods_the_judge_accepts_just_the_runs() {
 }
 
 #[test]
-fn a_whole_run_is_written_as_these_bytes() {
+fn ruling_1_a_whole_run_in_bytes() {
     // 10 bytes, period 4, a right completion every turn
     let mut desk = Desk::started((1, 10, 4), 9);
     for slot in 0..3 {
@@ -227,7 +227,7 @@ fn a_whole_run_is_written_as_these_bytes() {
 
 /// "What may follow what", with the ring full: after the tenth that is not completed no other goes out.
 #[test]
-fn with_ten_in_flight_no_run_submits_before_a_completion() {
+fn ruling_13_no_more_than_ten_in_flight() {
     let of = (0, 12, 1);
     let mut fields = vec![start(of)];
     fields.extend((0..10).map(|slot| submitted(slot, slot.into(), 1)));
@@ -256,7 +256,7 @@ fn with_ten_in_flight_no_run_submits_before_a_completion() {
 }
 
 #[test]
-fn where_no_period_remains_only_completions_and_the_fitting_end_follow() {
+fn ruling_13_where_no_period_remains() {
     let head = bytes(&[start((0, 2, 1)), submitted(0, 0, 1), submitted(1, 1, 1)]);
     let says = |fields: &[Field]| judge(&[head.clone(), bytes(fields)].concat());
     let at = head.len();
@@ -279,7 +279,7 @@ fn where_no_period_remains_only_completions_and_the_fitting_end_follow() {
 }
 
 #[test]
-fn after_the_start_comes_the_first_submission_or_the_end_of_empty_frames() {
+fn ruling_13_after_the_start() {
     for (length, next, expected) in [
         (0, end(0), Ok(())),
         (0, end(9), not_a_run(18)),
@@ -296,7 +296,7 @@ fn after_the_start_comes_the_first_submission_or_the_end_of_empty_frames() {
 }
 
 #[test]
-fn not_a_run_tells_the_first_byte_through_which_no_run_agrees() {
+fn ruling_17_offsets() {
     let trace = bytes(&[start((1, 10, 4)), submitted(0, 0, 4), good(0), end(9)]);
     let says = |at: usize, byte: u8| {
         let mut trace = trace.clone();
@@ -322,7 +322,7 @@ fn not_a_run_tells_the_first_byte_through_which_no_run_agrees() {
 }
 
 #[test]
-fn an_unknown_tag_a_wrong_length_or_a_cut_field_is_no_trace() {
+fn rulings_15_and_16_what_is_no_trace() {
     assert_eq!(judge(&[]), bad_trace(0));
     let run = bytes(&[start((1, 10, 4)), submitted(0, 0, 4), good(0), end(9)]);
     let starts = [0, 15, 27, 35];
@@ -351,7 +351,7 @@ fn an_unknown_tag_a_wrong_length_or_a_cut_field_is_no_trace() {
 }
 
 #[test]
-fn a_run_of_very_many_periods_is_judged_by_what_is_written_of_it() {
+fn ruling_14_long_ones() {
     // one byte a period, nearly 2^32 of them: only what is written costs
     let of = (9, u32::MAX, 1);
     let mut fields = vec![start(of)];
@@ -367,7 +367,7 @@ fn a_run_of_very_many_periods_is_judged_by_what_is_written_of_it() {
 }
 
 #[test]
-fn the_judge_refuses_a_mode_that_is_none() {
+fn ruling_18_the_mode() {
     let run = bytes(&[start((1, 0, 4)), end(0)]);
     assert_eq!(judge_in(3, &run), Ok(()));
     for mode in [0, 2, 4, u32::MAX] {
@@ -376,7 +376,7 @@ fn the_judge_refuses_a_mode_that_is_none() {
 }
 
 #[test]
-fn each_turn_writes_its_submission_then_its_completion_then_the_end() {
+fn rulings_3_to_6_what_each_turn_writes() {
     // a turn that submits and hears a wrong token
     let mut desk = Desk::started((7, 8, 4), 9);
     assert_eq!(desk.trace(), []);
@@ -401,7 +401,7 @@ fn each_turn_writes_its_submission_then_its_completion_then_the_end() {
 }
 
 #[test]
-fn the_room_holds_every_field_and_is_as_long_at_each_turn_as_at_the_start() {
+fn rulings_9_and_10_rooms() {
     for (length, period, n) in
         [(0u64, 4u64, 0u64), (1, 4, 1), (4, 4, 1), (5, 4, 2), (u32::MAX.into(), 1, u32::MAX.into())]
     {
@@ -442,7 +442,7 @@ fn the_room_holds_every_field_and_is_as_long_at_each_turn_as_at_the_start() {
 }
 
 #[test]
-fn the_room_is_the_last_test_of_a_traced_start() {
+fn ruling_9_the_start_in_its_order() {
     let mut message = [0; 24];
     let mut sound = Sound::new([0, 1, 0]);
     let params = Params { buffer: 8, period: 4, features: 0, channels: 2, format: 5, rate: 7 };

@@ -1,4 +1,4 @@
-//! Request 2026-08, "VirtIO 1.3 beside 1.2".
+//! Request 2026-08, "VirtIO 1.3 beside 1.2": each test names the rulings on it by their numbers.
 use rules::entries::{self, RESULT_SIZE, number};
 use rules::versions::{V1_2, V1_3, config, has_controls, notification};
 use rules::wire;
@@ -19,7 +19,7 @@ fn plain() -> Vec<(u32, u64)> {
 }
 
 #[test]
-fn control_elements_are_there_in_1_3_with_their_feature_only() {
+fn rulings_1_and_2_the_mode() {
     assert!(plain().into_iter().all(|(version, features)| !has_controls(version, features)));
     assert!(WITH.into_iter().all(|features| has_controls(V1_3, features)));
     for version in UNKNOWN {
@@ -28,7 +28,7 @@ fn control_elements_are_there_in_1_3_with_their_feature_only() {
 }
 
 #[test]
-fn a_configuration_has_12_bytes_or_16_with_control_elements() {
+fn rulings_3_and_5_a_configuration() {
     let bytes: Vec<u8> = (1..=20).collect();
     let counts = [0x0403_0201, 0x0807_0605, 0x0c0b_0a09, 0x100f_0e0d];
     for length in 0..=20 {
@@ -47,7 +47,7 @@ fn a_configuration_has_12_bytes_or_16_with_control_elements() {
 }
 
 #[test]
-fn the_length_of_a_configuration_is_judged_before_the_version() {
+fn ruling_4_the_order_of_a_configurations_refusals() {
     for version in UNKNOWN {
         for features in WITH.into_iter().chain(WITHOUT) {
             // without controls: 12 bytes pass the length, and the version is told
@@ -66,7 +66,7 @@ fn the_length_of_a_configuration_is_judged_before_the_version() {
 }
 
 #[test]
-fn a_control_change_is_an_event_with_control_elements_only() {
+fn rulings_5_and_7_a_control_change() {
     let event = [0, 0x12, 0, 0, 1, 2, 3, 4];
     for features in WITH {
         assert_eq!(notification(&event, V1_3, features, GOOD), (0, vec![0x1200, 0x0201, 0x0403]));
@@ -87,7 +87,7 @@ fn a_control_change_is_an_event_with_control_elements_only() {
 }
 
 #[test]
-fn every_other_event_is_as_in_1_2() {
+fn rulings_9_and_10_all_else_is_as_in_1_2() {
     let all = plain().into_iter().chain(WITH.map(|features| (V1_3, features)));
     for (version, features) in all {
         for code in (0x0ff0..=0x1210).chain([0, 0x8000, u32::MAX]) {
@@ -105,7 +105,7 @@ fn every_other_event_is_as_in_1_2() {
 }
 
 #[test]
-fn the_version_is_judged_before_the_length_and_the_code_of_an_event() {
+fn ruling_8_the_order_of_an_events_refusals() {
     for length in (0..=20).filter(|length| *length != 8) {
         for code in [0x1000, 0x1200, 0x1201, 0x8001] {
             let event = &wire::words(&[code, 1, 2, 3, 4])[..length];

@@ -1,4 +1,4 @@
-//! Request 2026-01, "Trust only what was written".
+//! Request 2026-01, "Trust only what was written": each test names the rulings on it by their numbers.
 use rules::entries::{self, RESULT_SIZE, STATE_SIZE, Store, number};
 use rules::model::Model;
 use rules::ring::Ring;
@@ -79,7 +79,7 @@ impl Desk {
 }
 
 #[test]
-fn feeds_of_both_kinds_may_be_mixed() {
+fn ruling_1_feeds_of_both_kinds_may_be_mixed() {
     let mut desk = Desk::new([2, 1, 2]);
     desk.call(OUTPUTS);
     assert_eq!(desk.feed(Fed::Page(&page(STATUS_OK))), Say::Send(16));
@@ -89,7 +89,7 @@ fn feeds_of_both_kinds_may_be_mixed() {
 }
 
 #[test]
-fn a_queue_failure_carries_no_length() {
+fn ruling_2_a_queue_failure_carries_no_length() {
     let mut desk = Desk::awaiting([1, 1, 1], 0, OUTPUTS);
     assert_eq!(desk.feed(Fed::Failure), Say::Send(16));
     assert_eq!(desk.feed(Fed::Failure), Say::refused(7));
@@ -99,7 +99,7 @@ fn a_queue_failure_carries_no_length() {
 }
 
 #[test]
-fn a_length_that_no_page_has_changes_nothing() {
+fn rulings_3_4_and_14_a_wrong_length_changes_nothing() {
     for desk in [Desk::awaiting([1, 1, 1], 0, OUTPUTS), Desk::awaiting([1, 1, 1], 1, OUTPUTS), Desk::own(set(4))] {
         for written in [4097, 1 << 32, (1 << 32) + 4, u64::MAX] {
             let refused = (Say::refused(10), desk.clone());
@@ -116,7 +116,7 @@ fn a_length_that_no_page_has_changes_nothing() {
 }
 
 #[test]
-fn lengths_come_before_the_state_is_looked_at() {
+fn ruling_4_lengths_come_before_the_state_is_looked_at() {
     let mut closed = Desk::new([1, 1, 1]);
     assert_eq!(closed.strict(STATUS_OK, 4097), Say::refused(10));
     assert_eq!(closed.strict(STATUS_OK, 4096), Say::refused(1));
@@ -129,7 +129,7 @@ fn lengths_come_before_the_state_is_looked_at() {
 }
 
 #[test]
-fn a_length_under_4_comes_before_the_header() {
+fn ruling_5_a_length_under_4_comes_before_the_header() {
     for status in [STATUS_OK, STATUS_BAD, 0x8002, 0x8003, 0] {
         for written in 0..4 {
             assert_eq!(Desk::awaiting([1, 1, 1], 1, OUTPUTS).strict(status, written), Say::refused(11));
@@ -145,7 +145,7 @@ fn a_length_under_4_comes_before_the_header() {
 }
 
 #[test]
-fn too_many_comes_before_a_short_table() {
+fn ruling_6_too_many_comes_before_a_short_table() {
     let streams = |status, written| Desk::awaiting([0, 128, 0], 1, OUTPUTS).strict(status, written);
     assert_eq!(streams(STATUS_BAD, 4), Say::refused_by(2, STATUS_BAD));
     assert_eq!(streams(STATUS_OK, 4), Say::refused(5));
@@ -161,7 +161,7 @@ fn too_many_comes_before_a_short_table() {
 }
 
 #[test]
-fn just_the_bytes_of_the_table_suffice() {
+fn ruling_7_just_the_table_suffices() {
     for (table, size, most) in [(0, 24, 170), (1, 32, 127), (2, 24, 170)] {
         for count in [0, 1, 3, most] {
             let mut counts = [1, 1, 1];
@@ -178,7 +178,7 @@ fn just_the_bytes_of_the_table_suffice() {
 }
 
 #[test]
-fn the_answer_to_a_calls_own_request_needs_four_bytes_and_no_more() {
+fn ruling_8_own_requests_need_four_bytes_and_no_more() {
     for call in [set(4), START, REMAP] {
         for status in [STATUS_OK, STATUS_BAD] {
             let (desk, page) = (Desk::own(call), page(status));
@@ -192,7 +192,7 @@ fn the_answer_to_a_calls_own_request_needs_four_bytes_and_no_more() {
 }
 
 #[test]
-fn short_jacks_and_maps_are_silent_and_empty() {
+fn ruling_9_short_jacks_and_maps_are_silent_and_empty() {
     // the hypervisor's fault: only the header, over jacks left in the page from before
     for written in [3, 4, 75] {
         let mut desk = Desk::awaiting([3, 1, 3], 0, REMAP);
@@ -206,7 +206,7 @@ fn short_jacks_and_maps_are_silent_and_empty() {
 }
 
 #[test]
-fn short_streams_cut_set_up_short() {
+fn ruling_10_short_streams_cut_set_up_short() {
     for written in [0, 3, 4, 67] {
         let mut desk = Desk::awaiting([1, 2, 1], 1, OUTPUTS);
         let (say, failed) = desk.outcome(Fed::Failure);
@@ -219,7 +219,7 @@ fn short_streams_cut_set_up_short() {
 }
 
 #[test]
-fn a_short_answer_leaves_the_old_parameters() {
+fn ruling_10_a_short_answer_leaves_the_old_parameters() {
     let mut desk = Desk::own(set(4));
     assert_eq!(desk.strict(STATUS_OK, 4), DONE);
     let before = desk.sound.clone();
@@ -231,7 +231,7 @@ fn a_short_answer_leaves_the_old_parameters() {
 }
 
 #[test]
-fn whatever_waits_for_set_up_can_end_with_11() {
+fn ruling_11_whatever_waits_for_set_up_can_end_with_11() {
     let reads = [OUTPUTS, Call::InputStreams, Call::Rates(0), Call::Formats(0), Call::ChannelRange(0)];
     for call in reads.into_iter().chain([Call::Features(0), REMAP, set(4), START]) {
         assert_eq!(Desk::awaiting([1, 1, 1], 1, call).strict(STATUS_OK, 4), Say::refused(11));
@@ -257,7 +257,7 @@ fn entry(sound: &mut Sound, lengths: (usize, usize, u64, usize, usize)) -> u64 {
 }
 
 #[test]
-fn the_entry_tests_every_length_before_the_state() {
+fn rulings_3_4_and_14_at_the_entry() {
     let good = (STATE_SIZE, 4096, 4096, 24, RESULT_SIZE);
     let (state, page, written, message, result) = good;
     let wrong = [
@@ -366,7 +366,7 @@ fn walk(feed: impl Fn(&mut Dice, &Desk) -> (Say, Desk)) -> BTreeSet<u8> {
 }
 
 #[test]
-fn what_stands_after_the_written_bytes_plays_no_part() {
+fn ruling_13_what_stands_after_the_written_bytes_plays_no_part() {
     let seen = walk(|dice, desk| {
         let (page, written) = (dice.page(), dice.written(enough(&desk.sound)));
         let mut other = dice.page();
@@ -379,7 +379,7 @@ fn what_stands_after_the_written_bytes_plays_no_part() {
 }
 
 #[test]
-fn a_page_written_in_full_is_the_old_feed() {
+fn ruling_12_a_page_written_in_full_is_the_old_feed() {
     let seen = walk(|dice, desk| {
         let page = dice.page();
         let old = desk.outcome(Fed::Page(&page));
@@ -390,7 +390,7 @@ fn a_page_written_in_full_is_the_old_feed() {
 }
 
 #[test]
-fn with_the_lengths_that_the_model_device_tells_it_is_the_old_feed() {
+fn ruling_12_holds_with_the_lengths_the_model_device_tells() {
     let (jacks, streams, maps) = ([1; 2 * 24], [0; 32], [9; 3 * 24]);
     let mut model = Model::new([&jacks, &streams, &maps]).unwrap();
     let mut desk = Desk::new([2, 1, 3]);
@@ -415,7 +415,7 @@ fn with_the_lengths_that_the_model_device_tells_it_is_the_old_feed() {
 }
 
 #[test]
-fn a_covered_feed_is_the_old_one_and_a_short_one_is_a_failure_that_says_11() {
+fn rulings_9_10_and_12_covered_is_the_old_feed_and_short_is_a_failure_that_says_11() {
     let seen = walk(|dice, desk| {
         let (page, enough) = (dice.page(), enough(&desk.sound));
         let written = dice.written(enough);

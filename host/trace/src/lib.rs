@@ -2,8 +2,6 @@
 #![forbid(unsafe_code)]
 #![deny(clippy::unwrap_used, clippy::expect_used, clippy::panic, clippy::indexing_slicing)]
 
-mod due;
-mod json;
+pub mod command;
 pub mod listing;
-pub mod program;
 pub mod verdict;

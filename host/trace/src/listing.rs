@@ -1,8 +1,6 @@
 //! What is said of two traces.
-use crate::json::{AsJson, OrNull};
-use crate::program::Finding;
-use std::io::{self, Write};
-use vsnd::trace::{self, Difference, ENTRY_SIZE, Entries, Unlisted};
+use snd::trace::{self, Difference, ENTRY_SIZE, Entries, Field, Unlisted};
+use std::fmt::Write;
 
 /// Exit status of equal traces, of different ones, and where one is refused: as diff has it.
 const EQUAL: u8 = 0;
@@ -12,97 +10,93 @@ const REFUSED: u8 = 2;
 /// The form of the JSON; a change that a reader would notice counts it up.
 const VERSION: u32 = 1;
 
-/// The differences of two traces.
-pub struct Listing {
-    listed: Result<Vec<u8>, Unlisted>,
-    json: bool,
+/// The text, for people or as JSON for programs, and the exit status.
+pub fn of(first: &[u8], second: &[u8], json: bool) -> (String, u8) {
+    let listed = listed(first, second);
+    let status = match &listed {
+        Ok(list) if list.is_empty() => EQUAL,
+        Ok(_) => DIFFERENT,
+        Err(_) => REFUSED,
+    };
+    let text = if json { as_json(&listed) } else { as_lines(&listed) };
+    (text, status)
 }
 
-/// Compares two traces; `json` is for programs, else the listing is for people.
-#[must_use]
-pub fn of(first: &[u8], second: &[u8], json: bool) -> Listing {
-    Listing {
-        listed: listed(first, second),
-        json,
-    }
-}
+type Listed = Result<Vec<u8>, Unlisted>;
 
 /// The list, in room that is just long enough.
-fn listed(first: &[u8], second: &[u8]) -> Result<Vec<u8>, Unlisted> {
+fn listed(first: &[u8], second: &[u8]) -> Listed {
     let count = trace::differences(first, second)?;
     let mut list = vec![0; count.saturating_mul(ENTRY_SIZE)];
     trace::compare(first, second, &mut list)?;
     Ok(list)
 }
 
-impl Finding for Listing {
-    fn status(&self) -> u8 {
-        match &self.listed {
-            Ok(list) if list.is_empty() => EQUAL,
-            Ok(_) => DIFFERENT,
-            Err(_) => REFUSED,
-        }
-    }
-
-    fn tell(&self, to: &mut dyn Write) -> io::Result<()> {
-        match (&self.listed, self.json) {
-            (listed, true) => as_json(to, listed),
-            (Ok(list), false) => {
-                writeln!(to, "differences {}", list.len() / ENTRY_SIZE)?;
-                Entries::of(list).try_for_each(|difference| writeln!(to, "{difference}"))
+fn as_lines(listed: &Listed) -> String {
+    match listed {
+        Ok(list) => {
+            let mut text = format!("differences {}\n", list.len() / ENTRY_SIZE);
+            for difference in Entries::of(list) {
+                // to write into a text cannot fail
+                let _ = writeln!(text, "{difference}");
             }
-            (Err(unlisted), false) => writeln!(to, "refused {unlisted}"),
+            text
         }
+        Err(unlisted) => format!("refused {unlisted}\n"),
     }
 }
 
-/// One object, each difference on a line of its own.
-fn as_json(to: &mut dyn Write, listed: &Result<Vec<u8>, Unlisted>) -> io::Result<()> {
-    write!(to, "{{\"program\":\"tracediff\",\"version\":{VERSION},\"refused\":")?;
-    match listed {
+/// One object. Its texts are words of ours: none needs care.
+fn as_json(listed: &Listed) -> String {
+    let (refused, list) = match listed {
         Ok(list) => {
-            write!(to, "null,\"differences\":[")?;
-            let mut comma = "";
-            for difference in Entries::of(list) {
-                writeln!(to, "{comma}")?;
-                one(to, difference)?;
-                comma = ",";
-            }
-            writeln!(to, "]}}")
+            let lines: Vec<_> = Entries::of(list).map(|one| format!("\n{}", difference(one))).collect();
+            let lines = lines.join(",");
+            ("null".into(), format!("[{lines}]"))
         }
-        Err(unlisted) => {
-            refusal(to, *unlisted)?;
-            writeln!(to, ",\"differences\":null}}")
-        }
-    }
+        Err(unlisted) => (refusal(*unlisted), "null".into()),
+    };
+    format!("{{\"program\":\"tracediff\",\"version\":{VERSION},\"refused\":{refused},\"differences\":{list}}}\n")
 }
 
 /// The answer, which trace, and where.
-fn refusal(to: &mut dyn Write, unlisted: Unlisted) -> io::Result<()> {
+fn refusal(unlisted: Unlisted) -> String {
+    let number = unlisted.number();
     let (trace, at) = match unlisted {
-        Unlisted::First(judged) => (Some("\"first\""), Some(judged.at)),
-        Unlisted::Second(judged) => (Some("\"second\""), Some(judged.at)),
-        Unlisted::Full => (None, None),
+        Unlisted::First(judged) => ("\"first\"", judged.at.to_string()),
+        Unlisted::Second(judged) => ("\"second\"", judged.at.to_string()),
+        Unlisted::Full => ("null", "null".into()),
     };
-    let (number, name) = (unlisted.number().number(), unlisted.number().name());
-    let (trace, at) = (OrNull(trace), OrNull(at));
-    write!(
-        to,
-        "{{\"number\":{number},\"name\":\"{name}\",\"trace\":{trace},\"offset\":{at}}}"
-    )
+    let (number, name) = (number.number(), number.name());
+    format!("{{\"number\":{number},\"name\":\"{name}\",\"trace\":{trace},\"offset\":{at}}}")
 }
 
-fn one(to: &mut dyn Write, difference: Difference) -> io::Result<()> {
+/// A difference, on one line.
+fn difference(difference: Difference) -> String {
     let kind = match difference {
         Difference::OnlyFirst { .. } => "only first",
         Difference::OnlySecond { .. } => "only second",
         Difference::Other { .. } => "other",
     };
-    let position = difference.position();
-    let first = OrNull(difference.first().map(AsJson));
-    let second = OrNull(difference.second().map(AsJson));
-    write!(
-        to,
-        "{{\"position\":{position},\"kind\":\"{kind}\",\"first\":{first},\"second\":{second}}}"
-    )
+    let shown = |side: Option<Field>| side.map_or("null".into(), field);
+    let (position, first, second) = (difference.position(), difference.first(), difference.second());
+    let (first, second) = (shown(first), shown(second));
+    format!("{{\"position\":{position},\"kind\":\"{kind}\",\"first\":{first},\"second\":{second}}}")
+}
+
+/// Its name, and its contents as numbers.
+fn field(field: Field) -> String {
+    let (name, contents) = match field {
+        Field::Start { stream, length, period } => (
+            "start",
+            format!("\"stream\":{stream},\"length\":{length},\"period\":{period}"),
+        ),
+        Field::Submitted { slot, offset, length } => (
+            "submitted",
+            format!("\"slot\":{slot},\"offset\":{offset},\"length\":{length}"),
+        ),
+        Field::Completed { slot, status } => ("completed", format!("\"slot\":{slot},\"status\":{status}")),
+        Field::End { answer } => ("end", format!("\"answer\":{answer}")),
+    };
+    format!("{{\"field\":\"{name}\",{contents}}}")
 }

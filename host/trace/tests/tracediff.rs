@@ -4,7 +4,7 @@ mod common;
 #[path = "../../announce/tests/common/json.rs"]
 mod json;
 
-use common::{Folder, complains, end, failed_fields, good, held, is_a_program, shown, start, submitted, ten_fields};
+use common::{Folder, complains, end, failed_fields, good, held, shown, start, submitted, ten_fields};
 use json::Json;
 use std::process::Output;
 
@@ -125,54 +125,6 @@ fn a_megabyte_is_compared() {
     let text = String::from_utf8(output.stdout).unwrap();
     assert_eq!(text.lines().next(), Some("differences 200001"));
     assert_eq!((text.lines().count(), output.status.code()), (200_002, Some(1)));
-}
-
-/// The list is said part by part: its JSON, of 4.6 MB here, takes no more than the two traces and the list of entries.
-#[test]
-fn the_json_is_streamed() {
-    let folder = Folder::new("streamed");
-    let mut trace = start(1, 50_000, 1);
-    for at in 0..50_000 {
-        let slot = (at % 32) as u8;
-        trace.extend([submitted(slot, at, 1), good(slot)].concat());
-    }
-    folder.write("a", &trace);
-    folder.write("b", &trace[15..]);
-    let said = folder.shell(TRACEDIFF, "ulimit -v 24000; \"$P\" --json a b");
-    assert_eq!(
-        (String::from_utf8_lossy(&said.stderr).as_ref(), said.status.code()),
-        ("", Some(1))
-    );
-    assert!(said.stdout.len() > 20_000_000, "{}", said.stdout.len());
-}
-
-#[test]
-fn it_is_a_program() {
-    is_a_program(TRACEDIFF, "tracediff", "a b", 1);
-}
-
-#[test]
-fn standard_input_and_endless_files() {
-    let folder = Folder::new("input");
-    folder.write("a", &ten_fields().concat());
-    held(
-        &folder.run_with(TRACEDIFF, "- a", &ten_fields().concat()),
-        "diff-equal",
-        0,
-    );
-    held(
-        &folder.run_with(TRACEDIFF, "a -- -", &ten_fields().concat()),
-        "diff-equal",
-        0,
-    );
-    complains(
-        &folder.run(TRACEDIFF, "- -"),
-        "tracediff: - is named twice; standard input can be read once",
-    );
-    complains(
-        &folder.run(TRACEDIFF, "a /dev/full"),
-        "tracediff: cannot read /dev/full: it is no regular file; - reads standard input",
-    );
 }
 
 #[test]

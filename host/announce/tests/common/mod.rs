@@ -70,15 +70,15 @@ pub fn frames(bytes: u32) -> Vec<u8> {
 }
 
 /// A WAVE file of these frames.
-pub fn wave(channels: u8, format: vsnd::Format, rate: vsnd::Rate, frames: &[u8]) -> Vec<u8> {
-    let mut file = vec![0; vsnd::wav::file_len(frames.len())];
-    let wave = vsnd::wav::Wave {
+pub fn wave(channels: u8, format: snd::Format, rate: snd::Rate, frames: &[u8]) -> Vec<u8> {
+    let mut file = vec![0; snd::wav::file_len(frames.len())];
+    let wave = snd::wav::Wave {
         channels,
         format,
         rate,
         frames,
     };
-    vsnd::wav::write(&wave, &mut file).unwrap();
+    snd::wav::write(&wave, &mut file).unwrap();
     file
 }
 

@@ -1,10 +1,10 @@
 //! What the tests share: a folder of their own, programs run in it, stored texts, and traces by their fields.
 #![allow(dead_code)]
+use snd::STATUS_OK;
 use std::path::{Path, PathBuf};
-use std::process::{Command, Output, Stdio};
+use std::process::{Command, Output};
 use std::sync::atomic::{AtomicUsize, Ordering};
-use std::{env, fs, io};
-use vsnd::STATUS_OK;
+use std::{env, fs};
 
 /// A folder that is gone when the test is over.
 pub struct Folder(pub PathBuf);
@@ -26,27 +26,6 @@ impl Folder {
     pub fn run(&self, program: &str, words: &str) -> Output {
         let mut command = Command::new(program);
         command.args(words.split_whitespace()).current_dir(&self.0);
-        command.output().unwrap()
-    }
-
-    /// Runs it with something on standard input.
-    pub fn run_with(&self, program: &str, words: &str, input: &[u8]) -> Output {
-        let mut command = Command::new(program);
-        command.args(words.split_whitespace()).current_dir(&self.0);
-        let pipes = [Stdio::piped(), Stdio::piped(), Stdio::piped()];
-        let [stdin, stdout, stderr] = pipes;
-        let mut child = command.stdin(stdin).stdout(stdout).stderr(stderr).spawn().unwrap();
-        let mut pipe = child.stdin.take().unwrap();
-        // a program that reads no further than its limit closes it
-        let _ = io::Write::write_all(&mut pipe, input);
-        drop(pipe);
-        child.wait_with_output().unwrap()
-    }
-
-    /// Runs a line of the shell in which $P is the program.
-    pub fn shell(&self, program: &str, line: &str) -> Output {
-        let mut command = Command::new("sh");
-        command.args(["-c", line]).env("P", program).current_dir(&self.0);
         command.output().unwrap()
     }
 }
@@ -126,42 +105,4 @@ pub fn shown(line: &str) -> String {
         .unwrap_or_else(|| panic!("docs/TRACE.md has no line\n{line}"));
     let lines = block.lines().take_while(|line| line.starts_with("    "));
     lines.map(|line| format!("{}\n", &line[4..])).collect()
-}
-
-/// Holds the man page to the stored one, and tries what is the same for every program. `files` are names that it takes.
-pub fn is_a_program(program: &str, name: &str, files: &str, status: i32) {
-    let folder = Folder::new(name);
-    folder.write("a", &ten_fields().concat());
-    folder.write("b", &failed_fields().concat());
-    let man = folder.run(program, "--man");
-    let file = Path::new(env!("CARGO_MANIFEST_DIR"))
-        .join("man")
-        .join(format!("{name}.1"));
-    if env::var_os("STORE_TEXTS").is_some() {
-        fs::write(&file, &man.stdout).unwrap();
-    }
-    let stored = fs::read(&file).unwrap_or_else(|why| panic!("{}: {why}", file.display()));
-    assert_eq!(String::from_utf8_lossy(&man.stdout), String::from_utf8_lossy(&stored));
-    let said = folder.run(program, "--version");
-    let text = String::from_utf8(said.stdout).unwrap();
-    let lines: Vec<_> = text.lines().collect();
-    assert_eq!(lines[0], format!("{name} {}", env!("CARGO_PKG_VERSION")));
-    assert!(
-        lines[1].starts_with("kit     ") && lines[2].starts_with("archive sha256 "),
-        "{text}"
-    );
-    // nobody reads on: the status is that of what was found, and nothing is said of it
-    let said = folder.shell(program, &format!("{{ \"$P\" {files}; echo $? >&2; }} | :"));
-    assert_eq!(String::from_utf8_lossy(&said.stderr), format!("{status}\n"));
-    // neither a full nor a closed standard error is a panic
-    for line in ["2>/dev/full", "2>&-"] {
-        let said = folder.shell(program, &format!("\"$P\" no-such-file no-such-file {line}"));
-        assert_eq!((said.status.code(), said.stdout.len()), (Some(2), 0), "{line}");
-    }
-    let said = folder.shell(program, &format!("\"$P\" {files} >/dev/full"));
-    let wanted = format!("{name}: cannot write to standard output: No space left on device (os error 28)\n");
-    assert_eq!(
-        (String::from_utf8_lossy(&said.stderr).as_ref(), said.status.code()),
-        (&*wanted, Some(2))
-    );
 }

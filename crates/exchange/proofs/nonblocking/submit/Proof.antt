@@ -8,13 +8,13 @@ returns : tie.Need-returns
 returns c =
     let a = c.before.before.before.before.before.before.before.before.before.args in
     submit-replied a.places a.stream a.payload.now a.store.now c.refused-nb.ensures
-    (submitted-by a.places a.mode a.s (length a.payload.now) (length a.store.now) a.period _ _ c.before.before.before.before.before.lowest.ensures (sym c.before.before.outcome.given.1 ∙ c.before.before.before.before.find-spot.ensures)) refl
+    (submitted-by a.places a.s (length a.payload.now) (length a.store.now) a.period _ _ c.before.before.before.before.before.lowest.ensures (sym c.before.before.outcome.given.1 ∙ c.before.before.before.before.find-spot.ensures)) refl
 
 returns-2 : tie.Need-returns-2
 returns-2 c =
     let a = c.before.before.before.before.before.before.before.before.before.before.before.before.before.args in
     submit-replied a.places a.stream a.payload.now a.store.now c.token-nb.ensures
-    (submitted-by a.places a.mode a.s (length a.payload.now) (length a.store.now) a.period _ _ c.before.before.before.before.before.before.before.before.before.lowest.ensures (sym c.before.before.before.before.before.before.outcome2.given.1 ∙ c.before.before.before.before.before.before.before.before.find-spot.ensures)) c.before.before.before.placed.ensures
+    (submitted-by a.places a.s (length a.payload.now) (length a.store.now) a.period _ _ c.before.before.before.before.before.before.before.before.before.lowest.ensures (sym c.before.before.before.before.before.before.outcome2.given.1 ∙ c.before.before.before.before.before.before.before.before.find-spot.ensures)) c.before.before.before.placed.ensures
 
 pub submit-spec : {M : Type 1} → statement M
 submit-spec =

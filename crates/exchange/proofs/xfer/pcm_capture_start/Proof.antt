@@ -5,7 +5,7 @@ use Rattle.exchange.proofs.xfer.pcm_capture_start.Statement.{statement}
 use Rattle.exchange.proofs.xfer.pcm_capture_start.Tie as tie
 
 set-up-requires : tie.Need-set-up-requires
-set-up-requires c κs = leb-true _ _ (set-up-long true _ true _ c.before.before.before.before.before.before.before.args.s _ c.before.before.before.before.before.before.before.args.stream (sym c.before.enum_told.given.1 ∙ c.before.before.before.checked.ensures))
+set-up-requires c κs = leb-true _ _ (set-up-long true _ _ c.before.before.before.before.before.before.before.args.s _ c.before.before.before.before.before.before.before.args.stream (sym c.before.enum_told.given.1 ∙ c.before.before.before.checked.ensures))
 
 returns : tie.Need-returns
 returns c =

@@ -1,12 +1,12 @@
 -- `exchange::xfer::pcm_xfer` meets its contract: by what the checks come to. Assumes nothing.
-use Rattle.std.proofs.Common.{true, false, sym, refl, ◌∙◌, rules, leb-true}
+use Rattle.std.proofs.Common.{false, sym, refl, ◌∙◌, rules, leb-true}
 use Rattle.exchange.specs.StepLaws.{set-up-long, run-by, xfer-says, replied}
 use Rattle.turns.specs.ConsistentLaws.{both}
 use Rattle.exchange.proofs.xfer.pcm_xfer.Statement.{statement}
 use Rattle.exchange.proofs.xfer.pcm_xfer.Tie as tie
 
 set-up-requires : tie.Need-set-up-requires
-set-up-requires c κs = leb-true _ _ (both _ _ (sym c.before.before.before.before.before.both.ensures ∙ set-up-long false _ true _ c.before.before.before.before.before.before.before.before.before.args.s _ c.before.before.before.before.before.before.before.before.before.args.stream (sym c.before.enum_told.given.1 ∙ c.before.before.before.checked.ensures))).0
+set-up-requires c κs = leb-true _ _ (both _ _ (sym c.before.before.before.before.before.both.ensures ∙ set-up-long false _ _ c.before.before.before.before.before.before.before.before.before.args.s _ c.before.before.before.before.before.before.before.before.before.args.stream (sym c.before.enum_told.given.1 ∙ c.before.before.before.checked.ensures))).0
 
 returns : tie.Need-returns
 returns c =

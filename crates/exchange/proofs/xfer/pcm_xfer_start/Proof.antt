@@ -1,11 +1,11 @@
 -- `exchange::xfer::pcm_xfer_start` meets its contract: by what the checks come to. Assumes nothing.
-use Rattle.std.proofs.Common.{true, false, sym, refl, ◌∙◌, rules, leb-true}
+use Rattle.std.proofs.Common.{false, sym, refl, ◌∙◌, rules, leb-true}
 use Rattle.exchange.specs.StepLaws.{set-up-long, started-by, start-says, replied}
 use Rattle.exchange.proofs.xfer.pcm_xfer_start.Statement.{statement}
 use Rattle.exchange.proofs.xfer.pcm_xfer_start.Tie as tie
 
 set-up-requires : tie.Need-set-up-requires
-set-up-requires c κs = leb-true _ _ (set-up-long false _ true _ c.before.before.before.before.before.before.before.args.s _ c.before.before.before.before.before.before.before.args.stream (sym c.before.enum_told.given.1 ∙ c.before.before.before.checked.ensures))
+set-up-requires c κs = leb-true _ _ (set-up-long false _ _ c.before.before.before.before.before.before.before.args.s _ c.before.before.before.before.before.before.before.args.stream (sym c.before.enum_told.given.1 ∙ c.before.before.before.checked.ensures))
 
 returns : tie.Need-returns
 returns c =

@@ -7,6 +7,7 @@ use Rattle.state_store.specs.Steps.{setting_up_by}
 use Rattle.state_store.specs.OpenLaws.{gated, shut-short, long-open, long-head, set-up-long, opens}
 use Rattle.std.specs.declared.gate.Gate.TheVariants as gate
 use Rattle.state_store.specs.StoreLaws.{core_at}
+use Rattle.pending.specs.Table.{none_in}
 use borrow.Author.Tests.{not-true, not-false}
 use Rattle.state_store.specs.Types.{Says, BadLength}
 use Rattle.state_store.proofs.calls.open_as.Statement.{statement}
@@ -39,7 +40,7 @@ direction-at-requires c κs =
 set-up-requires : tie.Need-set-up-requires
 set-up-requires c κs =
     let x = c.before.before.before.before in
-    let z = x.before.before in
+    let z = x.before.before.before in
     let y = z.before.before in
     let a = y.before.before.before.before.before.before.before.before.before.before.before.before.before.args in
     let s = a.state.now in
@@ -48,13 +49,13 @@ set-up-requires c κs =
     let stream = a.stream in
     let capture = a.capture in
     let call = a.waiting in
-    let g = gated capture call s m t stream y.before.before.before.before.before.before.before.before.before.before.both.ensures x.before.none-at.ensures (y.before.before.before.before.before.core-by.ensures ∙ ap core_of y.before.before.before.before.before.before.before.get-head.ensures) y.before.before.before.params_at_lem.ensures y.before.life-at.ensures z.before.direction-at.ensures x.xfer-gate.ensures in
+    let g = gated capture call s m t stream y.before.before.before.before.before.before.before.before.before.before.both.ensures (x.before.is_none.ensures ∙ ap none_in x.before.before.pending-in.ensures) (y.before.before.before.before.before.core-by.ensures ∙ ap core_of y.before.before.before.before.before.before.before.get-head.ensures) y.before.before.before.params_at_lem.ensures y.before.life-at.ensures z.before.direction-at.ensures x.xfer-gate.ensures in
     set-up-long capture call s m t stream (sym c.before.before.enum_told.given.1 ∙ g)
 
 returns-2 : tie.Need-returns-2
 returns-2 c =
     let x = c.before.before.before.before in
-    let z = x.before.before in
+    let z = x.before.before.before in
     let y = z.before.before in
     let a = y.before.before.before.before.before.before.before.before.before.before.before.before.before.args in
     let s = a.state.now in
@@ -63,13 +64,13 @@ returns-2 c =
     let stream = a.stream in
     let capture = a.capture in
     let call = a.waiting in
-    let g = gated capture call s m t stream y.before.before.before.before.before.before.before.before.before.before.both.ensures x.before.none-at.ensures (y.before.before.before.before.before.core-by.ensures ∙ ap core_of y.before.before.before.before.before.before.before.get-head.ensures) y.before.before.before.params_at_lem.ensures y.before.life-at.ensures z.before.direction-at.ensures x.xfer-gate.ensures in
+    let g = gated capture call s m t stream y.before.before.before.before.before.before.before.before.before.before.both.ensures (x.before.is_none.ensures ∙ ap none_in x.before.before.pending-in.ensures) (y.before.before.before.before.before.core-by.ensures ∙ ap core_of y.before.before.before.before.before.before.before.get-head.ensures) y.before.before.before.params_at_lem.ensures y.before.life-at.ensures z.before.direction-at.ensures x.xfer-gate.ensures in
     ap (λ (n : ℕ). opened (Says n) s m) c.word.ensures ∙ opens capture call s m t stream (gate.Shut _) (sym c.before.before.gate.given.1 ∙ g)
 
 returns-3 : tie.Need-returns-3
 returns-3 c =
     let x = c.before.before.before.before.before.before.before.before.before in
-    let z = x.before.before in
+    let z = x.before.before.before in
     let y = z.before.before in
     let a = y.before.before.before.before.before.before.before.before.before.before.before.before.before.args in
     let s = a.state.now in
@@ -78,7 +79,7 @@ returns-3 c =
     let stream = a.stream in
     let capture = a.capture in
     let call = a.waiting in
-    let g = gated capture call s m t stream y.before.before.before.before.before.before.before.before.before.before.both.ensures x.before.none-at.ensures (y.before.before.before.before.before.core-by.ensures ∙ ap core_of y.before.before.before.before.before.before.before.get-head.ensures) y.before.before.before.params_at_lem.ensures y.before.life-at.ensures z.before.direction-at.ensures x.xfer-gate.ensures in
+    let g = gated capture call s m t stream y.before.before.before.before.before.before.before.before.before.before.both.ensures (x.before.is_none.ensures ∙ ap none_in x.before.before.pending-in.ensures) (y.before.before.before.before.before.core-by.ensures ∙ ap core_of y.before.before.before.before.before.before.before.get-head.ensures) y.before.before.before.params_at_lem.ensures y.before.life-at.ensures z.before.direction-at.ensures x.xfer-gate.ensures in
     c.before.before.before.before.set-up.ensures
     ∙ (λ i. setting_up_by ((y.before.before.before.before.before.before.is_whole.ensures ∙ ap whole_head y.before.before.before.before.before.before.before.get-head.ensures) i) ((y.before.before.before.before.before.core-by.ensures ∙ ap core_of y.before.before.before.before.before.before.before.get-head.ensures ∙ sym (core_at s)) i) s call m)
     ∙ opens capture call s m t stream gate.SetUp (sym c.before.before.before.before.before.before.before.enum_told.given.1 ∙ g)
@@ -86,7 +87,7 @@ returns-3 c =
 returns-4 : tie.Need-returns-4
 returns-4 c =
     let x = c.before.before.before in
-    let z = x.before.before in
+    let z = x.before.before.before in
     let y = z.before.before in
     let a = y.before.before.before.before.before.before.before.before.before.before.before.before.before.args in
     let s = a.state.now in
@@ -95,7 +96,7 @@ returns-4 c =
     let stream = a.stream in
     let capture = a.capture in
     let call = a.waiting in
-    let g = gated capture call s m t stream y.before.before.before.before.before.before.before.before.before.before.both.ensures x.before.none-at.ensures (y.before.before.before.before.before.core-by.ensures ∙ ap core_of y.before.before.before.before.before.before.before.get-head.ensures) y.before.before.before.params_at_lem.ensures y.before.life-at.ensures z.before.direction-at.ensures x.xfer-gate.ensures in
+    let g = gated capture call s m t stream y.before.before.before.before.before.before.before.before.before.before.both.ensures (x.before.is_none.ensures ∙ ap none_in x.before.before.pending-in.ensures) (y.before.before.before.before.before.core-by.ensures ∙ ap core_of y.before.before.before.before.before.before.before.get-head.ensures) y.before.before.before.params_at_lem.ensures y.before.life-at.ensures z.before.direction-at.ensures x.xfer-gate.ensures in
     opens capture call s m t stream (gate.Open _) (sym c.before.gate2.given.1 ∙ g)
 
 pub open-as-spec : {M : Type 1} → statement M
@@ -107,7 +108,7 @@ open-as-spec =
     get-head-requires
     (λ c κs. tt)
     (λ c κs. c.is_whole.ensures)
-    (λ c κs. tt) life-at-requires direction-at-requires (λ c κs. tt) (λ c κs. tt) (λ c. search rules) (λ c κs. tt) (λ c. search rules)
+    (λ c κs. tt) life-at-requires direction-at-requires (λ c κs. tt) (λ c κs. tt) (λ c κs. tt) (λ c. search rules) (λ c κs. tt) (λ c. search rules)
     set-up-requires
     (λ c. search rules)
     (λ c. search rules)

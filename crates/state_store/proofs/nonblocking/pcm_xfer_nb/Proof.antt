@@ -1,8 +1,7 @@
 -- `state_store::nonblocking::pcm_xfer_nb` meets its contract: by what the checks come to. Assumes nothing.
-use Rattle.std.proofs.Common.{ℕ, ◌≤◌, sym, ap, ◌∙◌, subst, arith, rules}
+use Rattle.std.proofs.Common.{ℕ, sym, ap, ◌∙◌, arith, rules}
 use borrow.Author.Tests.{not-true, not-false}
 use Rattle.layout.specs.Bytes.{Bytes}
-use Rattle.exchange.specs.SubmitLaws.{few-places}
 use Rattle.state_store.specs.Store.{whole_head, core_of}
 use Rattle.state_store.specs.Tokens.{submitted}
 use Rattle.state_store.specs.FinishLaws.{long-state}
@@ -30,8 +29,7 @@ life-at-requires c κs =
 set-up-requires : tie.Need-set-up-requires
 set-up-requires c κs =
     let x = c.before.before.before.before in
-    let y = x.before.before.before in
-    let d = y.before.before.before.before.before.before.before.before.before in
+    let d = x.before.before.before.before.before.before.before.before.before in
     let a = d.before.before.before.before.before.before.before.args in
     let s = a.state.now in
     let e = a.payload.now in
@@ -39,17 +37,13 @@ set-up-requires c κs =
     let m = a.message.now in
     let r = a.result.now in
     let l = sym d.before.both.ensures ∙ not-false _ d.if1.false in
-    let g = nb-gated s a.t a.stream e p m r (y.before.before.before.before.before.core-by.ensures ∙ ap core_of y.before.before.before.before.before.before.before.get-head.ensures) y.before.before.before.params_at_lem.ensures y.before.life-at.ensures y.Mode-of.ensures x.before.fits-at.ensures x.xfer-gate.ensures in
+    let g = nb-gated s a.t a.stream e p m r (x.before.before.before.before.before.core-by.ensures ∙ ap core_of x.before.before.before.before.before.before.before.get-head.ensures) x.before.before.before.params_at_lem.ensures x.before.life-at.ensures x.xfer-gate.ensures in
     (long-state s r l, nb-long s a.t a.stream e p m r (sym c.before.before.enum_told.given.1 ∙ g))
-
-submit-requires : tie.Need-submit-requires
-submit-requires c κs = subst (λ (n : ℕ). n ≤ 32) (sym c.before.before.before.places_of.ensures) (few-places _)
 
 returns-2 : tie.Need-returns-2
 returns-2 c =
     let x = c.before.before.before.before in
-    let y = x.before.before.before in
-    let d = y.before.before.before.before.before.before.before.before.before in
+    let d = x.before.before.before.before.before.before.before.before.before in
     let a = d.before.before.before.before.before.before.before.args in
     let s = a.state.now in
     let e = a.payload.now in
@@ -57,15 +51,14 @@ returns-2 c =
     let m = a.message.now in
     let r = a.result.now in
     let l = sym d.before.both.ensures ∙ not-false _ d.if1.false in
-    let g = nb-gated s a.t a.stream e p m r (y.before.before.before.before.before.core-by.ensures ∙ ap core_of y.before.before.before.before.before.before.before.get-head.ensures) y.before.before.before.params_at_lem.ensures y.before.life-at.ensures y.Mode-of.ensures x.before.fits-at.ensures x.xfer-gate.ensures in
+    let g = nb-gated s a.t a.stream e p m r (x.before.before.before.before.before.core-by.ensures ∙ ap core_of x.before.before.before.before.before.before.before.get-head.ensures) x.before.before.before.params_at_lem.ensures x.before.life-at.ensures x.xfer-gate.ensures in
     let b : Bytes s = λ k. (d.before.before.before.before.before.before.slice-known.given k).fits in
     ap (λ (n : ℕ). submitted n s p m r) c.word.ensures ∙ nb-shut s a.t a.stream e p m r l b _ (sym c.before.before.gate.given.1 ∙ g)
 
 returns-3 : tie.Need-returns-3
 returns-3 c =
     let x = c.before.before.before.before.before.before.before.before.before in
-    let y = x.before.before.before in
-    let d = y.before.before.before.before.before.before.before.before.before in
+    let d = x.before.before.before.before.before.before.before.before.before in
     let a = d.before.before.before.before.before.before.before.args in
     let s = a.state.now in
     let e = a.payload.now in
@@ -73,16 +66,15 @@ returns-3 c =
     let m = a.message.now in
     let r = a.result.now in
     let l = sym d.before.both.ensures ∙ not-false _ d.if1.false in
-    let g = nb-gated s a.t a.stream e p m r (y.before.before.before.before.before.core-by.ensures ∙ ap core_of y.before.before.before.before.before.before.before.get-head.ensures) y.before.before.before.params_at_lem.ensures y.before.life-at.ensures y.Mode-of.ensures x.before.fits-at.ensures x.xfer-gate.ensures in
-    let h = y.before.before.before.before.before.before.before.get-head.ensures in
-    nb-set-up s a.t a.stream e p m r l (y.before.before.before.before.before.before.is_whole.ensures ∙ ap whole_head h) (y.before.before.before.before.before.core-by.ensures ∙ ap core_of h) (sym c.before.before.before.before.before.before.before.enum_told.given.1 ∙ g) c.before.before.before.before.set-up.ensures
+    let g = nb-gated s a.t a.stream e p m r (x.before.before.before.before.before.core-by.ensures ∙ ap core_of x.before.before.before.before.before.before.before.get-head.ensures) x.before.before.before.params_at_lem.ensures x.before.life-at.ensures x.xfer-gate.ensures in
+    let h = x.before.before.before.before.before.before.before.get-head.ensures in
+    nb-set-up s a.t a.stream e p m r l (x.before.before.before.before.before.before.is_whole.ensures ∙ ap whole_head h) (x.before.before.before.before.before.core-by.ensures ∙ ap core_of h) (sym c.before.before.before.before.before.before.before.enum_told.given.1 ∙ g) c.before.before.before.before.set-up.ensures
 
 returns-4 : tie.Need-returns-4
 returns-4 c =
     let o = c.before.before.before.before.before.before in
     let x = o.before.before.before.before.before.before.before.before in
-    let y = x.before.before.before in
-    let d = y.before.before.before.before.before.before.before.before.before in
+    let d = x.before.before.before.before.before.before.before.before.before in
     let a = d.before.before.before.before.before.before.before.args in
     let s = a.state.now in
     let e = a.payload.now in
@@ -90,9 +82,9 @@ returns-4 c =
     let m = a.message.now in
     let r = a.result.now in
     let l = sym d.before.both.ensures ∙ not-false _ d.if1.false in
-    let g = nb-gated s a.t a.stream e p m r (y.before.before.before.before.before.core-by.ensures ∙ ap core_of y.before.before.before.before.before.before.before.get-head.ensures) y.before.before.before.params_at_lem.ensures y.before.life-at.ensures y.Mode-of.ensures x.before.fits-at.ensures x.xfer-gate.ensures in
+    let g = nb-gated s a.t a.stream e p m r (x.before.before.before.before.before.core-by.ensures ∙ ap core_of x.before.before.before.before.before.before.before.get-head.ensures) x.before.before.before.params_at_lem.ensures x.before.life-at.ensures x.xfer-gate.ensures in
     let b : Bytes s = λ k. (d.before.before.before.before.before.before.slice-known.given k).fits in
-    nb-open s a.t a.stream e p m r l b _ (sym o.before.before.before.before.before.before.gate2.given.1 ∙ g) o.before.before.before.before.places_of.ensures y.Mode-of.ensures o.submit.ensures
+    nb-open s a.t a.stream e p m r l b _ (sym o.before.before.before.before.before.before.gate2.given.1 ∙ g) o.before.before.before.before.places_of.ensures o.submit.ensures
 
 pub pcm-xfer-nb-spec : {M : Type 1} → statement M
 pcm-xfer-nb-spec =
@@ -103,9 +95,9 @@ pcm-xfer-nb-spec =
     get-head-requires
     (λ c κs. tt)
     (λ c κs. c.is_whole.ensures)
-    (λ c κs. tt) life-at-requires (λ c κs. tt) (λ c κs. tt) (λ c κs. tt) (λ c. search rules) (λ c κs. tt) (λ c. search rules)
+    (λ c κs. tt) life-at-requires (λ c κs. tt) (λ c. search rules) (λ c κs. tt) (λ c. search rules)
     set-up-requires
-    (λ c. search rules) (λ c κs. tt) submit-requires (λ c. search rules)
+    (λ c. search rules) (λ c κs. tt) (λ c κs. tt) (λ c. search rules)
     returns-2
     (λ c. search rules) (λ c. search rules)
     returns-3

@@ -18,12 +18,12 @@ get-head-requires c κs =
 returns-2 : tie.Need-returns-2
 returns-2 c =
     let n = c.before.before.before.before in
-    let o = n.before in
+    let o = n.before.before in
     let h = o.before in
     let d = h.before in
     let a = d.before.before.before.before.args in
     c.before.before.show.ensures
-    ∙ pending-told a.state.now a.result.now (sym d.before.both.ensures ∙ not-false _ d.if1.false) (o.core-of.ensures ∙ ap core_of h.get-head.ensures) n.count_at.ensures
+    ∙ pending-told a.state.now a.result.now (sym d.before.both.ensures ∙ not-false _ d.if1.false) (o.core-of.ensures ∙ ap core_of h.get-head.ensures) n.before.pending-in.ensures n.count.ensures
 
 pub pending-count-spec : {M : Type 1} → statement M
 pending-count-spec =
@@ -32,5 +32,5 @@ pending-count-spec =
     (λ c κs. tt)
     returns
     get-head-requires
-    (λ c κs. tt) (λ c κs. tt) (λ c κs. tt) (λ c. search rules)
+    (λ c κs. tt) (λ c κs. tt) (λ c κs. tt) (λ c κs. tt) (λ c. search rules)
     returns-2)

@@ -10,12 +10,12 @@ returns c = sym (token-out _ _ c.if1.true)
 
 returns-2 : tie.Need-returns-2
 unfolding token_in
-returns-2 c = token-in _ _ _ c.before.before.before.if1.false (λ i. record { state = c.before.before.get-u16.ensures i; mode = c.before.get-u162.ensures i; status = c.get-u32.ensures i })
+returns-2 c = token-in _ _ _ c.before.before.if1.false (λ i. record { state = c.before.get-u32.ensures i; status = c.get-u322.ensures i })
 
 pub token-at-spec : {M : Type 1} → statement M
 token-at-spec =
     tie.close
     (tie.spec
     returns
-    (λ c. search rules) (λ c. search rules) (λ c κs. search rules) (λ c. search rules) (λ c κs. search rules) (λ c. search rules) (λ c κs. search rules)
+    (λ c. search rules) (λ c. search rules) (λ c κs. search rules) (λ c. search rules) (λ c κs. search rules)
     returns-2)

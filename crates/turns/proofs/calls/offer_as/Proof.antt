@@ -1,7 +1,7 @@
 -- The refusals of a turn, then what rule 1 submits. Assumes nothing.
 use borrow.Author.Rules.{rules}
 use borrow.Author.Tests.{not-true, not-false}
-use mathlib.Core.Path.{refl, ap, ◌∙◌}
+use mathlib.Core.Path.{ap, ◌∙◌}
 use Rattle.turns.specs.ConsistentLaws.{consistent-facts}
 use Rattle.turns.specs.Calls.{offer_by}
 use Rattle.turns.specs.Types.{Choice}
@@ -22,7 +22,7 @@ returns-4 : tie.Need-returns-4
 returns-4 c = search (rules, offer-other, passed, failed, not-false)
 
 choose-requires : tie.Need-choose-requires
-choose-requires c κs = (refl, (consistent-facts _ (passed c.before.before.before.is-consistent.ensures c.before.before.if3.false)).placed)
+choose-requires c κs = (consistent-facts _ (passed c.before.before.before.is-consistent.ensures c.before.before.if3.false)).placed.room
 
 offer-by-requires : tie.Need-offer-by-requires
 offer-by-requires c κs = (consistent-facts _ (passed c.before.before.before.before.is-consistent.ensures c.before.before.before.if3.false)).paced.within

@@ -1,6 +1,6 @@
 -- A chain of refusals, then the rules, then the count. Assumes nothing.
 use borrow.Author.Rules.{rules}
-use mathlib.Core.Path.{refl, ap, ◌∙◌}
+use mathlib.Core.Path.{ap, ◌∙◌}
 use Rattle.codes.specs.SaysLaws.{passes, stops}
 use Rattle.turns.specs.ConsistentLaws.{both, consistent-facts}
 use Rattle.turns.specs.KeepLaws.{turns-left, good_left}
@@ -31,7 +31,7 @@ returns-4 c =
 turn-requires : tie.Need-turn-requires
 turn-requires c κs =
     let f = consistent-facts _ (passed c.before.before.before.before.is-consistent.ensures c.before.before.before.if3.false) in
-    (refl, f.placed, f.paced.within, good_left _ f (both _ _ (passed c.before.before.runs_as.ensures c.before.if4.false)).0)
+    (f.placed, f.paced.within, good_left _ f (both _ _ (passed c.before.before.runs_as.ensures c.before.if4.false)).0)
 
 counted-requires : tie.Need-counted-requires
 counted-requires c κs =

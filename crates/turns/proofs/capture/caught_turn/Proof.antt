@@ -1,6 +1,6 @@
 -- The rules' turn, counted, and then what it accepted. Assumes nothing.
 use borrow.Author.Rules.{rules}
-use mathlib.Core.Path.{refl, sym, ap, ◌∙◌, subst}
+use mathlib.Core.Path.{sym, ap, ◌∙◌, subst}
 use Prim.Native.Nat.{◌+◌, ◌≤◌}
 use Rattle.turns.specs.Rules.{counted_of}
 use Rattle.turns.specs.Types.{Step}
@@ -10,7 +10,7 @@ use Rattle.turns.proofs.capture.caught_turn.Statement.{statement}
 use Rattle.turns.proofs.capture.caught_turn.Tie as tie
 
 turn-requires : tie.Need-turn-requires
-turn-requires c κs = let f = c.before.requires.0 in (refl, f.placed, f.paced.within, good_left _ f c.before.requires.1)
+turn-requires c κs = let f = c.before.requires.0 in (f.placed, f.paced.within, good_left _ f c.before.requires.1)
 
 counted-requires : tie.Need-counted-requires
 counted-requires c κs = turns-left _ _ _ _ _ c.turn.ensures c.before.before.requires.0 c.before.before.requires.1

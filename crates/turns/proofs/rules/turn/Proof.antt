@@ -7,11 +7,8 @@ use Rattle.turns.specs.Rules.{turn_of}
 use Rattle.turns.proofs.rules.turn.Statement.{statement}
 use Rattle.turns.proofs.rules.turn.Tie as tie
 
-choose-requires : tie.Need-choose-requires
-choose-requires c κs = (c.requires.0, c.requires.1)
-
 submit-requires : tie.Need-submit-requires
-submit-requires c κs = let p = few-slots _ c.before.before.before.before.requires.1 in omega arith
+submit-requires c κs = let p = few-slots _ c.before.before.before.before.requires.0 in omega arith
 
 hear-requires : tie.Need-hear-requires
 hear-requires c κs = (search (rules, tail-stays), search (rules, good-stays))
@@ -36,4 +33,4 @@ unfolding turn_of
 returns-3 c = rw (c.hear2.ensures, ← c.before.before.before.choose.ensures, c.before.enum-told3.given.1)
 
 pub turn_spec : {M : Type 1} → statement M
-turn_spec = tie.close (tie.spec choose-requires (λ c. search rules) (λ c κs. search rules) submit-requires hear-requires (λ c. search rules) (λ c. search rules) (λ c κs. search rules) returns returns-2 returns-3)
+turn_spec = tie.close (tie.spec (λ c κs. search rules) (λ c. search rules) (λ c κs. search rules) submit-requires hear-requires (λ c. search rules) (λ c. search rules) (λ c κs. search rules) returns returns-2 returns-3)

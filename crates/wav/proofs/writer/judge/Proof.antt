@@ -53,8 +53,7 @@ returns-4 c =
     passes _ _ _ t.0
     (passes _ _ _ (lt-ltb a.rate 14 (omega (arith, c.before.before.before.if1.false)))
     (passes _ _ _ (lt-ltb 0 a.channels (omega (arith, c.before.before.if2.false)))
-    (passes _ _ _ (lt-ltb a.channels 256 (search rules))
-    (stops _ _ _ (ne_eqb (a.len % block_of a.channels a.format) 0 (λ e. c.if3.true (ap (λ (n : ℕ). a.len % n) w ∙ e))) refl))))
+    (stops _ _ _ (ne_eqb (a.len % block_of a.channels a.format) 0 (λ e. c.if3.true (ap (λ (n : ℕ). a.len % n) w ∙ e))) refl)))
 
 returns-5 : tie.Need-returns-5
 unfolding wrote_of
@@ -66,8 +65,7 @@ returns-5 c =
     passes _ _ _ t.0
     (passes _ _ _ (lt-ltb a.rate 14 (omega (arith, c.before.before.before.before.if1.false)))
     (passes _ _ _ (lt-ltb 0 a.channels (omega (arith, c.before.before.before.if2.false)))
-    (passes _ _ _ (lt-ltb a.channels 256 (search rules))
-    (passes _ _ _ (eq-eqb (a.len % block_of a.channels a.format) 0 (ap (λ (n : ℕ). a.len % n) (sym w) ∙ c.before.if3.false)) (stops _ _ _ (lt-leb (padded a.len) 4294967259 (omega (arith, c.if4.true))) refl)))))
+    (passes _ _ _ (eq-eqb (a.len % block_of a.channels a.format) 0 (ap (λ (n : ℕ). a.len % n) (sym w) ∙ c.before.if3.false)) (stops _ _ _ (lt-leb (padded a.len) 4294967259 (omega (arith, c.if4.true))) refl))))
 
 returns-6 : tie.Need-returns-6
 unfolding wrote_of
@@ -79,8 +77,7 @@ returns-6 c =
     passes _ _ _ t.0
     (passes _ _ _ (lt-ltb a.rate 14 (omega (arith, c.before.before.before.before.before.if1.false)))
     (passes _ _ _ (lt-ltb 0 a.channels (omega (arith, c.before.before.before.before.if2.false)))
-    (passes _ _ _ (lt-ltb a.channels 256 (search rules))
-    (passes _ _ _ (eq-eqb (a.len % block_of a.channels a.format) 0 (ap (λ (n : ℕ). a.len % n) (sym w) ∙ c.before.before.if3.false)) (stops _ _ _ (lt-leb (padded a.len) 4294967259 (omega (arith, c.if5.true))) refl)))))
+    (passes _ _ _ (eq-eqb (a.len % block_of a.channels a.format) 0 (ap (λ (n : ℕ). a.len % n) (sym w) ∙ c.before.before.if3.false)) (stops _ _ _ (lt-leb (padded a.len) 4294967259 (omega (arith, c.if5.true))) refl))))
 
 returns-7 : tie.Need-returns-7
 unfolding wrote_of
@@ -92,9 +89,8 @@ returns-7 c =
     passes _ _ _ t.0
     (passes _ _ _ (lt-ltb a.rate 14 (omega (arith, c.before.before.before.before.before.before.if1.false)))
     (passes _ _ _ (lt-ltb 0 a.channels (omega (arith, c.before.before.before.before.before.if2.false)))
-    (passes _ _ _ (lt-ltb a.channels 256 (search rules))
     (passes _ _ _ (eq-eqb (a.len % block_of a.channels a.format) 0 (ap (λ (n : ℕ). a.len % n) (sym w) ∙ c.before.before.before.if3.false))
-    (passes _ _ _ (le-leb (padded a.len) 4294967259 (omega (arith, c.before.if5.false))) (stops _ _ _ (lt-leb (44 + padded a.len) a.room (omega (arith, c.if6.true))) refl))))))
+    (passes _ _ _ (le-leb (padded a.len) 4294967259 (omega (arith, c.before.if5.false))) (stops _ _ _ (lt-leb (44 + padded a.len) a.room (omega (arith, c.if6.true))) refl)))))
 
 returns-8 : tie.Need-returns-8
 unfolding wrote_of
@@ -106,10 +102,9 @@ returns-8 c =
     passes _ _ _ t.0
     (passes _ _ _ (lt-ltb a.rate 14 (omega (arith, c.before.before.before.before.before.before.if1.false)))
     (passes _ _ _ (lt-ltb 0 a.channels (omega (arith, c.before.before.before.before.before.if2.false)))
-    (passes _ _ _ (lt-ltb a.channels 256 (search rules))
     (passes _ _ _ (eq-eqb (a.len % block_of a.channels a.format) 0 (ap (λ (n : ℕ). a.len % n) (sym w) ∙ c.before.before.before.if3.false))
     (passes _ _ _ (le-leb (padded a.len) 4294967259 (omega (arith, c.before.if5.false)))
-    (passes _ _ _ (le-leb (44 + padded a.len) a.room (omega (arith, c.if6.false))) refl))))))
+    (passes _ _ _ (le-leb (44 + padded a.len) a.room (omega (arith, c.if6.false))) refl)))))
 
 pub judge-spec : {M : Type 1} → statement M
 judge-spec =

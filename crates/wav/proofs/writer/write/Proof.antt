@@ -1,54 +1,51 @@
--- `wav::writer::write` meets its contract: a number that is out of range is refused as it would be later. Assumes nothing.
-use mathlib.Core.Path.{◌≡◌, refl, ap, ◌∙◌}
-use Prim.Native.Nat.{ℕ}
-use native.Mathlib.Omega.{arith}
-use lib.Dec.{ltb}
+-- `wav::writer::write` meets its contract: by what was judged. Assumes nothing.
+use mathlib.Core.Path.{◌≡◌, sym, ap, ◌∙◌}
 use lib.ListN.{length}
 use borrow.Author.Rules.{rules}
-use borrow.Author.Tests.{le-ltb}
-use Rattle.codes.specs.SaysLaws.{stops}
-use Rattle.codes.specs.Codes.{among}
-use Rattle.wav.specs.Wave.{wave_formats, wrote_of, written_by, file_of}
-use Rattle.wav.specs.WriteLaws.{none_above, refuses-all-the-same}
-use Rattle.wav.specs.Types.{WroteWave}
+use Rattle.wav.specs.Wave.{wrote_of, written_by, file_of}
+use Rattle.wav.specs.WriteLaws.{done}
+use Rattle.wav.specs.Types.{WroteWave, Done, BadLength}
 use Rattle.wav.specs.declared.writer.WroteWave.TheVariants.{BadSound}
 use Rattle.wav.proofs.writer.write.Statement.{statement}
 use Rattle.wav.proofs.writer.write.Tie as tie
 
+fill-requires : tie.Need-fill-requires
+fill-requires c κs =
+    let a = c.before.before.before.before.before.before.before.args in
+    let g = c.before.before.said.given in
+    let e : Done g.0.0 ≡ wrote_of a.channels a.format a.rate (length a.frames.now) (length a.out.now) = sym g.1 ∙ c.before.before.before.before.judge.ensures in
+    sym e ∙ ap Done (done a.channels a.format a.rate (length a.frames.now) (length a.out.now) g.0.0 e).0
+
 returns : tie.Need-returns
-unfolding wrote_of
 returns c =
-    let a = c.before.before.before.args in
-    let e : BadSound ≡ wrote_of a.channels a.format a.rate (length a.frames.now) (length a.out.now) = stops _ _ _ (none_above a.format c.if1.true) refl in
-    (e, ap (λ (x : WroteWave). written_by x (file_of a.channels a.format a.rate a.frames.now) a.out.now) e)
+    let a = c.before.before.before.before.before.before.before.before.before.before.args in
+    let g = c.before.before.before.before.before.said.given in
+    let e : Done g.0.0 ≡ wrote_of a.channels a.format a.rate (length a.frames.now) (length a.out.now) = sym g.1 ∙ c.before.before.before.before.before.before.before.judge.ensures in
+    let n = (done a.channels a.format a.rate (length a.frames.now) (length a.out.now) g.0.0 e).0 in
+    (e, c.before.before.fill.ensures ∙ ap (λ (x : WroteWave). written_by x (file_of a.channels a.format a.rate a.frames.now) a.out.now) (sym (ap Done n) ∙ e))
 
 returns-2 : tie.Need-returns-2
-unfolding wrote_of
 returns-2 c =
-    let a = c.before.before.before.before.args in
-    let e : BadSound ≡ wrote_of a.channels a.format a.rate (length a.frames.now) (length a.out.now) =
-    refuses-all-the-same (among a.format wave_formats) _ (stops _ _ _ (le-ltb a.rate 14 c.if2.true) refl) in
+    let a = c.before.before.before.before.before.args in
+    let e : BadSound ≡ wrote_of a.channels a.format a.rate (length a.frames.now) (length a.out.now) = sym c.enum_told.given.1 ∙ c.before.before.judge.ensures in
     (e, ap (λ (x : WroteWave). written_by x (file_of a.channels a.format a.rate a.frames.now) a.out.now) e)
 
 returns-3 : tie.Need-returns-3
-unfolding wrote_of
 returns-3 c =
     let a = c.before.before.before.before.before.args in
-    let e : BadSound ≡ wrote_of a.channels a.format a.rate (length a.frames.now) (length a.out.now) =
-    refuses-all-the-same (among a.format wave_formats) _
-    (refuses-all-the-same (ltb a.rate 14) _ (refuses-all-the-same (ltb 0 a.channels) _ (stops _ _ _ (le-ltb a.channels 256 c.if3.true) refl))) in
+    let e : BadLength ≡ wrote_of a.channels a.format a.rate (length a.frames.now) (length a.out.now) = sym c.enum-told2.given.1 ∙ c.before.before.judge.ensures in
     (e, ap (λ (x : WroteWave). written_by x (file_of a.channels a.format a.rate a.frames.now) a.out.now) e)
 
 pub write_spec : {M : Type 1} → statement M
 write_spec =
     tie.close
     (tie.spec
+    (λ c κs. tt)
+    (λ c. search rules)
+    fill-requires
+    (λ c. search rules)
+    (λ c. search rules)
+    (λ c. search rules)
     returns
     returns-2
-    returns-3
-    (λ c. search rules)
-    (λ c. search rules)
-    (λ c. search rules)
-    (λ c κs. search rules)
-    (λ c. search rules)
-    (λ c. search rules))
+    returns-3)
