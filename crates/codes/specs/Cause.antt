@@ -1,6 +1,6 @@
 -- "Refusals: 2 and 3 keep number and place and carry the status that caused them, or none." At the C boundary both stand in one word of 64 bits, and nothing is lost there.
 -- Assumes nothing.
-use Rattle.std.specs.Prelude.{◌≡◌, refl, Bool, true, false, List, [], ◌∷◌, ℕ, ◌+◌, ◌*◌, ◌/◌, ◌%◌, ◌<◌, eqb}
+use Rattle.std.specs.Prelude.{◌≡◌, refl, Bool, List, [], ◌∷◌, ℕ, ◌+◌, ◌*◌, ◌/◌, ◌%◌, eqb}
 use Rattle.std.proofs.Common.{sym, ap, ◌∙◌, arith, ne_eqb}
 use Rattle.codes.specs.Says.{Says, says, pick}
 use Rattle.codes.specs.Answers.{cause_values, says_refusal, cause_word, high_half, refusal_word}

@@ -3,13 +3,13 @@ ghost use Rattle.std.specs.Prelude.{◌≡◌};
 ghost use Rattle.codes.specs.Answers.{says_refusal, cause_word, high_half, refusal_word};
 
 // What caused 2 or 3: the device's own word, or no status at all.
-#[derive(Drop)]
+#[derive(Clone, Copy)]
 pub enum Cause {
     NoStatus,
     Status(u32),
 }
 
-#[derive(Drop)]
+#[derive(Clone, Copy)]
 pub enum Refusal {
     InvalidParam,
     IoError(Cause),

@@ -5,7 +5,7 @@ ghost use Rattle.codes.specs.Events.{event_codes, event_codes_of, event_code, sa
 
 use crate::tests::both;
 
-#[derive(Drop)]
+#[derive(Clone, Copy)]
 pub enum NotificationType {
     JackConnected,
     JackDisconnected,
@@ -15,7 +15,7 @@ pub enum NotificationType {
 }
 
 // What the code of an event is.
-#[derive(Drop)]
+#[derive(Clone, Copy)]
 pub enum FoundNotification {
     Is(NotificationType),
     IoError,

@@ -9,7 +9,7 @@ use crate::formats::PcmFormat;
 use crate::rates::{FoundRate, PcmRate};
 
 // The mask bit of a format's or a rate's number.
-#[derive(Drop)]
+#[derive(Clone, Copy)]
 pub enum FoundBit {
     Is(u64),
     InvalidParam,
@@ -24,7 +24,7 @@ fn bit_of(bits: u64, mask: u64) -> bool
 }
 
 // Features of a device.
-#[derive(Drop)]
+#[derive(Clone, Copy)]
 pub struct DeviceFeatures {
     pub bits: u64,
 }
@@ -40,7 +40,7 @@ impl DeviceFeatures {
 }
 
 // Features of a jack.
-#[derive(Drop)]
+#[derive(Clone, Copy)]
 pub struct JackFeatures {
     pub bits: u32,
 }
@@ -62,7 +62,7 @@ impl JackFeatures {
 }
 
 // A feature of a PCM stream.
-#[derive(Drop)]
+#[derive(Clone, Copy)]
 pub enum PcmFeature {
     ShmemHost,
     ShmemGuest,
@@ -72,7 +72,7 @@ pub enum PcmFeature {
 }
 
 // Features of a PCM stream.
-#[derive(Drop)]
+#[derive(Clone, Copy)]
 pub struct PcmFeatures {
     pub bits: u32,
 }
@@ -125,7 +125,7 @@ impl PcmFeatures {
 }
 
 // Formats of a PCM stream.
-#[derive(Drop)]
+#[derive(Clone, Copy)]
 pub struct PcmFormats {
     pub bits: u64,
 }
@@ -214,7 +214,7 @@ impl PcmFormats {
 }
 
 // Rates of a PCM stream.
-#[derive(Drop)]
+#[derive(Clone, Copy)]
 pub struct PcmRates {
     pub bits: u64,
 }

@@ -3,7 +3,7 @@ ghost use Rattle.std.specs.Prelude.{◌≡◌};
 ghost use Rattle.codes.specs.Codes.{number_says};
 ghost use Rattle.codes.specs.Formats.{format_number, says_format, sample_bits, storage_bits};
 
-#[derive(Drop)]
+#[derive(Clone, Copy)]
 pub enum PcmFormat {
     ImaAdpcm,
     MuLaw,
@@ -33,7 +33,7 @@ pub enum PcmFormat {
 }
 
 // What a format number is.
-#[derive(Drop)]
+#[derive(Clone, Copy)]
 pub enum FoundFormat {
     Is(PcmFormat),
     InvalidParam,

@@ -1,5 +1,7 @@
 // Codes and masks: formats, rates, flag sets, event kinds, request and status codes, channel
 // positions, versions, and the answers of a call with their numbers.
+#![tactic(auto)]
+
 mod answers;
 pub mod direction;
 mod events;

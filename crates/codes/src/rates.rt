@@ -3,7 +3,7 @@ ghost use Rattle.std.specs.Prelude.{◌≡◌};
 ghost use Rattle.codes.specs.Codes.{number_says};
 ghost use Rattle.codes.specs.Rates.{rate_number, says_rate, hz_table, hz_of, place_of};
 
-#[derive(Drop)]
+#[derive(Clone, Copy)]
 pub enum PcmRate {
     Rate5512,
     Rate8000,
@@ -22,7 +22,7 @@ pub enum PcmRate {
 }
 
 // What a rate number, or a number of Hz, is.
-#[derive(Drop)]
+#[derive(Clone, Copy)]
 pub enum FoundRate {
     Is(PcmRate),
     InvalidParam,

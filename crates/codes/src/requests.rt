@@ -3,7 +3,7 @@ ghost use Rattle.std.specs.Prelude.{◌≡◌};
 ghost use Rattle.codes.specs.Codes.{code_says};
 ghost use Rattle.codes.specs.Requests.{request_codes, request_code, says_request};
 
-#[derive(Drop)]
+#[derive(Clone, Copy)]
 pub enum RequestCode {
     RJackInfo,
     RJackRemap,
@@ -17,7 +17,7 @@ pub enum RequestCode {
 }
 
 // What the code of a request is.
-#[derive(Drop)]
+#[derive(Clone, Copy)]
 pub enum FoundRequest {
     Is(RequestCode),
     InvalidParam,

@@ -2,7 +2,7 @@
 ghost use Rattle.std.specs.Prelude.{◌≡◌};
 ghost use Rattle.codes.specs.Statuses.{status_code, says_status, status_says, is_ok};
 
-#[derive(Drop)]
+#[derive(Clone, Copy)]
 pub enum StatusCode {
     SOk,
     SBadMsg,
@@ -11,7 +11,7 @@ pub enum StatusCode {
 }
 
 // What the status of an answer is: one of the four, or a number that the standard does not name.
-#[derive(Drop)]
+#[derive(Clone, Copy)]
 pub enum FoundStatus {
     Is(StatusCode),
     Unknown(u32),

@@ -6,14 +6,14 @@ ghost use Rattle.codes.specs.Versions.{version_numbers, version_number, says_ver
 use crate::flags::DeviceFeatures;
 use crate::tests::both;
 
-#[derive(Drop)]
+#[derive(Clone, Copy)]
 pub enum Version {
     V12,
     V13,
 }
 
 // What a version number is.
-#[derive(Drop)]
+#[derive(Clone, Copy)]
 pub enum FoundVersion {
     Is(Version),
     InvalidParam,

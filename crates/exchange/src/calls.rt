@@ -19,13 +19,13 @@ use tables::{Verdict, Written, page_ok};
 use turns::Ring;
 
 // Ids of streams, ascending; those past the count are 0.
-#[derive(Drop)]
+#[derive(Clone, Copy)]
 pub struct StreamList {
     pub count: u32,
     pub ids: [u32; 127],
 }
 
-#[derive(Drop)]
+#[derive(Clone, Copy)]
 pub struct Step {
     pub sound: Sound,
     pub reply: Reply,

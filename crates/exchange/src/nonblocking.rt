@@ -17,21 +17,21 @@ use records::Query;
 use turns::{INDIRECT, Reading, Ring};
 
 // A request of so many bytes to send, the token of what was submitted, or a refusal.
-#[derive(Drop)]
+#[derive(Clone, Copy)]
 pub enum NbReply {
     Send(usize),
     Token(usize),
     Refused(Refusal),
 }
 
-#[derive(Drop)]
+#[derive(Clone, Copy)]
 pub struct NbStep {
     pub sound: Sound,
     pub reply: NbReply,
 }
 
 // What a completion, or finishing, comes to.
-#[derive(Drop)]
+#[derive(Clone, Copy)]
 pub struct NbEnd {
     pub sound: Sound,
     pub said: Outcome,

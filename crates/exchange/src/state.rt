@@ -8,7 +8,7 @@ use codes::life;
 use sound_core::{Core, Params, consistent};
 use pending::Pending;
 
-#[derive(Drop)]
+#[derive(Clone, Copy)]
 pub struct Sound {
     pub core: Core,
     // 170 jacks, 127 streams, 170 channel maps, where `tables` has them.
@@ -34,7 +34,7 @@ fn no_params() -> [Params; 127]
 }
 
 // A count; an inconsistent state tells none.
-#[derive(Drop)]
+#[derive(Clone, Copy)]
 pub enum Configured {
     Is(u32),
     InvalidParam,

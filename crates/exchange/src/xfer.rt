@@ -16,13 +16,13 @@ use turns::{
 };
 
 // A request of so many bytes to send, or what the start or the last turn says.
-#[derive(Drop)]
+#[derive(Clone, Copy)]
 pub enum XferReply {
     Send(usize),
     Says(Said),
 }
 
-#[derive(Drop)]
+#[derive(Clone, Copy)]
 pub struct XferStep {
     pub sound: Sound,
     pub ring: Ring,

@@ -17,6 +17,8 @@ pub data Got (s : List ℕ) : ℕ → List ℕ → List ℕ → Type 0 where
 
 pub got : (s : List ℕ) (o : ℕ) (ws vs : List ℕ) → Got s o ws vs → vs ≡ read_at o ws s
 got s o [] [] Got.end = refl
+got s o [] (v ∷ vs) e = elim e [ ]
+got s o (w ∷ ws) [] e = elim e [ ]
 got s o (w ∷ ws) (v ∷ vs) (Got.get e g) = ap₂ (λ (x : ℕ) (y : List ℕ). x ∷ y) e (got s (o + w) ws vs g)
 
 -- n is l after the values were stored at the layout's places, from o on
@@ -26,6 +28,8 @@ pub data Stored (n : List ℕ) : List ℕ → ℕ → List ℕ → List ℕ → 
 
 pub stored : (n l : List ℕ) (o : ℕ) (ws vs : List ℕ) → Stored n l o ws vs → n ≡ sets l o (write ws vs)
 stored n l o [] [] Stored.end = refl
+stored n l o [] (v ∷ vs) e = elim e [ ]
+stored n l o (w ∷ ws) [] e = elim e [ ]
 stored n l o (w ∷ ws) (v ∷ vs) (Stored.put {m = m} e s) =
     stored n m (o + w) ws vs s
     ∙ ap (λ (k : List ℕ). sets k (o + w) (write ws vs)) e

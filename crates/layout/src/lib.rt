@@ -4,6 +4,8 @@
 //
 // A number that lies within the slice is read and written by its bytes after its place is tested, which
 // compiles to one access to memory; only one that reaches past the end goes byte by byte.
+#![tactic(auto)]
+
 ghost use Rattle.std.specs.Prelude.{◌≡◌, ◌+◌, ◌≤◌, length, take};
 ghost use Rattle.std.proofs.lemmas.List.Edits.{sets};
 ghost use Rattle.layout.specs.Bytes.{le, un, bytes_at, num_at};

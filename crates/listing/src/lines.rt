@@ -10,14 +10,14 @@ use codes::Refusal;
 use records::{PcmInfo, ReadPcmInfo};
 
 // A line of so many bytes, or a slice that is too short for it.
-#[derive(Drop)]
+#[derive(Clone, Copy)]
 pub enum Line {
     Is(usize),
     BadLength,
 }
 
 // The longest line, "126 output 255-255", has 19 bytes.
-#[derive(Drop)]
+#[derive(Clone, Copy)]
 struct Text {
     bytes: [u8; 32],
     len: usize,

@@ -10,7 +10,7 @@ use tables::PAGE;
 pub(crate) const HEADER: usize = 4;
 
 // So many streams, at most the 127 that a page holds, or a refusal.
-#[derive(Drop)]
+#[derive(Clone, Copy)]
 pub enum Listing {
     Streams(u8),
     Refused(Refusal),

@@ -20,7 +20,7 @@ pub const PAGE: usize = 4096;
 pub const HEADER: usize = 4;
 
 // The records that a query asks for: the first one, and how many.
-#[derive(Drop)]
+#[derive(Clone, Copy)]
 pub enum Range {
     Of(usize, usize),
     Bad,

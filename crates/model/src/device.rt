@@ -12,7 +12,7 @@ const STREAMS: usize = 127;
 const MAPS: usize = 170;
 
 // How many records each table has.
-#[derive(Drop)]
+#[derive(Clone, Copy)]
 pub struct Counts {
     pub jacks: u32,
     pub streams: u32,
@@ -20,13 +20,13 @@ pub struct Counts {
 }
 
 // The parameters that a stream was set to, all 24 bytes as received; `known` is 0 where it never was.
-#[derive(Drop)]
+#[derive(Clone, Copy)]
 pub struct Held {
     pub known: u8,
     pub set: SetParameters,
 }
 
-#[derive(Drop)]
+#[derive(Clone, Copy)]
 pub struct Device {
     pub counts: Counts,
     pub jacks: [JackInfo; 170],
@@ -38,14 +38,14 @@ pub struct Device {
 }
 
 // What a stream holds.
-#[derive(Drop)]
+#[derive(Clone, Copy)]
 pub enum HeldRead {
     Is(SetParameters),
     Nothing,
     InvalidParam,
 }
 
-#[derive(Drop)]
+#[derive(Clone, Copy)]
 pub enum Count {
     Is(u64),
     InvalidParam,

@@ -3,14 +3,14 @@ use crate::device::Device;
 use codes::Refusal;
 
 // An answer of so many bytes stands in the lent slice, or nothing was looked at.
-#[derive(Drop)]
+#[derive(Clone, Copy)]
 pub enum Control {
     Answer(usize),
     Refused(Refusal),
 }
 
 // What a request or a transfer leaves, and what was said.
-#[derive(Drop)]
+#[derive(Clone, Copy)]
 pub struct Answered {
     pub device: Device,
     pub said: Control,

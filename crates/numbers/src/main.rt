@@ -1,5 +1,6 @@
 // Prints every size, offset and number of the wire as the libraries hand them out, under the names
 // of linux/virtio_snd.h, so that the two can be compared line by line (tests/header).
+#![tactic(auto)]
 mod codes_of;
 mod controls;
 mod fields;

@@ -7,19 +7,19 @@ use crate::table::{Pending, Token, token_at};
 use codes::{Cause, Refusal, StatusCode};
 
 // What a completion, or finishing, comes to.
-#[derive(Drop)]
+#[derive(Clone, Copy)]
 pub enum Outcome {
     Done,
     Refused(Refusal),
 }
 
-#[derive(Drop)]
+#[derive(Clone, Copy)]
 pub struct Told {
     pub token: Token,
     pub said: Outcome,
 }
 
-#[derive(Drop)]
+#[derive(Clone, Copy)]
 pub struct Judged {
     pub table: Pending,
     pub said: Outcome,

@@ -13,7 +13,7 @@ pub const PLACES: usize = 16;
 pub const INDIRECT_PLACES: usize = 32;
 
 // The place of a submission, or why it gets none.
-#[derive(Drop)]
+#[derive(Clone, Copy)]
 pub enum Spot {
     Shut(Refusal),
     Place(usize),

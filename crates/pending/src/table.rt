@@ -4,19 +4,19 @@ ghost use Rattle.pending.specs.Table.{free_token, new_pending, token_at, count_o
 
 // `state` is 0 where the token is free, 1 where its submission waits for the completion, and any other
 // number where it is completed, with this status.
-#[derive(Drop)]
+#[derive(Clone, Copy)]
 pub struct Token {
     pub state: u32,
     pub status: u32,
 }
 
-#[derive(Drop)]
+#[derive(Clone, Copy)]
 pub struct Pending {
     pub tokens: [Token; 32],
 }
 
 // What a reader is told of a token.
-#[derive(Drop)]
+#[derive(Clone, Copy)]
 pub enum Seen {
     Free,
     Waits,

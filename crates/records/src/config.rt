@@ -7,7 +7,7 @@ ghost use Rattle.records.specs.Config.{config_row, config_says, read_of, config_
 use crate::written::Written;
 
 // The count of control elements is 0 where there is none.
-#[derive(Drop)]
+#[derive(Clone, Copy)]
 pub struct Config {
     pub jacks: u32,
     pub streams: u32,
@@ -15,7 +15,7 @@ pub struct Config {
     pub controls: u32,
 }
 
-#[derive(Drop)]
+#[derive(Clone, Copy)]
 pub enum ReadConfig {
     Is(Config),
     BadLength,

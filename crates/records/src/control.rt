@@ -6,7 +6,7 @@ ghost use Rattle.records.specs.Records.{query, query_values, says_query, remap, 
 use crate::written::Written;
 
 // VirtIOSndQueryInfo: asks for `count` records of `size` bytes, from number `start` on.
-#[derive(Drop)]
+#[derive(Clone, Copy)]
 pub struct Query {
     pub code: u32,
     pub start: u32,
@@ -14,7 +14,7 @@ pub struct Query {
     pub size: u32,
 }
 
-#[derive(Drop)]
+#[derive(Clone, Copy)]
 pub enum ReadQuery {
     Is(Query),
     BadLength,
@@ -52,7 +52,7 @@ impl Query {
 }
 
 // VirtIOSndJackRemap: asks for a jack's new association and sequence.
-#[derive(Drop)]
+#[derive(Clone, Copy)]
 pub struct Remap {
     pub code: u32,
     pub jack: u32,
@@ -60,7 +60,7 @@ pub struct Remap {
     pub sequence: u32,
 }
 
-#[derive(Drop)]
+#[derive(Clone, Copy)]
 pub enum ReadRemap {
     Is(Remap),
     BadLength,
@@ -100,13 +100,13 @@ impl Remap {
 }
 
 // VirtIOSndPcmHdr: a command to a stream, the whole of the message.
-#[derive(Drop)]
+#[derive(Clone, Copy)]
 pub struct PcmCommand {
     pub code: u32,
     pub stream: u32,
 }
 
-#[derive(Drop)]
+#[derive(Clone, Copy)]
 pub enum ReadPcmCommand {
     Is(PcmCommand),
     BadLength,
@@ -149,7 +149,7 @@ impl PcmCommand {
 
 // VirtIOSndPcmSetParams: the parameters of a stream. The last byte is kept as it stands, like
 // padding; calls send 0.
-#[derive(Drop)]
+#[derive(Clone, Copy)]
 pub struct SetParameters {
     pub code: u32,
     pub stream: u32,
@@ -162,7 +162,7 @@ pub struct SetParameters {
     pub zero: u8,
 }
 
-#[derive(Drop)]
+#[derive(Clone, Copy)]
 pub enum ReadSetParameters {
     Is(SetParameters),
     BadLength,

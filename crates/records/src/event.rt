@@ -8,13 +8,13 @@ use crate::written::Written;
 use codes::{FoundNotification, NotificationType};
 
 // VirtIOSndEvent: a notification's code and its data.
-#[derive(Drop)]
+#[derive(Clone, Copy)]
 pub struct Event {
     pub code: u32,
     pub data: u32,
 }
 
-#[derive(Drop)]
+#[derive(Clone, Copy)]
 pub enum ReadEvent {
     Is(Event),
     BadLength,
@@ -48,7 +48,7 @@ impl Event {
 }
 
 // What an event says: its kind and its data, or that its code is unknown.
-#[derive(Drop)]
+#[derive(Clone, Copy)]
 pub enum Notice {
     Is(NotificationType, u32),
     // A change of a control element: which, and the mask of what changed.

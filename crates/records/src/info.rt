@@ -12,7 +12,7 @@ ghost use Rattle.records.specs.Positions.{says_position, position_says};
 use crate::written::Written;
 
 // VirtIOSndJackInfo: a jack. 7 bytes of padding.
-#[derive(Drop)]
+#[derive(Clone, Copy)]
 pub struct JackInfo {
     pub node: u32,
     pub features: u32,
@@ -24,7 +24,7 @@ pub struct JackInfo {
     pub padding6: u8,
 }
 
-#[derive(Drop)]
+#[derive(Clone, Copy)]
 pub enum ReadJackInfo {
     Is(JackInfo),
     BadLength,
@@ -72,7 +72,7 @@ impl JackInfo {
 }
 
 // VirtIOSndPcmInfo: a stream, with its channels from `min` to `max`. 5 bytes of padding.
-#[derive(Drop)]
+#[derive(Clone, Copy)]
 pub struct PcmInfo {
     pub node: u32,
     pub features: u32,
@@ -85,7 +85,7 @@ pub struct PcmInfo {
     pub padding4: u8,
 }
 
-#[derive(Drop)]
+#[derive(Clone, Copy)]
 pub enum ReadPcmInfo {
     Is(PcmInfo),
     BadLength,
@@ -135,7 +135,7 @@ impl PcmInfo {
 }
 
 // What a channel's position is.
-#[derive(Drop)]
+#[derive(Clone, Copy)]
 pub enum FoundPosition {
     Is(u8),
     InvalidParam,
@@ -164,7 +164,7 @@ fn byte_of(v: u64, i: usize) -> u8
 }
 
 // VirtIOSndChmapInfo: a channel map. 18 positions of one byte.
-#[derive(Drop)]
+#[derive(Clone, Copy)]
 pub struct ChannelMap {
     pub node: u32,
     pub direction: u8,
@@ -174,7 +174,7 @@ pub struct ChannelMap {
     pub positions16: u16,
 }
 
-#[derive(Drop)]
+#[derive(Clone, Copy)]
 pub enum ReadChannelMap {
     Is(ChannelMap),
     BadLength,

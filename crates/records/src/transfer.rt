@@ -6,12 +6,12 @@ ghost use Rattle.records.specs.Records.{transfer, transfer_values, says_transfer
 use crate::written::Written;
 
 // VirtIOSndPcmXfer: the head of a transfer; the payload follows it.
-#[derive(Drop)]
+#[derive(Clone, Copy)]
 pub struct Transfer {
     pub stream: u32,
 }
 
-#[derive(Drop)]
+#[derive(Clone, Copy)]
 pub enum ReadTransfer {
     Is(Transfer),
     BadLength,
@@ -43,13 +43,13 @@ impl Transfer {
 }
 
 // VirtIOSndPcmStatus: how a transfer ended.
-#[derive(Drop)]
+#[derive(Clone, Copy)]
 pub struct TransferStatus {
     pub status: u32,
     pub latency: u32,
 }
 
-#[derive(Drop)]
+#[derive(Clone, Copy)]
 pub enum ReadTransferStatus {
     Is(TransferStatus),
     BadLength,

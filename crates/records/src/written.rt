@@ -1,5 +1,5 @@
 // What writing a record says.
-#[derive(Drop)]
+#[derive(Clone, Copy)]
 pub enum Written {
     Done,
     BadLength,

@@ -12,7 +12,7 @@ use codes::{Cause, Refusal, both};
 use turns::{Track, is_consistent, is_idle};
 
 // What the checks of a transfer come to: a refusal, set-up first, or a transfer by periods.
-#[derive(Drop)]
+#[derive(Clone, Copy)]
 pub enum Gate {
     Shut(Refusal),
     SetUp,

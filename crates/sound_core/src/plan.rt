@@ -4,7 +4,7 @@ use codes::Refusal;
 use records::{PcmCommand, Query, Remap, SetParameters};
 
 // What is to be sent.
-#[derive(Drop)]
+#[derive(Clone, Copy)]
 pub enum Request {
     Query(Query),
     Remap(Remap),
@@ -13,7 +13,7 @@ pub enum Request {
 }
 
 // What a call results in. A list of streams stands beside it, since an enum holds no array.
-#[derive(Drop)]
+#[derive(Clone, Copy)]
 pub enum Value {
     Nothing,
     Number(u64),
@@ -23,7 +23,7 @@ pub enum Value {
 
 // What a call looks up in a table before it is decided: a jack's features, the field of a stream's
 // record that is asked for, or where a stream is in its lifecycle; for a capture its direction too.
-#[derive(Drop)]
+#[derive(Clone, Copy)]
 pub enum Look {
     Nothing,
     Jack { features: u32 },
@@ -32,7 +32,7 @@ pub enum Look {
     Directed { life: u8, direction: u8 },
 }
 
-#[derive(Drop)]
+#[derive(Clone, Copy)]
 pub enum Say {
     Send(Request),
     Done(Value),
@@ -40,7 +40,7 @@ pub enum Say {
 }
 
 // The one change to tables, parameters and lifecycles.
-#[derive(Drop)]
+#[derive(Clone, Copy)]
 pub enum Effect {
     Nothing,
     // So many records of the page that was judged.
@@ -52,7 +52,7 @@ pub enum Effect {
     Move { stream: u32, life: u8 },
 }
 
-#[derive(Drop)]
+#[derive(Clone, Copy)]
 pub struct Plan {
     pub core: Core,
     pub say: Say,

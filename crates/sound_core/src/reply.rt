@@ -8,7 +8,7 @@ use codes::Refusal;
 use records::{PcmCommand, Query, Remap, SetParameters};
 
 // A request of so many bytes to send, a result, or a refusal.
-#[derive(Drop)]
+#[derive(Clone, Copy)]
 pub enum Reply {
     Send(usize),
     Done(Value),

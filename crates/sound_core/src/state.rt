@@ -3,7 +3,7 @@ ghost use Rattle.std.specs.Prelude.{◌≡◌};
 ghost use Rattle.sound_core.specs.State.{new_core};
 
 // A number for each of the three tables.
-#[derive(Drop)]
+#[derive(Clone, Copy)]
 pub struct Counts {
     pub jacks: u32,
     pub streams: u32,
@@ -12,7 +12,7 @@ pub struct Counts {
 
 // What a stream was last set to. `known` is 0 where it never was: a byte and no bool, so that any
 // byte of a lent store stands for one state.
-#[derive(Drop)]
+#[derive(Clone, Copy)]
 pub struct Params {
     pub known: u8,
     pub buffer: u32,
@@ -24,7 +24,7 @@ pub struct Params {
 }
 
 // The four commands to a stream.
-#[derive(Drop)]
+#[derive(Clone, Copy)]
 pub enum Kind {
     Prepare,
     Release,
@@ -33,7 +33,7 @@ pub enum Kind {
 }
 
 // What can be asked of a stream's record.
-#[derive(Drop)]
+#[derive(Clone, Copy)]
 pub enum Field {
     Rates,
     Formats,
@@ -41,7 +41,7 @@ pub enum Field {
     Features,
 }
 
-#[derive(Drop)]
+#[derive(Clone, Copy)]
 pub enum Call {
     SetParams {
         stream: u32,
@@ -74,7 +74,7 @@ pub enum Call {
 }
 
 // The open exchange: which answer is waited for, and the call that waits.
-#[derive(Drop)]
+#[derive(Clone, Copy)]
 pub enum Stage {
     Idle,
     JacksAsked(Call),
@@ -83,7 +83,7 @@ pub enum Stage {
     Sent(Call),
 }
 
-#[derive(Drop)]
+#[derive(Clone, Copy)]
 pub struct Core {
     // As configured.
     pub counts: Counts,

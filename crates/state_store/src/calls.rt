@@ -30,7 +30,7 @@ pub const RESULT: usize = 512;
 
 // The start of a transfer, as far as the state goes: an answer as one word, or a transfer by
 // periods of so many bytes, for the ring to start.
-#[derive(Drop)]
+#[derive(Clone, Copy)]
 pub enum Opening {
     Says(u64),
     Open(u32),

@@ -8,7 +8,7 @@ use codes::both;
 use sound_core::{Call, Counts, Field, Kind, Params, Stage};
 
 // A stage and the call that waits, by numbers; what a call has no use for is 0.
-#[derive(Drop)]
+#[derive(Clone, Copy)]
 pub struct Flat {
     pub ready: u8,
     pub stage: u8,
@@ -25,7 +25,7 @@ pub struct Flat {
 }
 
 // What stands before the tables of a state. The guard is 0 or 1, and what is reserved is 0.
-#[derive(Drop)]
+#[derive(Clone, Copy)]
 pub struct Head {
     pub counts: Counts,
     pub read: Counts,

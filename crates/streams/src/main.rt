@@ -1,4 +1,5 @@
 // Lists the streams of a PCM info answer that is read from standard input.
+#![tactic(auto)]
 use listing::Line;
 
 // One byte past the page tells an answer of 4,096 bytes from a longer one.

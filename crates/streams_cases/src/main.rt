@@ -1,4 +1,5 @@
 // The listing of answers good and bad, each under a title.
+#![tactic(auto)]
 ghost use Rattle.std.specs.Prelude.{◌≤◌};
 
 use listing::Line;

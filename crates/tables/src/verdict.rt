@@ -6,7 +6,7 @@ use codes::{Refusal, StatusCode, both};
 
 // Good, or a refusal. Of a status that is not ok the header's word is kept: what it says depends on
 // the call that asked.
-#[derive(Drop)]
+#[derive(Clone, Copy)]
 pub enum Verdict {
     Good,
     Status(u32),
@@ -20,7 +20,7 @@ pub const PAGE: usize = 4096;
 const HEADER: u64 = 4;
 
 // How much of a page counts as written by the device: all of it, or so many bytes.
-#[derive(Drop)]
+#[derive(Clone, Copy)]
 pub enum Written {
     InFull,
     Bytes(u64),

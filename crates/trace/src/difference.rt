@@ -3,7 +3,7 @@ use crate::field::Field;
 
 // One difference of two traces, at a position counted in fields: a field only in the first, only in
 // the second, or one tag with other contents.
-#[derive(Drop)]
+#[derive(Clone, Copy)]
 pub enum Difference {
     OnlyFirst {
         at: u64,
@@ -21,7 +21,7 @@ pub enum Difference {
 }
 
 // A field as its tag and three numbers, 0 where it has fewer.
-#[derive(Drop)]
+#[derive(Clone, Copy)]
 pub struct Contents {
     pub tag: u8,
     pub a: u32,
@@ -31,7 +31,7 @@ pub struct Contents {
 
 // A row of the list of differences: position 8, kind 1, tag 1, three numbers of the first trace's
 // field and three of the second's, 4 each.
-#[derive(Drop)]
+#[derive(Clone, Copy)]
 pub struct Row {
     pub position: u64,
     pub kind: u8,
@@ -45,7 +45,7 @@ pub struct Row {
 }
 
 // What differs at one position.
-#[derive(Drop)]
+#[derive(Clone, Copy)]
 pub enum Gap {
     Same,
     One { d: Difference },
@@ -54,7 +54,7 @@ pub enum Gap {
 
 // What a comparison says: so many differences, which trace is none and where, or the list is too
 // short.
-#[derive(Drop)]
+#[derive(Clone, Copy)]
 pub enum Compared {
     Listed { count: usize },
     BadFirst { at: usize },

@@ -2,7 +2,7 @@
 use turns::Track;
 
 // One field of a trace: tag 1, length 2, contents.
-#[derive(Drop)]
+#[derive(Clone, Copy)]
 pub enum Field {
     Start {
         stream: u32,
@@ -25,7 +25,7 @@ pub enum Field {
 
 // Where a judge stands in a trace: no turn was run yet; a submission was the last field; a good
 // completion was; a bad one was; the end was.
-#[derive(Drop)]
+#[derive(Clone, Copy)]
 pub enum Stage {
     Opening,
     Out,
@@ -35,14 +35,14 @@ pub enum Stage {
 }
 
 // A field leads on, or the first of its bytes through which no run agrees.
-#[derive(Drop)]
+#[derive(Clone, Copy)]
 pub enum Moved {
     On { stage: Stage, track: Track },
     Off { at: usize },
 }
 
 // What is said of a trace: 0, 18 or 19, each refusal with its offset.
-#[derive(Drop)]
+#[derive(Clone, Copy)]
 pub enum Judgement {
     Accepted,
     BadTrace { at: usize },
@@ -50,14 +50,14 @@ pub enum Judgement {
 }
 
 // What the judge says: a mode that is none is 1.
-#[derive(Drop)]
+#[derive(Clone, Copy)]
 pub enum Judged {
     Is(Judgement),
     InvalidParam,
 }
 
 // The field at a place of a trace. None: an unknown tag, a wrong length or a cut field.
-#[derive(Drop)]
+#[derive(Clone, Copy)]
 pub enum Found {
     Is(Field),
     NoField,

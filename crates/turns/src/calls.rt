@@ -11,7 +11,7 @@ use crate::rules::Choice;
 use codes::Refusal;
 
 // What the next turn submits, or why it would be refused.
-#[derive(Drop)]
+#[derive(Clone, Copy)]
 pub enum Offer {
     Is(Sent),
     Refused(Refusal),

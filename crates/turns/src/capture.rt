@@ -16,7 +16,7 @@ use layout;
 
 // What the queue says in one turn of a capture: the status stands behind the payload, in the bytes
 // that the host lends of its own buffer.
-#[derive(Drop)]
+#[derive(Clone, Copy)]
 pub struct Catch {
     pub reading: Reading,
     // What the device says that it wrote: the payload and the 8 bytes of the status.

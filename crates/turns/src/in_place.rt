@@ -7,7 +7,7 @@ use crate::reading::Reading;
 use crate::ring::{Heard, Ring, Said, Sent, Turned};
 
 // What a turn tells, without its ring.
-#[derive(Drop)]
+#[derive(Clone, Copy)]
 pub struct Report {
     pub sent: Sent,
     pub heard: Heard,

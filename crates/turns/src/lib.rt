@@ -1,4 +1,5 @@
 // The turns of a transfer: the ring record, a turn, a drain turn, a run over a script of readings.
+#![tactic(auto)]
 mod calls;
 mod capture;
 mod consistent;

@@ -2,7 +2,7 @@
 ghost use Rattle.std.specs.Prelude.{◌≡◌};
 ghost use Rattle.turns.specs.Script.{reading_of};
 
-#[derive(Drop)]
+#[derive(Clone, Copy)]
 pub enum Reading {
     Quiet,
     Completed { slot: u32, status: u32 },

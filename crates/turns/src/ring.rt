@@ -14,7 +14,7 @@ pub const INDIRECT: usize = 1;
 
 // What a slot carries: a part of the caller's frames. It stays after the slot was freed, until the
 // slot is used again.
-#[derive(Drop)]
+#[derive(Clone, Copy)]
 pub struct Slot {
     pub offset: usize,
     pub len: usize,
@@ -22,7 +22,7 @@ pub struct Slot {
 
 // All of the ring but its slots: small, so that a turn can be decided without them. What is in
 // flight is a number of its own: head equal to tail says nothing of it.
-#[derive(Drop)]
+#[derive(Clone, Copy)]
 pub struct Track {
     // Descriptors that one submission takes.
     pub descriptors: usize,
@@ -54,14 +54,14 @@ pub struct Track {
     pub good: u64,
 }
 
-#[derive(Drop)]
+#[derive(Clone, Copy)]
 pub struct Ring {
     pub track: Track,
     pub slots: [Slot; 32],
 }
 
 // What a turn submitted.
-#[derive(Drop)]
+#[derive(Clone, Copy)]
 pub enum Sent {
     Nothing,
     Period {
@@ -72,7 +72,7 @@ pub enum Sent {
 }
 
 // What a turn freed.
-#[derive(Drop)]
+#[derive(Clone, Copy)]
 pub enum Heard {
     Silent,
     Freed { slot: usize, status: u32 },
@@ -80,7 +80,7 @@ pub enum Heard {
 
 // What a turn says: it goes on, it is done with Ok, it ended with a refusal, or it was refused and
 // ran no turn.
-#[derive(Drop)]
+#[derive(Clone, Copy)]
 pub enum Said {
     Going,
     Done,
@@ -102,7 +102,7 @@ impl Said {
 }
 
 // What a turn does to the track.
-#[derive(Drop)]
+#[derive(Clone, Copy)]
 pub struct Step {
     pub track: Track,
     pub sent: Sent,
@@ -111,7 +111,7 @@ pub struct Step {
 }
 
 // What a turn does to the ring, and the number of turns run in this transfer.
-#[derive(Drop)]
+#[derive(Clone, Copy)]
 pub struct Turned {
     pub ring: Ring,
     pub sent: Sent,
@@ -121,21 +121,21 @@ pub struct Turned {
 }
 
 // A number that a ring keeps; an inconsistent ring tells none.
-#[derive(Drop)]
+#[derive(Clone, Copy)]
 pub enum RingNumber {
     Is(u64),
     InvalidParam,
 }
 
 // What a slot carries, or carried last.
-#[derive(Drop)]
+#[derive(Clone, Copy)]
 pub enum Carried {
     Is(Slot),
     InvalidParam,
 }
 
 // The oldest slot in flight, which the next completion must name.
-#[derive(Drop)]
+#[derive(Clone, Copy)]
 pub enum Oldest {
     Slot(usize),
     Nothing,

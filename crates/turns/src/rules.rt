@@ -9,7 +9,7 @@ use crate::ring::{Heard, Said, Sent, Step, Track};
 use codes::{Cause, Refusal, StatusCode};
 
 // What rule 1 does.
-#[derive(Drop)]
+#[derive(Clone, Copy)]
 pub enum Choice {
     Submit,
     Finish,
@@ -17,14 +17,14 @@ pub enum Choice {
 }
 
 // What a completion of the oldest in flight comes to.
-#[derive(Drop)]
+#[derive(Clone, Copy)]
 pub enum Outcome {
     Fine,
     Fails(Refusal),
 }
 
 // What rule 2 makes of a completion. A bad one carries the refusal that ends the transfer.
-#[derive(Drop)]
+#[derive(Clone, Copy)]
 pub enum Verdict {
     WrongSlot,
     Good,

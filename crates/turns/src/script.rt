@@ -11,7 +11,7 @@ use codes::Refusal;
 use layout;
 
 // What a transfer over a script came to, and the number of turns that were run.
-#[derive(Drop)]
+#[derive(Clone, Copy)]
 pub struct Transferred {
     pub ring: Ring,
     pub said: Said,

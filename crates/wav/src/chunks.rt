@@ -16,7 +16,7 @@ pub(crate) const FMT_TAG: u32 = 0x20746d66;
 pub(crate) const DATA_TAG: u32 = 0x61746164;
 
 // Where the first chunk of either kind begins, 0 for none; or that a chunk goes past the end.
-#[derive(Drop)]
+#[derive(Clone, Copy)]
 pub enum Placed {
     At { fmt: usize, frames: usize },
     Cut,

@@ -8,14 +8,14 @@ use crate::sound::{FoundSound, Sound, sound_at};
 use layout::get_u32;
 
 // A file's sound, and where the bytes of its data chunk are.
-#[derive(Drop)]
+#[derive(Clone, Copy)]
 pub struct Wave {
     pub sound: Sound,
     pub offset: usize,
     pub len: usize,
 }
 
-#[derive(Drop)]
+#[derive(Clone, Copy)]
 pub enum ReadWave {
     Is(Wave),
     NotWave,

@@ -13,7 +13,7 @@ use codes::{FoundFormat, FoundRate, PcmRate};
 use layout::{put_bytes, put_u8, put_u16, put_u32};
 
 // A file of so many bytes, or why there is none.
-#[derive(Drop)]
+#[derive(Clone, Copy)]
 pub enum WroteWave {
     Done(usize),
     BadSound,

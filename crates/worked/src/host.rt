@@ -7,7 +7,7 @@ use model::{Control, Device};
 use tables::PAGE;
 use turns::{Ring, Said};
 
-#[derive(Drop)]
+#[derive(Clone, Copy)]
 pub struct Host {
     pub sound: Sound,
     pub device: Device,

@@ -1,5 +1,6 @@
 // Runs what document 01 works out, and then the driver against the model device, and prints what
 // each said.
+#![tactic(auto)]
 mod announcement;
 mod calls;
 mod device;

@@ -10,7 +10,7 @@ use std::num::wrapping_add_u64;
 use turns::{Carried, Heard, Offer, Oldest, Reading, Ring, RingNumber, Said, Sent, Turned};
 
 // A reading in numbers.
-#[derive(Drop)]
+#[derive(Clone, Copy)]
 struct Words {
     kind: u32,
     slot: u32,

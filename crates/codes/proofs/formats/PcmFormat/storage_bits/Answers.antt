@@ -1,0 +1,14 @@
+-- `codes::formats::PcmFormat::storage_bits` meets its contract. Assumes nothing.
+use mathlib.Core.Path.{ap}
+use Prim.Native.Nat.{ℕ}
+use native.Mathlib.Omega.{arith}
+use lib.ListN.{get_or}
+use Rattle.codes.specs.Formats.{storage_table}
+use Rattle.codes.specs.FormatsLaws.{format-below}
+use Rattle.codes.proofs.formats.PcmFormat.storage_bits.Goals as goal
+
+pub bounds-at : goal.bounds-at
+bounds-at c = omega (arith, format-below c.args.self)
+
+pub returns : goal.returns
+returns c = ap (λ (n : ℕ). get_or storage_table n 0) c.number-at.ensures
