@@ -1,6 +1,7 @@
 // Submissions that do not wait: which token is taken, which waits for its completion, which may be
 // finished; and where in the lent store a token's message stands.
 #![tactic(auto)]
+
 mod calls;
 mod place;
 mod table;

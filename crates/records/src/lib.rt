@@ -1,6 +1,7 @@
 // Records: written in a lent slice and read from it. A slice shorter than the record is BadLength,
 // and reading and writing refuse nothing else; a configuration has just its bytes. What an event says, and a position of a channel map.
 #![tactic(auto)]
+
 mod config;
 mod control;
 mod event;

@@ -1,5 +1,6 @@
 // The turns of a transfer: the ring record, a turn, a drain turn, a run over a script of readings.
 #![tactic(auto)]
+
 mod calls;
 mod capture;
 mod consistent;

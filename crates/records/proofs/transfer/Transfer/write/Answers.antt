@@ -1,0 +1,18 @@
+-- `records::transfer::Transfer::write` meets its contract: the list of its stores, in the layout's order. Assumes nothing.
+use borrow.Author.Rules.{rules}
+use Rattle.layout.specs.ChainLaws.Stored.{put, end}
+use Rattle.records.specs.Records.{transfer, transfer_values}
+use Rattle.records.specs.SliceLaws.{stores, stores-none}
+use Rattle.records.proofs.transfer.Transfer.write.Goals as goal
+
+pub returns-then-out-lt-SIZE : goal.returns-then-out-lt-SIZE
+returns-then-out-lt-SIZE c = let a = c.args in stores-none transfer (transfer_values a.self) a.out.now (search rules)
+
+pub returns : goal.returns
+returns c =
+    let a = c.args in
+    stores transfer (transfer_values a.self) _ a.out.now c.if-out-lt-SIZE.false
+    (put c.put_u32.ensures end)
+
+pub put_u32-requires : goal.put_u32-requires
+put_u32-requires c = tt

@@ -1,0 +1,31 @@
+-- A chain of refusals, then the drain turn. Assumes nothing.
+use borrow.Author.Rules.{rules}
+use Rattle.codes.specs.SaysLaws.{passes, stops}
+use Rattle.turns.specs.ConsistentLaws.{consistent-facts}
+use Rattle.turns.specs.Calls.{drain_call}
+use Rattle.turns.specs.CallLaws.{passed, failed}
+use Rattle.turns.proofs.calls.drain_track.Goals as goal
+
+pub returns-then-not-sound : goal.returns-then-not-sound
+unfolding drain_call
+returns-then-not-sound c = stops _ _ _ (search (rules, failed)) c.refused.ensures
+
+pub returns-then-t : goal.returns-then-t
+unfolding drain_call
+returns-then-t c = passes _ _ _ (search (rules, passed)) (passes _ _ _ (search rules) c.refused-then-t.ensures)
+
+pub drained-requires : goal.drained-requires
+drained-requires c = (consistent-facts _ (passed c.is_consistent-sound.ensures c.if-not-sound.false-raw)).placed.tail-in
+
+pub returns : goal.returns
+unfolding drain_call
+returns c = passes _ _ _ (search (rules, passed)) (stops _ _ _ (search rules) c.drained.ensures)
+
+pub is_consistent-sound-requires : goal.is_consistent-sound-requires
+is_consistent-sound-requires c = tt
+
+pub refused-requires : goal.refused-requires
+refused-requires c = tt
+
+pub refused-requires-then-t : goal.refused-requires-then-t
+refused-requires-then-t c = tt

@@ -1,0 +1,14 @@
+-- By the cases of the offer. Assumes nothing.
+use Rattle.turns.proofs.calls.offered.Goals as goal
+
+pub returns-in-Is : goal.returns-in-Is
+returns-in-Is c = rw (← c.next_offer-o.ensures, c.in-Is.is) c.payload.ensures
+
+pub returns-in-Refused : goal.returns-in-Refused
+returns-in-Refused c = rw (← c.next_offer-o.ensures, c.in-Refused.is)
+
+pub next_offer-o-requires : goal.next_offer-o-requires
+next_offer-o-requires c = tt
+
+pub payload-requires : goal.payload-requires
+payload-requires c = tt

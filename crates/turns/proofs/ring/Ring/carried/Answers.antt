@@ -1,0 +1,19 @@
+-- A slot below 32 of a consistent ring. Assumes nothing.
+use borrow.Author.Rules.{rules}
+use mathlib.Core.Path.{refl}
+use borrow.Author.Tests.{lt-ltb, le-ltb}
+use Rattle.codes.specs.SaysLaws.{passes, stops}
+use Rattle.turns.specs.CallLaws.{passed, failed}
+use Rattle.turns.proofs.ring.Ring.carried.Goals as goal
+
+pub returns-then-slot-ge32 : goal.returns-then-slot-ge32
+returns-then-slot-ge32 c = stops _ _ _ (search (rules, le-ltb)) refl
+
+pub returns-then-not-sound : goal.returns-then-not-sound
+returns-then-not-sound c = passes _ _ _ (search (rules, lt-ltb)) (stops _ _ _ (search (rules, failed)) refl)
+
+pub returns : goal.returns
+returns c = passes _ _ _ (search (rules, lt-ltb)) (passes _ _ _ (search (rules, passed)) refl)
+
+pub is_consistent-sound-requires : goal.is_consistent-sound-requires
+is_consistent-sound-requires c = tt

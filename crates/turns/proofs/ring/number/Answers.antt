@@ -1,0 +1,15 @@
+-- 0 with the number, or 1. Assumes nothing.
+use borrow.Author.Rules.{rules}
+use mathlib.Core.Path.{refl}
+use Rattle.codes.specs.SaysLaws.{passes, stops}
+use Rattle.turns.specs.CallLaws.{passed, failed}
+use Rattle.turns.proofs.ring.number.Goals as goal
+
+pub returns-then-not-sound : goal.returns-then-not-sound
+returns-then-not-sound c = stops _ _ _ (search (rules, failed)) refl
+
+pub returns : goal.returns
+returns c = passes _ _ _ (search (rules, passed)) refl
+
+pub is_consistent-sound-requires : goal.is_consistent-sound-requires
+is_consistent-sound-requires c = tt

@@ -1,0 +1,19 @@
+-- A slot that is the oldest, and then by the outcome. Assumes nothing.
+use borrow.Author.Rules.{rules}
+use mathlib.Core.Path.{sym, ap, ◌∙◌}
+use Rattle.turns.specs.Rules.{verdict_of}
+use Rattle.turns.specs.CallLaws.{passed, failed}
+use Rattle.turns.specs.DecisionLaws.{judges-wrong, judges}
+use Rattle.turns.proofs.rules.judge.Goals as goal
+
+pub returns-then-not-oldest : goal.returns-then-not-oldest
+returns-then-not-oldest c = judges-wrong _ _ _ (search (rules, failed))
+
+pub returns-in-Fine : goal.returns-in-Fine
+returns-in-Fine c = sym (ap verdict_of c.in-Fine.is) ∙ judges _ _ _ (passed c.is_oldest-oldest.ensures c.if-not-oldest.false-raw)
+
+pub returns-in-Fails : goal.returns-in-Fails
+returns-in-Fails c = sym (ap verdict_of c.in-Fails.is) ∙ judges _ _ _ (passed c.is_oldest-oldest.ensures c.if-not-oldest.false-raw)
+
+pub is_oldest-oldest-requires : goal.is_oldest-oldest-requires
+is_oldest-oldest-requires c = tt

@@ -1,0 +1,28 @@
+-- The loop stands where the definition's loop stands; what is left of the budget falls. Assumes nothing.
+use Prim.Native.Nat.{◌-◌}
+use native.Mathlib.Omega.{arith}
+use Rattle.turns.specs.ScriptLaws.{stands-first, stands-out, hosts-next, hosts-ended}
+use Rattle.turns.proofs.Tags.{stops}
+use Rattle.turns.proofs.script.turn_by_turn.Goals as goal
+
+pub loop-n-init : goal.loop-n-init
+loop-n-init c = (omega arith, stands-first _ _ _ _)
+
+pub loop-n-preserved : goal.loop-n-preserved
+loop-n-preserved c =
+    let in-loop = c in
+    (omega arith, hosts-next _ _ _ _ _ _ _ _ c.reading_of-reading.ensures c.turn-t.ensures in-loop.loop-test.true in-loop.before.loop.invariant.1 c.in-Going.is)
+
+pub returns-in_default : goal.returns-in_default
+returns-in_default c =
+    let in-loop = c in
+    hosts-ended _ _ _ _ _ _ _ _ c.reading_of-reading.ensures c.turn-t.ensures in-loop.loop-test.true in-loop.before.loop.invariant.1 (stops c.turn-t.result.said c.in_default.in_default-own.keys2)
+
+pub returns : goal.returns
+returns c = stands-out _ _ _ _ _ _ c.loop-n-test.false c.loop-n.invariant.1
+
+pub reading_of-reading-requires : goal.reading_of-reading-requires
+reading_of-reading-requires c = tt
+
+pub turn-t-requires : goal.turn-t-requires
+turn-t-requires c = tt
