@@ -32,6 +32,8 @@ Over (Refused r) = ⊥
 pub over_plain : (said : Said) → Over said → Plain said
 over_plain Done o = tt
 over_plain (Ended r) o = tt
+over_plain Going e = elim e [ ]
+over_plain (Refused _) e = elim e [ ]
 
 -- a turn spends the last of the budget
 abbrev pub last_of : Step → Bool

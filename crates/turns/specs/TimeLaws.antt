@@ -27,6 +27,7 @@ Lively g j (t ∷ ts) = Lively-by t.reading t.waiting (Lively g g ts) (λ k. Liv
 none_of : (pre : List Line) → All (λ t. t.reading ≡ Quiet) pre → Any Reports pre → ⊥
 none_of (t ∷ ts) q (inl h) = subst Completes q.0 h
 none_of (t ∷ ts) q (inr h) = none_of ts q.1 h
+none_of [] q e = elim e [ ]
 
 every-tail : (g : ℕ) (t : Line) (ts : List Line) → CompletesWithin g (t ∷ ts) → CompletesWithin g ts
 every-tail g t ts e i h = e (suc i) (omega arith)

@@ -20,15 +20,15 @@ overflow_add-n c =
 pub loop-k-preserved : goal.loop-k-preserved
 loop-k-preserved c =
     let a = c.args in
-    let w = light _ (get_or a.t1 c.loop-k.k free_token) c.weight-one.ensures in
+    let w = light _ (get_or a.tokens c.loop-k.k free_token) c.weight-one.ensures in
     let i = c.loop-k.invariant in
-    let n : length a.t1 ≡ 32 = search rules in
-    let h : c.loop-k.k < length a.t1 = omega arith in
-    (omega arith, omega (arith, w, i.1), counts-next a.t1 c.loop-k.k c.loop-k.n _ h c.weight-one.ensures i.2)
+    let n : length a.tokens ≡ 32 = search rules in
+    let h : c.loop-k.k < length a.tokens = omega arith in
+    (omega arith, omega (arith, w, i.1), counts-next a.tokens c.loop-k.k c.loop-k.n _ h c.weight-one.ensures i.2)
 
 pub returns : goal.returns
 returns c =
     let a = c.args in
-    let n : length a.t1 ≡ 32 = search rules in
-    let h : length a.t1 ≤ c.loop-k.k = omega arith in
-    counts-out a.t1 c.loop-k.k _ h c.loop-k.invariant.2
+    let n : length a.tokens ≡ 32 = search rules in
+    let h : length a.tokens ≤ c.loop-k.k = omega arith in
+    counts-out a.tokens c.loop-k.k _ h c.loop-k.invariant.2

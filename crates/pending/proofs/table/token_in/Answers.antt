@@ -10,6 +10,6 @@ use Rattle.pending.proofs.table.token_in.Goals as goal
 pub returns-then-k-ge32 : goal.returns-then-k-ge32
 returns-then-k-ge32 c =
     let a = c.args in
-    let n : length a.t1 ≡ 32 = search rules in
-    let h : length a.t1 ≤ a.k = omega arith in
-    sym (get_or-eq_default a.t1 free_token h)
+    let n : length a.tokens ≡ 32 = search rules in
+    let h : length a.tokens ≤ a.k = omega arith in
+    sym (get_or-eq_default a.tokens free_token h)

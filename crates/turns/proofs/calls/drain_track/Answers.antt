@@ -20,12 +20,3 @@ drained-requires c = (consistent-facts _ (passed c.is_consistent-sound.ensures c
 pub returns : goal.returns
 unfolding drain_call
 returns c = passes _ _ _ (search (rules, passed)) (stops _ _ _ (search rules) c.drained.ensures)
-
-pub is_consistent-sound-requires : goal.is_consistent-sound-requires
-is_consistent-sound-requires c = tt
-
-pub refused-requires : goal.refused-requires
-refused-requires c = tt
-
-pub refused-requires-then-t : goal.refused-requires-then-t
-refused-requires-then-t c = tt

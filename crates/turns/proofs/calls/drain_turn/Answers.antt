@@ -3,9 +3,3 @@ use Rattle.turns.proofs.calls.drain_turn.Goals as goal
 
 pub returns : goal.returns
 returns c = rw (c.turned.ensures, c.drain_track-s.ensures)
-
-pub drain_track-s-requires : goal.drain_track-s-requires
-drain_track-s-requires c = tt
-
-pub turned-requires : goal.turned-requires
-turned-requires c = tt

@@ -13,9 +13,3 @@ release-requires c = (search rules, (oldest-facts _ _ (passed c.is_oldest-oldest
 
 pub returns : goal.returns
 returns c = passes _ _ _ (search (rules, passed)) (rw c.release.ensures)
-
-pub is_oldest-oldest-requires : goal.is_oldest-oldest-requires
-is_oldest-oldest-requires c = tt
-
-pub unchanged-requires : goal.unchanged-requires
-unchanged-requires c = tt

@@ -31,9 +31,3 @@ returns c =
     let a = c.args in
     offer-is a.capture a.t a.len (not-false _ c.if-not-t.false) c.if-len-t.false (passed c.is_consistent-sound.ensures c.if-not-sound.false-raw) (passed c.runs_as-runs.ensures c.if-not-runs.false-raw)
     (c.offer_by.ensures ∙ ap (λ (h : Choice). offer_by h a.t) c.choose-choice.ensures)
-
-pub is_consistent-sound-requires : goal.is_consistent-sound-requires
-is_consistent-sound-requires c = tt
-
-pub runs_as-runs-requires : goal.runs_as-runs-requires
-runs_as-runs-requires c = tt

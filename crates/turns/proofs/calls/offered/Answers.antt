@@ -6,9 +6,3 @@ returns-in-Is c = rw (← c.next_offer-o.ensures, c.in-Is.is) c.payload.ensures
 
 pub returns-in-Refused : goal.returns-in-Refused
 returns-in-Refused c = rw (← c.next_offer-o.ensures, c.in-Refused.is)
-
-pub next_offer-o-requires : goal.next_offer-o-requires
-next_offer-o-requires c = tt
-
-pub payload-requires : goal.payload-requires
-payload-requires c = tt

@@ -3,6 +3,3 @@ use Rattle.turns.proofs.calls.payload.Goals as goal
 
 pub returns-in-Period : goal.returns-in-Period
 returns-in-Period c = rw (c.part.ensures, c.in-Period.is)
-
-pub part-requires : goal.part-requires
-part-requires c = tt

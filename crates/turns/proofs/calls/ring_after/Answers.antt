@@ -1,10 +1,5 @@
 -- By what the step sent. Assumes nothing.
 use native.Mathlib.Omega.{arith}
-use lib.ListN.{length, length-map}
-use denote.Struct.Laws as LL
-use mathlib.Core.Path.{◌≡◌}
-use Rattle.turns.specs.contracts.ring.Ring as R
-use Rattle.turns.proofs.ring.Ring.TheLaws as R'
 use Rattle.turns.specs.CallLaws.{after_none, after-period, after-out}
 use Rattle.turns.proofs.calls.ring_after.Goals as goal
 
@@ -14,7 +9,6 @@ returns-in_default c = let a = c.args in after_none a.r a.s c.in_default.is
 pub returns-then-slot-ge32 : goal.returns-then-slot-ge32
 returns-then-slot-ge32 c =
     let a = c.args in
-    let long : length a.r.slots ≡ 32 = simp length-map at (LL.owed R.the_type R'.the_laws a.r _ c.well_formed.0).1.0.1.0.1 in
     after-out a.r a.s _ _ _ c.in-Period.is (omega arith)
 
 pub returns : goal.returns

@@ -28,27 +28,3 @@ unfolding start_call
 returns c =
     passes _ _ _ (search (rules, passed))
     (passes _ _ _ (search (rules, passed)) (passes _ _ _ (search (rules, positive)) (passes _ _ _ (search (rules, positive)) (rw (c.unchanged.ensures, c.begun_as-track.ensures)))))
-
-pub is_consistent-sound-requires : goal.is_consistent-sound-requires
-is_consistent-sound-requires c = tt
-
-pub refused-requires : goal.refused-requires
-refused-requires c = tt
-
-pub is_idle-free-requires : goal.is_idle-free-requires
-is_idle-free-requires c = tt
-
-pub refused-requires-then-not-free : goal.refused-requires-then-not-free
-refused-requires-then-not-free c = tt
-
-pub refused-requires-then-period-eq0 : goal.refused-requires-then-period-eq0
-refused-requires-then-period-eq0 c = tt
-
-pub refused-requires-then-budget-eq0 : goal.refused-requires-then-budget-eq0
-refused-requires-then-budget-eq0 c = tt
-
-pub begun_as-track-requires : goal.begun_as-track-requires
-begun_as-track-requires c = tt
-
-pub unchanged-requires : goal.unchanged-requires
-unchanged-requires c = tt

@@ -3,9 +3,3 @@ use Rattle.turns.proofs.calls.traced_start.Goals as goal
 
 pub returns : goal.returns
 returns c = rw (c.turned.ensures, c.traced_start_track-s.ensures)
-
-pub traced_start_track-s-requires : goal.traced_start_track-s-requires
-traced_start_track-s-requires c = tt
-
-pub turned-requires : goal.turned-requires
-turned-requires c = tt

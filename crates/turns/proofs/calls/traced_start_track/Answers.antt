@@ -48,38 +48,8 @@ returns c =
     (passes _ _ _ (search (rules, positive))
     (passes _ _ _ (search (rules, positive)) (passes _ _ _ (search (rules, lt-ltb)) (passes _ _ _ (search (rules, room-enough)) (rw (c.unchanged.ensures, c.begun_as-begun.ensures)))))))
 
-pub is_consistent-sound-requires : goal.is_consistent-sound-requires
-is_consistent-sound-requires c = tt
-
-pub refused-requires : goal.refused-requires
-refused-requires c = tt
-
-pub is_idle-free-requires : goal.is_idle-free-requires
-is_idle-free-requires c = tt
-
-pub refused-requires-then-not-free : goal.refused-requires-then-not-free
-refused-requires-then-not-free c = tt
-
-pub refused-requires-then-period-eq0 : goal.refused-requires-then-period-eq0
-refused-requires-then-period-eq0 c = tt
-
-pub refused-requires-then-budget-eq0 : goal.refused-requires-then-budget-eq0
-refused-requires-then-budget-eq0 c = tt
-
-pub refused-requires-then-total-ge4294967296 : goal.refused-requires-then-total-ge4294967296
-refused-requires-then-total-ge4294967296 c = tt
-
 pub overflow_mul-n : goal.overflow_mul-n
 overflow_mul-n c = omega (arith, c.periods-n.ensures.1)
 
 pub overflow_add-n : goal.overflow_add-n
 overflow_add-n c = omega (arith, c.periods-n.ensures.1)
-
-pub refused-requires-then-room-n : goal.refused-requires-then-room-n
-refused-requires-then-room-n c = tt
-
-pub begun_as-begun-requires : goal.begun_as-begun-requires
-begun_as-begun-requires c = tt
-
-pub unchanged-requires : goal.unchanged-requires
-unchanged-requires c = tt

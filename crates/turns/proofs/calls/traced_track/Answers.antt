@@ -44,30 +44,3 @@ returns c =
     passes _ _ _ (search (rules, passed))
     (passes _ _ _ (search (rules, passed))
     (passes _ _ _ (search (rules, passed)) (passes _ _ _ (search (rules, passed)) (c.counted.ensures ∙ ap counted_of (rw (← c.comes_to_played-outcome.ensures) c.turn-s.ensures)))))
-
-pub room_agrees-same-requires : goal.room_agrees-same-requires
-room_agrees-same-requires c = tt
-
-pub refused-requires : goal.refused-requires
-refused-requires c = tt
-
-pub length_agrees-agrees-requires : goal.length_agrees-agrees-requires
-length_agrees-agrees-requires c = tt
-
-pub refused-requires-then-not-agrees : goal.refused-requires-then-not-agrees
-refused-requires-then-not-agrees c = tt
-
-pub is_consistent-sound-requires : goal.is_consistent-sound-requires
-is_consistent-sound-requires c = tt
-
-pub refused-requires-then-not-sound : goal.refused-requires-then-not-sound
-refused-requires-then-not-sound c = tt
-
-pub runs_as-runs-requires : goal.runs_as-runs-requires
-runs_as-runs-requires c = tt
-
-pub refused-requires-then-not-runs : goal.refused-requires-then-not-runs
-refused-requires-then-not-runs c = tt
-
-pub comes_to_played-outcome-requires : goal.comes_to_played-outcome-requires
-comes_to_played-outcome-requires c = tt

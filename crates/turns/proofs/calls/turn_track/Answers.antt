@@ -3,6 +3,3 @@ use Rattle.turns.proofs.calls.turn_track.Goals as goal
 
 pub returns : goal.returns
 returns c = c.traced_track.ensures
-
-pub traced_track-requires : goal.traced_track-requires
-traced_track-requires c = tt

@@ -3,9 +3,3 @@ use Rattle.turns.proofs.capture.capture_start.Goals as goal
 
 pub returns : goal.returns
 returns c = rw (c.turned.ensures, c.capture_start_track-s.ensures)
-
-pub capture_start_track-s-requires : goal.capture_start_track-s-requires
-capture_start_track-s-requires c = tt
-
-pub turned-requires : goal.turned-requires
-turned-requires c = tt

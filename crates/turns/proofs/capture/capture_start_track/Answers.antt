@@ -49,30 +49,3 @@ returns c =
     (passes _ _ _ (search (rules, passed))
     (passes _ _ _ (search (rules, positive))
     (passes _ _ _ (search (rules, positive)) (passes _ _ _ (le-leb _ _ (holds-periods a.periods a.period a.len (omega arith) (search rules))) (rw (c.unchanged.ensures, c.begun_as-track.ensures))))))
-
-pub is_consistent-sound-requires : goal.is_consistent-sound-requires
-is_consistent-sound-requires c = tt
-
-pub refused-requires : goal.refused-requires
-refused-requires c = tt
-
-pub is_idle-free-requires : goal.is_idle-free-requires
-is_idle-free-requires c = tt
-
-pub refused-requires-then-not-free : goal.refused-requires-then-not-free
-refused-requires-then-not-free c = tt
-
-pub refused-requires-then-period-eq0 : goal.refused-requires-then-period-eq0
-refused-requires-then-period-eq0 c = tt
-
-pub refused-requires-then-budget-eq0 : goal.refused-requires-then-budget-eq0
-refused-requires-then-budget-eq0 c = tt
-
-pub refused-requires-then-len-period : goal.refused-requires-then-len-period
-refused-requires-then-len-period c = tt
-
-pub begun_as-track-requires : goal.begun_as-track-requires
-begun_as-track-requires c = tt
-
-pub unchanged-requires : goal.unchanged-requires
-unchanged-requires c = tt

@@ -33,27 +33,3 @@ unfolding capture_call
 returns c =
     passes _ _ _ (search (rules, passed))
     (passes _ _ _ (search (rules, passed)) (passes _ _ _ (search (rules, passed)) (passes _ _ _ (search (rules, passed)) c.caught_turn.ensures)))
-
-pub lends_all-lends-requires : goal.lends_all-lends-requires
-lends_all-lends-requires c = tt
-
-pub refused-requires : goal.refused-requires
-refused-requires c = tt
-
-pub length_agrees-agrees-requires : goal.length_agrees-agrees-requires
-length_agrees-agrees-requires c = tt
-
-pub refused-requires-then-not-agrees : goal.refused-requires-then-not-agrees
-refused-requires-then-not-agrees c = tt
-
-pub is_consistent-sound-requires : goal.is_consistent-sound-requires
-is_consistent-sound-requires c = tt
-
-pub refused-requires-then-not-sound : goal.refused-requires-then-not-sound
-refused-requires-then-not-sound c = tt
-
-pub runs_as-runs-requires : goal.runs_as-runs-requires
-runs_as-runs-requires c = tt
-
-pub refused-requires-then-not-runs : goal.refused-requires-then-not-runs
-refused-requires-then-not-runs c = tt

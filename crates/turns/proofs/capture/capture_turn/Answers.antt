@@ -11,15 +11,3 @@ returns c =
     let a = c.args in
     let e = c.capture_track-s.ensures ∙ ap (capture_call a.r.track (length a.recording.now)) c.from_words-c.ensures in
     (c.turned.ensures ∙ ap (turned_of a.r) e, c.copy.ensures ∙ ap (λ (x : Step). recording_after a.r.track x a.bytes.now a.recording.now) e)
-
-pub from_words-c-requires : goal.from_words-c-requires
-from_words-c-requires c = tt
-
-pub capture_track-s-requires : goal.capture_track-s-requires
-capture_track-s-requires c = tt
-
-pub copy-requires : goal.copy-requires
-copy-requires c = tt
-
-pub turned-requires : goal.turned-requires
-turned-requires c = tt

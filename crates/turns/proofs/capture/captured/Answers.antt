@@ -12,9 +12,3 @@ returns-then-not-good c = sym (skips _ _ _ (failed c.length_good-good.ensures c.
 pub returns : goal.returns
 unfolding captured_of
 returns c = c.played.ensures ∙ sym (picks _ _ _ (passed c.length_good-good.ensures c.if-not-good.false-raw))
-
-pub length_good-good-requires : goal.length_good-good-requires
-length_good-good-requires c = tt
-
-pub played-requires : goal.played-requires
-played-requires c = tt

@@ -6,6 +6,3 @@ returns-in-Quiet c = rw c.in-Quiet.is
 
 pub returns-in-Completed : goal.returns-in-Completed
 returns-in-Completed c = rw (c.captured.ensures, c.in-Completed.is)
-
-pub captured-requires : goal.captured-requires
-captured-requires c = tt

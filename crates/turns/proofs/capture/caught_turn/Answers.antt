@@ -25,9 +25,3 @@ keep-requires c =
 
 pub returns : goal.returns
 returns c = rw (c.keep.ensures, c.accepts-more.ensures, c.payload_for-payload.ensures, c.counted-n.ensures, c.turn-s.ensures, c.caught-outcome.ensures)
-
-pub caught-outcome-requires : goal.caught-outcome-requires
-caught-outcome-requires c = tt
-
-pub accepts-more-requires : goal.accepts-more-requires
-accepts-more-requires c = tt

@@ -14,9 +14,3 @@ pub returns : goal.returns
 returns c =
     let a = c.args in
     c.put_bytes.ensures ∙ ap (sets a.recording.now a.t.kept) c.part-payload.ensures
-
-pub part-payload-requires : goal.part-payload-requires
-part-payload-requires c = tt
-
-pub put_bytes-requires : goal.put_bytes-requires
-put_bytes-requires c = tt

@@ -11,6 +11,3 @@ returns-in-Quiet c = let a = c.args in lends-quiet a.t a.c c.if-not-t.false c.in
 
 pub returns-in-Completed : goal.returns-in-Completed
 returns-in-Completed c = let a = c.args in lends-last a.t a.c _ _ _ _ c.if-not-t.false c.in-Completed.is c.needed-need.ensures (search rules)
-
-pub needed-need-requires : goal.needed-need-requires
-needed-need-requires c = tt

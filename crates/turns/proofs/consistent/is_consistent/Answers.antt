@@ -21,9 +21,3 @@ returns c =
     let t = c.args.t in
     both_rest _ _ (passed c.placed-slots.ensures c.if-not-slots.false-raw)
     (both_rest _ _ (passed c.paced-pace.ensures c.if-not-pace.false-raw) (both_rest _ _ (le-leb t.kept t.lent (search rules)) (search rules)))
-
-pub placed-slots-requires : goal.placed-slots-requires
-placed-slots-requires c = tt
-
-pub paced-pace-requires : goal.paced-pace-requires
-paced-pace-requires c = tt

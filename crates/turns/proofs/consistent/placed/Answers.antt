@@ -33,6 +33,3 @@ overflow_add-result c =
     let a = c.args in
     let most = div-le_self 32 a.t.descriptors in
     omega (arith, most)
-
-pub mode_ok-mode-requires : goal.mode_ok-mode-requires
-mode_ok-mode-requires c = tt

@@ -5,9 +5,3 @@ use Rattle.turns.proofs.in_place.drain_words.Goals as goal
 pub returns : goal.returns
 unfolding drain_words
 returns c = rw (c.drain_turn.ensures, c.from_words-reading.ensures)
-
-pub from_words-reading-requires : goal.from_words-reading-requires
-from_words-reading-requires c = tt
-
-pub drain_turn-requires : goal.drain_turn-requires
-drain_turn-requires c = tt

@@ -5,9 +5,3 @@ use Rattle.turns.proofs.in_place.turn_words.Goals as goal
 pub returns : goal.returns
 unfolding turn_words
 returns c = rw (c.turn_of.ensures, c.from_words-reading.ensures)
-
-pub from_words-reading-requires : goal.from_words-reading-requires
-from_words-reading-requires c = tt
-
-pub turn_of-requires : goal.turn_of-requires
-turn_of-requires c = tt

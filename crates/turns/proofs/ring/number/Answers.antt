@@ -10,6 +10,3 @@ returns-then-not-sound c = stops _ _ _ (search (rules, failed)) refl
 
 pub returns : goal.returns
 returns c = passes _ _ _ (search (rules, passed)) refl
-
-pub is_consistent-sound-requires : goal.is_consistent-sound-requires
-is_consistent-sound-requires c = tt

@@ -6,6 +6,3 @@ returns-in-Quiet c = rw c.in-Quiet.is
 
 pub returns-in-Completed : goal.returns-in-Completed
 returns-in-Completed c = rw (c.played.ensures, c.in-Completed.is)
-
-pub played-requires : goal.played-requires
-played-requires c = tt

@@ -15,6 +15,3 @@ returns-then-spent-t c = rw (c.ticked-then-spent-t.ensures, passed c.goes_on-goi
 pub returns-else-spent-t : goal.returns-else-spent-t
 unfolding counted_of
 returns-else-spent-t c = rw (c.ticked-else-spent-t.ensures, passed c.goes_on-going.ensures c.if-not-going.false-raw, ne_eqb _ _ c.if-spent-t.false)
-
-pub goes_on-going-requires : goal.goes_on-going-requires
-goes_on-going-requires c = tt

@@ -14,6 +14,3 @@ returns-in-Fine c = sym (ap verdict_of c.in-Fine.is) ∙ judges _ _ _ (passed c.
 
 pub returns-in-Fails : goal.returns-in-Fails
 returns-in-Fails c = sym (ap verdict_of c.in-Fails.is) ∙ judges _ _ _ (passed c.is_oldest-oldest.ensures c.if-not-oldest.false-raw)
-
-pub is_oldest-oldest-requires : goal.is_oldest-oldest-requires
-is_oldest-oldest-requires c = tt

@@ -10,9 +10,3 @@ returns-then-ok c = played-by _ true (sym c.if-ok.true ∙ c.is_ok-ok.ensures �
 
 pub returns-else-ok : goal.returns-else-ok
 returns-else-ok c = played-by _ false (sym c.if-ok.false ∙ c.is_ok-ok.ensures ∙ ok-is c.from_code-found.result c.args.status c.from_code-found.ensures)
-
-pub from_code-found-requires : goal.from_code-found-requires
-from_code-found-requires c = tt
-
-pub is_ok-ok-requires : goal.is_ok-ok-requires
-is_ok-ok-requires c = tt

@@ -17,6 +17,3 @@ returns-in-Good c = rw (c.accept.ensures, ← c.judge-v.ensures, c.in-Good.is)
 
 pub returns-in-Bad : goal.returns-in-Bad
 returns-in-Bad c = rw (c.release.ensures, ← c.judge-v.ensures, c.in-Bad.is)
-
-pub judge-v-requires : goal.judge-v-requires
-judge-v-requires c = tt

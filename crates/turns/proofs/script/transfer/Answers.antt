@@ -16,16 +16,10 @@ pub returns-in_default : goal.returns-in_default
 unfolding transfer_of
 returns-in_default c =
     passes _ _ _ (eq-eqb _ _ c.if-script-ne0.false)
-    (not-started _ _ _ _ _ c.start-t.ensures (tags.stops c.start-t.result.said c.in_default.in_default-own.keys2))
+    (not-started _ _ _ _ _ c.start-t.ensures (tags.stops c.start-t.result.said c.in_default.not-Going))
 
 pub returns : goal.returns
 unfolding transfer_of
 returns c =
     passes _ _ _ (eq-eqb _ _ c.if-script-ne0.false)
     (c.turn_by_turn.ensures ∙ is-started _ _ _ _ _ c.start-t.ensures c.in-Going.is)
-
-pub start-t-requires : goal.start-t-requires
-start-t-requires c = tt
-
-pub turn_by_turn-requires : goal.turn_by_turn-requires
-turn_by_turn-requires c = tt

@@ -10,19 +10,11 @@ loop-n-init c = (omega arith, stands-first _ _ _ _)
 
 pub loop-n-preserved : goal.loop-n-preserved
 loop-n-preserved c =
-    let in-loop = c in
-    (omega arith, hosts-next _ _ _ _ _ _ _ _ c.reading_of-reading.ensures c.turn-t.ensures in-loop.loop-test.true in-loop.before.loop.invariant.1 c.in-Going.is)
+    (omega arith, hosts-next _ _ _ _ _ _ _ _ c.reading_of-reading.ensures c.turn-t.ensures c.loop-n-test.true c.loop-n.invariant.1 c.in-Going.is)
 
 pub returns-in_default : goal.returns-in_default
 returns-in_default c =
-    let in-loop = c in
-    hosts-ended _ _ _ _ _ _ _ _ c.reading_of-reading.ensures c.turn-t.ensures in-loop.loop-test.true in-loop.before.loop.invariant.1 (stops c.turn-t.result.said c.in_default.in_default-own.keys2)
+    hosts-ended _ _ _ _ _ _ _ _ c.reading_of-reading.ensures c.turn-t.ensures c.loop-n-test.true c.loop-n.invariant.1 (stops c.turn-t.result.said c.in_default.not-Going)
 
 pub returns : goal.returns
 returns c = stands-out _ _ _ _ _ _ c.loop-n-test.false c.loop-n.invariant.1
-
-pub reading_of-reading-requires : goal.reading_of-reading-requires
-reading_of-reading-requires c = tt
-
-pub turn-t-requires : goal.turn-t-requires
-turn-t-requires c = tt

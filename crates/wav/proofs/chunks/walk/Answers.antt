@@ -44,14 +44,8 @@ returns c =
 pub overflow_sub-left : goal.overflow_sub-left
 overflow_sub-left c = omega arith
 
-pub get_u32-tag-requires : goal.get_u32-tag-requires
-get_u32-tag-requires c = tt
-
 pub overflow_add-at : goal.overflow_add-at
 overflow_add-at c = omega arith
-
-pub get_u32-size-requires : goal.get_u32-size-requires
-get_u32-size-requires c = tt
 
 pub overflow_cast-size : goal.overflow_cast-size
 overflow_cast-size c = omega arith
@@ -61,12 +55,6 @@ overflow_add-takes c = omega arith
 
 pub overflow_add-takes-in-loop-at : goal.overflow_add-takes-in-loop-at
 overflow_add-takes-in-loop-at c = omega arith
-
-pub first-fmt-requires : goal.first-fmt-requires
-first-fmt-requires c = tt
-
-pub first-frames-requires : goal.first-frames-requires
-first-frames-requires c = tt
 
 pub overflow_add-at-in-loop-at : goal.overflow_add-at-in-loop-at
 overflow_add-at-in-loop-at c = omega arith

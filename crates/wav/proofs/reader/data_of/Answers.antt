@@ -18,9 +18,3 @@ pub returns-in-BadSound : goal.returns-in-BadSound
 returns-in-BadSound c =
     let s = c.args.s.now in
     ap (λ (r : ReadWave). shown_by r s) (sym c.in-BadSound.is ∙ c.read-r.ensures)
-
-pub read-r-requires : goal.read-r-requires
-read-r-requires c = tt
-
-pub part-requires : goal.part-requires
-part-requires c = tt

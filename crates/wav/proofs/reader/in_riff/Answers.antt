@@ -101,9 +101,3 @@ returns c =
     (passes _ _ _ (le-leb 16 (num_at (c.in-At.fmt + 4) 4 s) (omega (arith, c.if-get_u32-lt16.false)))
     ((λ i. Is (record { sound = c.in-Is.sound; offset = c.in-At.frames + 8; len = c.get_u32-len.ensures i }))
     ∙ ap (λ (y : FoundSound). wave_by y s c.in-At.frames) (sym c.in-Is.is ∙ c.sound_at.ensures)))))
-
-pub get_u32-requires : goal.get_u32-requires
-get_u32-requires c = tt
-
-pub get_u32-len-requires : goal.get_u32-len-requires
-get_u32-len-requires c = tt

@@ -54,12 +54,3 @@ returns c =
     (passes _ _ _ (le-leb 4 (num_at 4 4 s) (omega (arith, c.if-size-lt4.false)))
     (passes _ _ _ (le-leb (8 + num_at 4 4 s) (length s) (omega (arith, c.if-s-size.false)))
     (passes _ _ _ (eq-eqb (num_at 8 4 s) wave_tag (sym c.get_u32-2.ensures ∙ c.if-get_u32-ne-WAVE_TAG.false)) (c.in_riff.ensures ∙ ap (λ (k : ℕ). wave_in s (chunks_at s 12 0 k)) m))))
-
-pub get_u32-requires : goal.get_u32-requires
-get_u32-requires c = tt
-
-pub get_u32-size-requires : goal.get_u32-size-requires
-get_u32-size-requires c = tt
-
-pub get_u32-requires-2 : goal.get_u32-requires-2
-get_u32-requires-2 c = tt

@@ -11,6 +11,3 @@ overflow_mul-result c = omega (arith, small_product c.args.channels (c.storage_b
 
 pub returns : goal.returns
 returns c = let a = c.args in ap (λ (x : ℕ). a.channels * (x / 8)) c.storage_bits-bits.ensures
-
-pub storage_bits-bits-requires : goal.storage_bits-bits-requires
-storage_bits-bits-requires c = tt

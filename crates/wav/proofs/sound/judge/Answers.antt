@@ -77,18 +77,3 @@ returns c =
     (passes _ _ _ (lt-ltb a.channels 256 (omega (arith, c.if-channels-ge256.false)))
     (passes _ _ _ (eq-eqb a.size (block_of a.channels (format_of_bits a.bits)) (c.if-size-block.false ∙ w))
     (λ i. found.Is (record { channels = a.channels; format = (c.number.ensures ∙ f.1) i; rate = (c.number-2.ensures ∙ r.1) i })))))))
-
-pub format_of-requires : goal.format_of-requires
-format_of-requires c = tt
-
-pub from_hz-requires : goal.from_hz-requires
-from_hz-requires c = tt
-
-pub block-requires : goal.block-requires
-block-requires c = tt
-
-pub number-requires : goal.number-requires
-number-requires c = tt
-
-pub number-requires-2 : goal.number-requires-2
-number-requires-2 c = tt

@@ -6,21 +6,3 @@ use Rattle.wav.proofs.sound.sound_at.Goals as goal
 pub returns : goal.returns
 returns c =
     c.judge.ensures ∙ (λ i. sound_of (c.get_u16-tag.ensures i) (c.get_u16-channels.ensures i) (c.get_u32-hz.ensures i) (c.get_u16-size.ensures i) (c.get_u16-bits.ensures i))
-
-pub get_u16-tag-requires : goal.get_u16-tag-requires
-get_u16-tag-requires c = tt
-
-pub get_u16-channels-requires : goal.get_u16-channels-requires
-get_u16-channels-requires c = tt
-
-pub get_u32-hz-requires : goal.get_u32-hz-requires
-get_u32-hz-requires c = tt
-
-pub get_u16-size-requires : goal.get_u16-size-requires
-get_u16-size-requires c = tt
-
-pub get_u16-bits-requires : goal.get_u16-bits-requires
-get_u16-bits-requires c = tt
-
-pub judge-requires : goal.judge-requires
-judge-requires c = tt

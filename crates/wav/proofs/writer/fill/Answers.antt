@@ -70,23 +70,5 @@ returns c =
     c.put_bytes.ensures
     c.put_pad.ensures
 
-pub held-requires : goal.held-requires
-held-requires c = tt
-
-pub from_number-requires : goal.from_number-requires
-from_number-requires c = tt
-
-pub block-whole-requires : goal.block-whole-requires
-block-whole-requires c = tt
-
-pub hz-requires : goal.hz-requires
-hz-requires c = tt
-
-pub storage_bits-requires : goal.storage_bits-requires
-storage_bits-requires c = tt
-
-pub put_bytes-requires : goal.put_bytes-requires
-put_bytes-requires c = tt
-
 pub put_pad-requires : goal.put_pad-requires
 put_pad-requires c = omega arith

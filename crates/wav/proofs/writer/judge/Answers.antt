@@ -95,9 +95,3 @@ returns c =
     (passes _ _ _ (eq-eqb (a.len % block_of a.channels a.format) 0 (ap (λ (n : ℕ). a.len % n) (sym w) ∙ c.if-len-whole-ne0.false))
     (passes _ _ _ (le-leb (padded a.len) 4294967259 (omega (arith, c.if-padded-gt-MOST.false)))
     (passes _ _ _ (le-leb (44 + padded a.len) a.room (omega (arith, c.if-room-padded.false))) refl)))))
-
-pub held-requires : goal.held-requires
-held-requires c = tt
-
-pub block-whole-requires : goal.block-whole-requires
-block-whole-requires c = tt

@@ -15,7 +15,7 @@ pub returns : goal.returns
 returns c =
     let a = c.args in
     let z : 36 + a.len + a.len % 2 ≡ 36 + padded a.len = omega arith in
-    let s = c.put_u32-2.ensures ∙ ap (λ (n : ℕ). sets c.put_u32.new.0 4 (le 4 n)) z in
+    let s = c.put_u32-2.ensures ∙ ap (λ (n : ℕ). sets c.put_u32.new.out 4 (le 4 n)) z in
     stored _ a.out.now 0 header (header_values a.channels a.hz a.whole a.bits a.len)
     (put c.put_u32.ensures
     (put s
@@ -33,42 +33,3 @@ returns c =
 
 pub shape_of-out : goal.shape_of-out
 shape_of-out c = ap length (returns c) ∙ simp length-sets
-
-pub put_u32-requires : goal.put_u32-requires
-put_u32-requires c = tt
-
-pub put_u32-requires-2 : goal.put_u32-requires-2
-put_u32-requires-2 c = tt
-
-pub put_u32-requires-3 : goal.put_u32-requires-3
-put_u32-requires-3 c = tt
-
-pub put_u32-requires-4 : goal.put_u32-requires-4
-put_u32-requires-4 c = tt
-
-pub put_u32-requires-5 : goal.put_u32-requires-5
-put_u32-requires-5 c = tt
-
-pub put_u16-requires : goal.put_u16-requires
-put_u16-requires c = tt
-
-pub put_u16-requires-2 : goal.put_u16-requires-2
-put_u16-requires-2 c = tt
-
-pub put_u32-requires-6 : goal.put_u32-requires-6
-put_u32-requires-6 c = tt
-
-pub put_u32-requires-7 : goal.put_u32-requires-7
-put_u32-requires-7 c = tt
-
-pub put_u16-requires-3 : goal.put_u16-requires-3
-put_u16-requires-3 c = tt
-
-pub put_u16-requires-4 : goal.put_u16-requires-4
-put_u16-requires-4 c = tt
-
-pub put_u32-requires-8 : goal.put_u32-requires-8
-put_u32-requires-8 c = tt
-
-pub put_u32-requires-9 : goal.put_u32-requires-9
-put_u32-requires-9 c = tt

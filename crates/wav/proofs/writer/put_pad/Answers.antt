@@ -18,6 +18,3 @@ returns-else-odd-eq1 c =
     let a = c.args in
     let z : a.odd ≡ 0 = omega (arith, c.if-odd-eq1.false, c.requires) in
     sym (ap (λ (n : ℕ). sets a.out.now a.at (zeros n)) z)
-
-pub put_u8-requires : goal.put_u8-requires
-put_u8-requires c = tt

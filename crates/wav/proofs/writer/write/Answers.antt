@@ -18,19 +18,16 @@ returns-in-Done c =
     let a = c.args in
     let e : Done c.in-Done.n ≡ wrote_of a.channels a.format a.rate (length a.frames.now) (length a.out.now) = sym c.in-Done.is ∙ c.judge-said.ensures in
     let n = (done a.channels a.format a.rate (length a.frames.now) (length a.out.now) c.in-Done.n e).0 in
-    (e, c.fill.ensures ∙ ap (λ (x : WroteWave). written_by x (file_of a.channels a.format a.rate a.frames.now) a.out.now) (sym (ap Done n) ∙ e))
+    record { value = e; out_after = c.fill.ensures ∙ ap (λ (x : WroteWave). written_by x (file_of a.channels a.format a.rate a.frames.now) a.out.now) (sym (ap Done n) ∙ e) }
 
 pub returns-in-BadSound : goal.returns-in-BadSound
 returns-in-BadSound c =
     let a = c.args in
     let e : BadSound ≡ wrote_of a.channels a.format a.rate (length a.frames.now) (length a.out.now) = sym c.in-BadSound.is ∙ c.judge-said.ensures in
-    (e, ap (λ (x : WroteWave). written_by x (file_of a.channels a.format a.rate a.frames.now) a.out.now) e)
+    record { value = e; out_after = ap (λ (x : WroteWave). written_by x (file_of a.channels a.format a.rate a.frames.now) a.out.now) e }
 
 pub returns-in-BadLength : goal.returns-in-BadLength
 returns-in-BadLength c =
     let a = c.args in
     let e : BadLength ≡ wrote_of a.channels a.format a.rate (length a.frames.now) (length a.out.now) = sym c.in-BadLength.is ∙ c.judge-said.ensures in
-    (e, ap (λ (x : WroteWave). written_by x (file_of a.channels a.format a.rate a.frames.now) a.out.now) e)
-
-pub judge-said-requires : goal.judge-said-requires
-judge-said-requires c = tt
+    record { value = e; out_after = ap (λ (x : WroteWave). written_by x (file_of a.channels a.format a.rate a.frames.now) a.out.now) e }

@@ -5,12 +5,3 @@ use Rattle.turns.proofs.capture.Catch.from_words.Goals as goal
 pub returns : goal.returns
 unfolding catch_of
 returns c = rw (c.from_words-reading.ensures, c.get_u32-status.ensures, c.payload_len-at.ensures)
-
-pub payload_len-at-requires : goal.payload_len-at-requires
-payload_len-at-requires c = tt
-
-pub get_u32-status-requires : goal.get_u32-status-requires
-get_u32-status-requires c = tt
-
-pub from_words-reading-requires : goal.from_words-reading-requires
-from_words-reading-requires c = tt

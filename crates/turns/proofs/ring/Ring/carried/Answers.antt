@@ -14,6 +14,3 @@ returns-then-not-sound c = passes _ _ _ (search (rules, lt-ltb)) (stops _ _ _ (s
 
 pub returns : goal.returns
 returns c = passes _ _ _ (search (rules, lt-ltb)) (passes _ _ _ (search (rules, passed)) refl)
-
-pub is_consistent-sound-requires : goal.is_consistent-sound-requires
-is_consistent-sound-requires c = tt

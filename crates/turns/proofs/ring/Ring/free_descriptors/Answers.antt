@@ -18,6 +18,3 @@ overflow_sub-result c = (consistent-facts _ (passed c.is_consistent-sound.ensure
 
 pub returns : goal.returns
 returns c = passes _ _ _ (search (rules, passed)) refl
-
-pub is_consistent-sound-requires : goal.is_consistent-sound-requires
-is_consistent-sound-requires c = tt

@@ -14,6 +14,3 @@ returns-then-t-eq0 c = passes _ _ _ (search (rules, passed)) (rw (eq-eqb _ _ c.i
 
 pub returns : goal.returns
 returns c = passes _ _ _ (search (rules, passed)) (rw (ne_eqb _ _ c.if-t-eq0.false))
-
-pub is_consistent-sound-requires : goal.is_consistent-sound-requires
-is_consistent-sound-requires c = tt

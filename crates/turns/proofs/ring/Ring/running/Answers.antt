@@ -9,9 +9,3 @@ returns-then-t c = c.number.ensures ∙ told-running _ true c.if-t.true
 
 pub returns : goal.returns
 returns c = c.number-2.ensures ∙ told-running _ false c.if-t.false
-
-pub number-requires : goal.number-requires
-number-requires c = tt
-
-pub number-requires-2 : goal.number-requires-2
-number-requires-2 c = tt
