@@ -14,7 +14,9 @@ use crate::effect::{apply, look, pending_look};
 use crate::listing::{list_of, no_ids};
 use crate::state::Sound;
 use codes::{Refusal, direction};
-use sound_core::{Call, Field, Kind, MESSAGE, Params, Plan, Reply, answer, begin, tell, verdict_by};
+use sound_core::{
+    Call, Field, Kind, MESSAGE, Params, Plan, Reply, answer, begin, tell, verdict_by,
+};
 use tables::{Verdict, Written, page_ok};
 use turns::Ring;
 

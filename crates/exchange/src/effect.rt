@@ -10,8 +10,8 @@ ghost use Rattle.exchange.specs.Tables.{field_of, look_by, pending_by, moved, so
 use crate::fields;
 use crate::state::Sound;
 use codes::life;
-use sound_core::{Call, Core, Effect, Field, Look, Params, Stage, Value};
 use records::{ChannelMap, JackInfo, PcmInfo};
+use sound_core::{Call, Core, Effect, Field, Look, Params, Stage, Value};
 use tables::{JACKS, MAPS, STREAMS, fill};
 
 // ---- looks: a field is read by place, and no table is decoded. The end of a table is tested: behind

@@ -1,5 +1,6 @@
 // The state by value: every call, the feeds of an answer, the start of a transfer, submissions that do not wait.
 #![tactic(auto)]
+
 mod calls;
 mod effect;
 mod fields;

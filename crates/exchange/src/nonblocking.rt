@@ -8,12 +8,12 @@ ghost use Rattle.exchange.specs.Submit.{places_of, nb_of, nb_says, Submits, nb_s
 use crate::state::{Configured, Sound, count_told};
 use crate::xfer::{checked, set_up};
 use codes::Refusal;
-use sound_core::{Call, Gate, MESSAGE, consistent};
 use pending::{
     INDIRECT_PLACES, Judged, Outcome, PLACES, Seen, Spot, count, find_spot, finish, hold, look,
     lowest, mark, placed,
 };
 use records::Query;
+use sound_core::{Call, Gate, MESSAGE, consistent};
 use turns::{INDIRECT, Reading, Ring};
 
 // A request of so many bytes to send, the token of what was submitted, or a refusal.

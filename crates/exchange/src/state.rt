@@ -5,8 +5,8 @@ ghost use Rattle.std.specs.State.{unset};
 ghost use Rattle.exchange.specs.State.{new_sound, says_configured, configured_of};
 
 use codes::life;
-use sound_core::{Core, Params, consistent};
 use pending::Pending;
+use sound_core::{Core, Params, consistent};
 
 #[derive(Clone, Copy)]
 pub struct Sound {

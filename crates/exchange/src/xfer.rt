@@ -8,9 +8,9 @@ ghost use Rattle.exchange.specs.Xfer.{xfer_as, set_up_with, refused_step, set_up
 use crate::effect::{direction_of, life_of, params_of};
 use crate::state::Sound;
 use codes::{Refusal, both};
-use sound_core::{Call, Gate, MESSAGE, ask_jacks, tell, xfer_gate};
 use pending::is_none;
 use records::Query;
+use sound_core::{Call, Gate, MESSAGE, ask_jacks, tell, xfer_gate};
 use turns::{
     Reading, Ring, Said, Track, Transferred, Turned, capture_start, start, traced_start, transfer,
 };

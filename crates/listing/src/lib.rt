@@ -1,5 +1,6 @@
 // The stream listing of a PCM info answer, line by line: bytes into a lent slice.
 #![tactic(auto)]
+
 mod lines;
 mod verdict;
 

@@ -1,6 +1,7 @@
 // The model device: one request, one answer. Its functions on requests are `control::control`,
 // `transfer::transfer` and `transfer::payload`.
 #![tactic(auto)]
+
 pub mod control;
 mod device;
 mod said;

@@ -1,6 +1,7 @@
 // The model device as bytes in its owner's storage, looked at and changed by place. What a call
 // leaves is what the call by value on the device in the store leaves, written over the store.
 #![tactic(auto)]
+
 mod answer;
 mod made;
 mod place;

@@ -1,6 +1,7 @@
 // The ring as bytes in its owner's storage, advanced by place: a turn touches the track, and of the
 // slots only the one that it fills.
 #![tactic(auto)]
+
 ghost use Rattle.std.specs.Prelude.{◌≡◌};
 ghost use Rattle.ring_store.specs.Store.{ring_size};
 

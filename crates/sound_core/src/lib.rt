@@ -1,5 +1,6 @@
 // The core of a state: what a call or an answer leads to, decided with no table in sight.
 #![tactic(auto)]
+
 mod consistency;
 mod decide;
 mod gate;

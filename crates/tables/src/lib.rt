@@ -1,5 +1,6 @@
 // An answer page and a count: what is known of the page, and three tables kept as its bytes.
 #![tactic(auto)]
+
 mod kept;
 mod verdict;
 

@@ -1,5 +1,6 @@
 // A transfer's trace: its fields, the judge of a foreign one, the differences of two, the writer of our own.
 #![tactic(auto)]
+
 mod course;
 mod diff;
 mod difference;

@@ -1,0 +1,24 @@
+-- `model::control::pcms` meets its contract. Assumes nothing.
+use Rattle.std.proofs.Common.{sym, ap, ◌∙◌, arith, rules}
+use Rattle.layout.specs.Layout.{size}
+use Rattle.records.specs.Records.{pcm_info, pcm_bytes}
+use Rattle.model.specs.Control.{says_range}
+use Rattle.model.specs.ControlLaws.{gives, laid-gives, range-fits, table-bad, table-rows}
+use Rattle.model.proofs.control.pcms.Goals as goal
+
+pub returns-in_default : goal.returns-in_default
+returns-in_default c =
+    let a = c.args in
+    gives _ (table-bad a.request.now (size pcm_info) a.d.counts.streams pcm_bytes a.d.pcms a.d (sym (ap says_range c.in_default.is) ∙ c.asked.ensures)) c.tell.ensures
+
+-- the range is within the table
+pub put_pcms-n-requires : goal.put_pcms-n-requires
+put_pcms-n-requires c =
+    let h = range-fits c.args.request.now (size pcm_info) c.args.d.counts.streams c.in-Of.start c.in-Of.count (sym (ap says_range c.in-Of.is) ∙ c.asked.ensures) in
+    (omega (arith, c.requires.1), search rules)
+
+pub returns : goal.returns
+returns c =
+    let a = c.args in
+    gives _ (table-rows a.request.now (size pcm_info) a.d.counts.streams pcm_bytes a.d.pcms a.d c.in-Of.start c.in-Of.count (sym (ap says_range c.in-Of.is) ∙ c.asked.ensures))
+    (laid-gives a.d _ a.page.now _ _ c.put_pcms-n.ensures)

@@ -1,0 +1,11 @@
+-- `model_store::answer::command` meets its contract. Assumes nothing.
+use Rattle.std.proofs.Common.{eq-eqb, ne_eqb}
+use Rattle.layout.specs.Layout.{size}
+use Rattle.records.specs.Records.{pcm_command}
+use Rattle.model_store.proofs.answer.command.Goals as goal
+
+pub returns-then-request-eq-SIZE : goal.returns-then-request-eq-SIZE
+returns-then-request-eq-SIZE c = rw (eq-eqb _ (size pcm_command) c.if-request-eq-SIZE.true) c.tell.ensures
+
+pub returns : goal.returns
+returns c = rw (ne_eqb _ (size pcm_command) c.if-request-eq-SIZE.false) c.tell-2.ensures

@@ -1,0 +1,11 @@
+-- The bytes that were accepted. Assumes nothing.
+use mathlib.Core.Path.{refl}
+use mathlib.Core.List.{[], ◌∷◌}
+use Rattle.ring_store.specs.Types.{Track}
+use Rattle.ring_store.specs.ReadsLaws.{told, read_by}
+use Rattle.ring_store.proofs.reads.kept.Goals as goal
+
+pub returns : goal.returns
+returns c =
+    let a = c.args in
+    told a.ring.now a.result.now _ _ (read_by _ _ _ (λ (c : Track). c.kept ∷ []) _ c.track-t.ensures c.is_consistent-sound.ensures refl) c.tell_one.ensures

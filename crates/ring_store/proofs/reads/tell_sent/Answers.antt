@@ -1,0 +1,8 @@
+-- By what was sent. Assumes nothing.
+use Rattle.ring_store.proofs.reads.tell_sent.Goals as goal
+
+pub returns-in-Nothing : goal.returns-in-Nothing
+returns-in-Nothing c = rw c.in-Nothing.is c.tell_four.ensures
+
+pub returns-in-Period : goal.returns-in-Period
+returns-in-Period c = rw c.in-Period.is c.tell_four-in-Period.ensures
