@@ -12,5 +12,5 @@ pub returns : goal.returns
 returns c =
     rw (← c.number-number.ensures)
     (gives
-    (adds-all c.empty.ensures (adds_then c.add.ensures (adds_then c.add_decimal-t.ensures.adds c.add.ensures)))
+    (adds-all c.empty.ensures (adds_then c.add-t.ensures (adds_then c.add_decimal-t.ensures.adds c.add.ensures)))
     c.give.ensures)

@@ -9,6 +9,6 @@ returns c =
     (adds_then c.add_decimal-t.ensures.adds
     (adds_then c.add_direction-t.ensures.adds
     (adds_then c.add_decimal-t-2.ensures.adds
-    (adds_then c.add.ensures
+    (adds_then c.add-t.ensures
     (adds_then c.add_decimal-t-3.ensures.adds c.add.ensures))))))
     c.give.ensures
