@@ -17,7 +17,7 @@ use Rattle.turns.specs.Ring.{is_refused}
 use Rattle.records.specs.Config.{config_row, fits}
 use Rattle.records.specs.Notice.{event_row}
 use Rattle.exchange.specs.Xfer.{start_of, start_traced_of, capture_of, xfer_message, xfer_word}
-use Rattle.std.specs.declared.state.Call.{Call}
+use Rattle.sound_core.specs.declared.state.Call.{Call}
 use Rattle.exchange.specs.declared.xfer.XferReply.{XferReply}
 use Rattle.exchange.specs.declared.xfer.XferReply.TheVariants.{Send, Says}
 use Rattle.exchange.specs.declared.xfer.XferStep.{XferStep}

@@ -14,7 +14,7 @@ use Rattle.exchange.specs.State.{params_of}
 use Rattle.exchange.specs.ConsistentLaws.{both_of}
 use Rattle.exchange.specs.Xfer.{waiting_as, start_step, start_of, start_traced_of, capture_of}
 use Rattle.exchange.specs.XferLaws.{start-by, traced-by, capture-by}
-use Rattle.std.specs.declared.state.Params.{Params}
+use Rattle.sound_core.specs.declared.state.Params.{Params}
 use Rattle.exchange.specs.declared.xfer.XferStep.{XferStep}
 use Rattle.ring_store.specs.Store.{ring_size}
 use Rattle.state_store.specs.Places.{state_size, params_place}

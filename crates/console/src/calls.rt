@@ -1,9 +1,9 @@
 // The calls: state and ring as lent stores, a message to send, a result.
 ghost use Rattle.std.specs.Prelude.{◌≡◌, length};
-ghost use Rattle.std.specs.State.{asked_params};
-ghost use Rattle.std.specs.declared.state.Kind.TheVariants.{Prepare, Release, Start, Stop};
-ghost use Rattle.std.specs.declared.state.Field.TheVariants.{Rates, Formats, Channels, Features};
-ghost use Rattle.std.specs.declared.state.Call.TheVariants as calls;
+ghost use Rattle.sound_core.specs.State.{asked_params};
+ghost use Rattle.sound_core.specs.declared.state.Kind.TheVariants.{Prepare, Release, Start, Stop};
+ghost use Rattle.sound_core.specs.declared.state.Field.TheVariants.{Rates, Formats, Channels, Features};
+ghost use Rattle.sound_core.specs.declared.state.Call.TheVariants as calls;
 ghost use Rattle.tables.specs.declared.verdict.Written.TheVariants.{InFull, Bytes};
 ghost use Rattle.state_store.specs.Calls.{left, feed_in, fail_in};
 ghost use Rattle.console.specs.Entries.{call_entry};

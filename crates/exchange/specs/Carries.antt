@@ -26,12 +26,12 @@ use Rattle.turns.specs.declared.rules.Choice.{Choice}
 use Rattle.turns.specs.declared.rules.Choice.TheVariants.{Submit, Finish, Wait}
 use Rattle.turns.specs.declared.rules.Verdict as rules
 use Rattle.turns.specs.declared.rules.Verdict.TheVariants as rule
-use Rattle.std.specs.Consistent.{consistent_of}
-use Rattle.std.specs.GateLaws.{faced-by}
+use Rattle.sound_core.specs.Consistent.{consistent_of}
+use Rattle.sound_core.specs.GateLaws.{faced-by}
 use Rattle.exchange.specs.State.{params_of, pcm_of}
-use Rattle.std.specs.Plan.{send_of, query_of, own_set, own_command, own_remap, own_supported, own_xfer, own_of, begin_of, cause_of, refusal_of, status_refusal, read_to, after_jacks, after_streams, after_maps, after_sent, answer_by, answer_of, verdict_by}
-use Rattle.std.specs.Reply.{reply_of}
-use Rattle.std.specs.declared.reply.Reply.TheVariants as reply
+use Rattle.sound_core.specs.Plan.{send_of, query_of, own_set, own_command, own_remap, own_supported, own_xfer, own_of, begin_of, cause_of, refusal_of, status_refusal, read_to, after_jacks, after_streams, after_maps, after_sent, answer_by, answer_of, verdict_by}
+use Rattle.sound_core.specs.Reply.{reply_of}
+use Rattle.sound_core.specs.declared.reply.Reply.TheVariants as reply
 use Rattle.exchange.specs.Tables.{look_of, pending_look}
 use Rattle.exchange.specs.Exchange.{step_of, call_of, feed_of, fail_of}
 use Rattle.exchange.specs.Feed.{Feed, paged, failed, plan_of, fed_of, verdict_of}

@@ -5,7 +5,7 @@ use Rattle.std.proofs.Common.{sym, subst, pos_of_ne-zero, leb-true, le-leb, ltb-
 use Rattle.std.proofs.lemmas.Bool.{false≢true, eqb-false}
 use Rattle.codes.specs.Says.{pick}
 use Rattle.turns.specs.ConsistentLaws.{both}
-use Rattle.std.specs.Consistent.{period_ok, numbers_ok, stage_ok, queries_answered, exactly, none_or_all, tables_ok, both_or_neither, consistent_of}
+use Rattle.sound_core.specs.Consistent.{period_ok, numbers_ok, stage_ok, queries_answered, exactly, none_or_all, tables_ok, both_or_neither, consistent_of}
 use Rattle.exchange.specs.Types.{Counts, Params, Call, SetParams, Stage, Idle, JacksAsked, StreamsAsked, MapsAsked, Sent, Core}
 use Rattle.exchange.specs.Feed.{asking}
 

@@ -10,8 +10,8 @@ use Rattle.records.specs.Records.{jack_info, pcm_info, channel_map}
 use Rattle.tables.specs.Tables.{page_ok, refilled, jack_at, pcm_at, map_at, tables_bytes}
 use Rattle.tables.specs.FillLaws.{jacks-filled, jacks-leave-pcms, jacks-leave-maps, pcms-leave-jacks, pcms-filled, pcms-leave-maps, maps-leave-jacks, maps-leave-pcms, maps-filled}
 use Rattle.tables.specs.declared.verdict.Verdict.TheVariants as verdict
-use Rattle.std.specs.Plan.{refuse_of, begin_of, answer_of, verdict_by}
-use Rattle.std.specs.Reply.{reply_of}
+use Rattle.sound_core.specs.Plan.{refuse_of, begin_of, answer_of, verdict_by}
+use Rattle.sound_core.specs.Reply.{reply_of}
 use Rattle.exchange.specs.State.{jacks_of, pcms_of, maps_of}
 use Rattle.exchange.specs.Tables.{look_by, pending_by, sound_after}
 use Rattle.exchange.specs.Exchange.{list_of, step_of, call_of, feed_of, fail_of}

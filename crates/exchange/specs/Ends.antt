@@ -3,17 +3,17 @@
 use Rattle.std.specs.Prelude.{◌≡◌, ℕ, ◌+◌, ◌-◌, ◌≤◌, Bool, true, List, [], ◌∷◌, length, refl}
 use Rattle.std.proofs.Common.{sym, ap, ◌∙◌, arith}
 use Rattle.std.proofs.lemmas.Bool.{false≢true}
-use Rattle.std.specs.Consistent.{consistent_of}
+use Rattle.sound_core.specs.Consistent.{consistent_of}
 use Rattle.exchange.specs.OwnLaws.{Own, sets, commands, remaps, lists, tells, refuses}
 use Rattle.exchange.specs.PlanLaws.{Begun, bars, asks, goes, begun, Answered, short, idle, asks-streams, asks-maps, cuts, finishes, ends, fails, fed, long_of_lem}
-use Rattle.std.specs.Reply.{reply_of}
+use Rattle.sound_core.specs.Reply.{reply_of}
 use Rattle.exchange.specs.Exchange.{step_of, call_of}
 use Rattle.exchange.specs.Kept.{Kept}
 use Rattle.exchange.specs.KeptLaws.{feed-kept}
 use Rattle.exchange.specs.Feed.{Feed, page_of, plan_of, fed_of, long_of, Long}
 use Rattle.exchange.specs.StayLaws.{after-core}
 use Rattle.exchange.specs.Types.{Verdict, Track, Call, Stage, Idle, JacksAsked, StreamsAsked, MapsAsked, Sent, Core, Sound, Look, Plan, Reply}
-use Rattle.std.specs.declared.reply.Reply.TheVariants as reply
+use Rattle.sound_core.specs.declared.reply.Reply.TheVariants as reply
 
 -- ---- a run of feeds
 

@@ -6,10 +6,10 @@ use Rattle.layout.specs.Lent.{message_size, page_size}
 use Rattle.codes.specs.Says.{Says, says, pick, guard}
 use Rattle.codes.specs.Answers.{says_refusal}
 use Rattle.tables.specs.declared.verdict.Verdict.TheVariants as verdict
-use Rattle.std.specs.Plan.{refuse_of, begin_of, answer_of, verdict_by}
-use Rattle.std.specs.Reply.{request_bytes, message_after, reply_of}
-use Rattle.std.specs.declared.plan.Value.TheVariants as value
-use Rattle.std.specs.declared.reply.Reply.TheVariants as reply
+use Rattle.sound_core.specs.Plan.{refuse_of, begin_of, answer_of, verdict_by}
+use Rattle.sound_core.specs.Reply.{request_bytes, message_after, reply_of}
+use Rattle.sound_core.specs.declared.plan.Value.TheVariants as value
+use Rattle.sound_core.specs.declared.reply.Reply.TheVariants as reply
 use Rattle.exchange.specs.State.{pcms_of}
 use Rattle.exchange.specs.Tables.{look_of, pending_look, sound_after}
 use Rattle.exchange.specs.Types.{Written, QueueFailed, BadLength, PcmInfo, Track, Call, Value, Say, Send, Done, Refused, Plan, Reply, Sound, StreamList, Step}

@@ -4,7 +4,7 @@ use Rattle.std.specs.Prelude.{◌≡◌, ℕ, ◌≤◌, Bool, true, false, ◌&
 use Rattle.tables.specs.Tables.{page_ok}
 use Rattle.layout.specs.Lent.{message_size, page_size}
 use Rattle.tables.specs.declared.verdict.Verdict.TheVariants as verdict
-use Rattle.std.specs.Plan.{verdict_by}
+use Rattle.sound_core.specs.Plan.{verdict_by}
 use Rattle.exchange.specs.Exchange.{step_of, feed_of, fail_of}
 use Rattle.exchange.specs.Types.{Written, InFull, Verdict, QueueFailed, Sound, Plan, Step, Call, SetParams, Command, Remap, Streams, Supported, Xfer, Capture, Stage, Idle, JacksAsked, StreamsAsked, MapsAsked, Sent}
 

@@ -3,7 +3,7 @@
 use Rattle.std.specs.Prelude.{◌≡◌, ℕ, ◌+◌, ◌*◌, ◌<◌, List, refl}
 use Rattle.std.proofs.Common.{sym, ap, ◌∙◌, subst, arith}
 use Rattle.tables.specs.Tables.{pcm_at}
-use Rattle.std.specs.Plan.{found_of}
+use Rattle.sound_core.specs.Plan.{found_of}
 use Rattle.exchange.specs.State.{pcm_of}
 use Rattle.exchange.specs.Tables.{field_of, pending_look}
 use Rattle.exchange.specs.OwnLaws.{Own, tells, refuses}
@@ -12,7 +12,7 @@ use Rattle.exchange.specs.Exchange.{call_of}
 use Rattle.exchange.specs.Ends.{waits}
 use Rattle.exchange.specs.ResultLaws.{wrong, recall, own?, begun-own, Finished, answered-own}
 use Rattle.exchange.specs.Feed.{Feed, plan_of, call_at}
-use Rattle.std.specs.declared.plan.Look.TheVariants as look
+use Rattle.sound_core.specs.declared.plan.Look.TheVariants as look
 use Rattle.exchange.specs.Types.{Track, Counts, Field, Supported, Stage, MapsAsked, Core, Sound, Value, Done, Look, Plan}
 use Rattle.exchange.specs.Filled.{Filled}
 

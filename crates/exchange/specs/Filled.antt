@@ -10,10 +10,10 @@ use Rattle.tables.specs.TablesLaws.{good-fits}
 use Rattle.tables.specs.FillLaws.{jacks-leave-pcms, pcms-filled, maps-leave-pcms, filled_at}
 use Rattle.records.specs.Records.{pcm_info_of}
 use Rattle.exchange.specs.State.{pcms_of, pcm_of}
-use Rattle.std.specs.Plan.{effect_of, verdict_by}
+use Rattle.sound_core.specs.Plan.{effect_of, verdict_by}
 use Rattle.exchange.specs.Tables.{sound_after}
 use Rattle.exchange.specs.PlanLaws.{Answered, short, idle, asks-streams, asks-maps, cuts, finishes, ends, fails, fed}
-use Rattle.std.specs.Reply.{reply_of}
+use Rattle.sound_core.specs.Reply.{reply_of}
 use Rattle.exchange.specs.Exchange.{step_of, call_of}
 use Rattle.exchange.specs.Ends.{asked, waits}
 use Rattle.exchange.specs.ResultLaws.{wrong}

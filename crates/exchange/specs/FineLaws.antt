@@ -7,10 +7,10 @@ use Rattle.std.proofs.lemmas.Bool.{false≢true}
 use Rattle.tables.specs.Tables.{is_good}
 use Rattle.tables.specs.TablesLaws.{good-whole}
 use Rattle.turns.specs.ConsistentLaws.{both}
-use Rattle.std.specs.State.{with_stage}
-use Rattle.std.specs.Consistent.{period_ok, call_ok, numbers_ok, held_to, sent_ok, queries_answered, exactly, none_or_all, tables_ok, consistent_of, params_ok}
+use Rattle.sound_core.specs.State.{with_stage}
+use Rattle.sound_core.specs.Consistent.{period_ok, call_ok, numbers_ok, held_to, sent_ok, queries_answered, exactly, none_or_all, tables_ok, consistent_of, params_ok}
 use Rattle.exchange.specs.ConsistentLaws.{At, facts_at, ready-sent, full, exactly-self, none_or_all-self, ready-tables, sent-facts}
-use Rattle.std.specs.Plan.{effect_of, verdict_by, read_to}
+use Rattle.sound_core.specs.Plan.{effect_of, verdict_by, read_to}
 use Rattle.exchange.specs.OwnLaws.{Own, sets, commands, remaps, lists, tells, refuses, picked-by}
 use Rattle.exchange.specs.PlanLaws.{Begun, bars, asks, goes, begun, counted, Answered, short, idle, asks-streams, asks-maps, cuts, finishes, ends, fails, fed}
 use Rattle.exchange.specs.Exchange.{call_of}

@@ -6,7 +6,7 @@ use Rattle.turns.specs.Consistent as ring
 use Rattle.codes.specs.Life.{takes_of}
 use Rattle.pending.specs.Table.{none_in}
 use Rattle.exchange.specs.State.{params_of, life_of}
-use Rattle.std.specs.Consistent.{consistent_of, params_ok}
+use Rattle.sound_core.specs.Consistent.{consistent_of, params_ok}
 use Rattle.exchange.specs.Types.{Ring, Idle, Sound}
 
 pub record Kept (s : Sound) : Type 0 where

@@ -8,11 +8,11 @@ use Rattle.layout.specs.Bytes.{un, bytes_at, num_at}
 use Rattle.codes.specs.Says.{pick, guard}
 use Rattle.codes.specs.Life.{permits_of}
 use Rattle.tables.specs.Tables.{judged, is_good}
-use Rattle.std.specs.Consistent.{held_to, exactly, none_or_all, tables_ok, consistent_of}
-use Rattle.std.specs.Plan.{kind_code, kind_life, life_in, effect_of, own_set, own_command, begin_of, after_jacks, after_streams, after_maps, after_sent, answer_of}
-use Rattle.std.specs.declared.plan.Request.TheVariants as request
-use Rattle.std.specs.declared.state.Kind.TheVariants.{Prepare, Release, Start, Stop}
-use Rattle.std.specs.State.{with_stage}
+use Rattle.sound_core.specs.Consistent.{held_to, exactly, none_or_all, tables_ok, consistent_of}
+use Rattle.sound_core.specs.Plan.{kind_code, kind_life, life_in, effect_of, own_set, own_command, begin_of, after_jacks, after_streams, after_maps, after_sent, answer_of}
+use Rattle.sound_core.specs.declared.plan.Request.TheVariants as request
+use Rattle.sound_core.specs.declared.state.Kind.TheVariants.{Prepare, Release, Start, Stop}
+use Rattle.sound_core.specs.State.{with_stage}
 use Rattle.exchange.specs.State.{new_sound, params_of, life_of, with_core}
 use Rattle.exchange.specs.Tables.{look_of, pending_look, moved, sound_after}
 use Rattle.exchange.specs.Exchange.{step_of, call_of, feed_of, fail_of}

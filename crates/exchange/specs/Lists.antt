@@ -15,7 +15,7 @@ use Rattle.exchange.specs.Ends.{waits}
 use Rattle.exchange.specs.ResultLaws.{recall, own?, begun-own, Finished, answered-own}
 use Rattle.exchange.specs.Feed.{Feed, page_of, plan_of, fed_of, One, call_at}
 use Rattle.exchange.specs.StayLaws.{Stays, called-stays, fed-stays}
-use Rattle.std.specs.declared.plan.Value.TheVariants as value
+use Rattle.sound_core.specs.declared.plan.Value.TheVariants as value
 use Rattle.exchange.specs.Types.{PcmInfo, Track, Counts, Streams, MapsAsked, Core, Sound, Value, Say, Done, Look, Plan}
 
 -- ---- one id more, or not

@@ -7,10 +7,10 @@ use Rattle.codes.specs.Says.{pick}
 use Rattle.codes.specs.Answers.{says_refusal}
 use Rattle.codes.specs.Life.{permits_of}
 use Rattle.codes.specs.SaysLaws.{guarded-by}
-use Rattle.std.specs.Consistent.{period_ok, held_to}
-use Rattle.std.specs.Plan.{send_of, end_of, kind_code, kind_life, set_of, can_remap, found_of, life_in, refusing, own_set, own_command, own_remap, own_supported, own_xfer, own_of}
-use Rattle.std.specs.declared.plan.Request.TheVariants as request
-use Rattle.std.specs.declared.plan.Value.TheVariants as value
+use Rattle.sound_core.specs.Consistent.{period_ok, held_to}
+use Rattle.sound_core.specs.Plan.{send_of, end_of, kind_code, kind_life, set_of, can_remap, found_of, life_in, refusing, own_set, own_command, own_remap, own_supported, own_xfer, own_of}
+use Rattle.sound_core.specs.declared.plan.Request.TheVariants as request
+use Rattle.sound_core.specs.declared.plan.Value.TheVariants as value
 use Rattle.exchange.specs.Types.{NoStatus, Refusal, InvalidParam, IoError, Unsupported, NoInfo, BadState, Params, Kind, Field, Call, SetParams, Command, Remap, Streams, Supported, Xfer, Capture, Sent, Core, Look, Done, Nothing, Plan}
 use Rattle.exchange.specs.Feed.{One, own_refusals}
 

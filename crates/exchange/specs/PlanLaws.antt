@@ -14,13 +14,13 @@ use Rattle.tables.specs.declared.verdict.Verdict.TheVariants as verdict
 use Rattle.turns.specs.Calls.{idle_of}
 use Rattle.turns.specs.Consistent as ring
 use Rattle.turns.specs.ConsistentLaws.{both}
-use Rattle.std.specs.Consistent.{call_ok, consistent_of}
-use Rattle.std.specs.Plan.{send_of, end_of, refusing, status_refusal, refuse_of, cut_short_of, query_of, own_of, is_idle, begin_of, cause_of, refusal_of, after_jacks, after_streams, after_maps, effect_of, after_sent, answer_by, answer_of, verdict_by, read_to}
+use Rattle.sound_core.specs.Consistent.{call_ok, consistent_of}
+use Rattle.sound_core.specs.Plan.{send_of, end_of, refusing, status_refusal, refuse_of, cut_short_of, query_of, own_of, is_idle, begin_of, cause_of, refusal_of, after_jacks, after_streams, after_maps, effect_of, after_sent, answer_by, answer_of, verdict_by, read_to}
 use Rattle.exchange.specs.Tables.{look_of, pending_look}
 use Rattle.exchange.specs.Exchange.{call_of, feed_of, fail_of}
 use Rattle.exchange.specs.ConsistentLaws.{both_of}
 use Rattle.exchange.specs.Feed.{Feed, paged, failed, plan_of, verdict_of, long_of, Long, One, asking}
-use Rattle.std.specs.declared.plan.Value.TheVariants as value
+use Rattle.sound_core.specs.declared.plan.Value.TheVariants as value
 use Rattle.exchange.specs.Types.{Written, Short, Refusal, InvalidParam, IoError, TooMany, QueueFailed, Busy, BadLength, Verdict, Track, Counts, Call, Stage, Idle, JacksAsked, StreamsAsked, MapsAsked, Sent, Core, Sound, Look, Done, Nothing, FillJacks, FillStreams, FillMaps, Plan}
 use Rattle.exchange.specs.OwnLaws.{picked-by, Own, own}
 

@@ -21,8 +21,8 @@ use Rattle.turns.specs.Ring.{direct, new_track, new_ring}
 use Rattle.turns.specs.Private.{Mode}
 use Rattle.pending.specs.Table.{none_in}
 use Rattle.exchange.specs.State.{new_sound, params_of, life_of}
-use Rattle.std.specs.Consistent.{consistent_of}
-use Rattle.std.specs.Plan.{own_set, begin_of, after_jacks, after_streams, after_maps, after_sent, answer_of}
+use Rattle.sound_core.specs.Consistent.{consistent_of}
+use Rattle.sound_core.specs.Plan.{own_set, begin_of, after_jacks, after_streams, after_maps, after_sent, answer_of}
 use Rattle.exchange.specs.Exchange.{step_of, call_of, feed_of, fail_of}
 use Rattle.exchange.specs.Xfer.{start_of, start_traced_of, xfer_of, capture_of}
 use Rattle.exchange.specs.Submit.{nb_of, mark_step, finish_step}

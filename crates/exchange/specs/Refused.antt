@@ -10,17 +10,17 @@ use Rattle.tables.specs.Tables.{judged, is_good, refused_by, says_verdict, maps_
 use Rattle.tables.specs.FillLaws.{maps-leave-jacks, maps-leave-pcms}
 use Rattle.exchange.specs.State.{jacks_of, pcms_of}
 use Rattle.tables.specs.declared.verdict.Verdict.TheVariants as verdict
-use Rattle.std.specs.State.{none, with_stage}
-use Rattle.std.specs.Plan.{cause_of, refusal_of, status_refusal, verdict_by, read_to}
+use Rattle.sound_core.specs.State.{none, with_stage}
+use Rattle.sound_core.specs.Plan.{cause_of, refusal_of, status_refusal, verdict_by, read_to}
 use Rattle.exchange.specs.Tables.{sound_after}
 use Rattle.exchange.specs.OwnLaws.{Own, sets, commands, remaps, lists, tells, refuses}
 use Rattle.exchange.specs.PlanLaws.{Begun, bars, asks, goes, begun, Failing, long-verdict, Answered, short, idle, asks-streams, asks-maps, cuts, finishes, ends, fails, fed}
-use Rattle.std.specs.Reply.{message_after, reply_of}
+use Rattle.sound_core.specs.Reply.{message_after, reply_of}
 use Rattle.exchange.specs.Exchange.{step_of, call_of}
 use Rattle.exchange.specs.Feed.{Feed, paged, failed, page_of, plan_of, fed_of, verdict_of, long_of, One, own_refusals, asking}
 use Rattle.exchange.specs.StayLaws.{own-stays}
 use Rattle.exchange.specs.Types.{Written, Cause, Refusal, IoError, Verdict, Track, Call, SetParams, Command, Remap, Streams, Supported, Xfer, Capture, Stage, Idle, MapsAsked, Sent, Core, Sound, Say, Send, Done, Refused, Effect, Nothing, FillMaps, Look, Plan}
-use Rattle.std.specs.declared.reply.Reply.TheVariants as reply
+use Rattle.sound_core.specs.declared.reply.Reply.TheVariants as reply
 
 -- `refusal_of` has the verdict's own number and values (of a remap, a status that is not ok says 3 instead)
 pub verdict-says : (v : Verdict) → is_good v ≡ false → says_refusal (refusal_of (IoError (cause_of v)) v) ≡ says_verdict v

@@ -4,14 +4,14 @@ use Rattle.std.specs.Prelude.{◌≡◌, ℕ, ◌<◌, true, ◌≢◌, refl}
 use Rattle.std.proofs.Common.{sym, ap, ◌∙◌, subst}
 use Rattle.codes.specs.Flags.{has_bit, remap_feature}
 use Rattle.records.specs.declared.control.Remap as records
-use Rattle.std.specs.Plan.{can_remap}
+use Rattle.sound_core.specs.Plan.{can_remap}
 use Rattle.exchange.specs.State.{jack_of}
 use Rattle.exchange.specs.Tables.{look_of, pending_look}
 use Rattle.exchange.specs.OwnLaws.{Own, sets, commands, remaps, lists, tells, refuses}
 use Rattle.exchange.specs.PlanLaws.{begun, fed}
 use Rattle.exchange.specs.Exchange.{call_of}
 use Rattle.exchange.specs.Feed.{Feed, plan_of}
-use Rattle.std.specs.declared.plan.Request.TheVariants as request
+use Rattle.sound_core.specs.declared.plan.Request.TheVariants as request
 use Rattle.exchange.specs.Types.{Track, Call, Stage, Core, Sound, Send, Look, Plan, Counts}
 use Rattle.exchange.specs.ResultLaws.{wrong, own?, begun-own, Finished, answered-own}
 

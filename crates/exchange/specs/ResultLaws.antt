@@ -5,8 +5,8 @@ use Rattle.std.proofs.Common.{subst, arith}
 use Rattle.std.proofs.lemmas.Bool.{false≢true}
 use Rattle.exchange.specs.OwnLaws.{Own}
 use Rattle.exchange.specs.PlanLaws.{Begun, bars, asks, goes, Answered, short, idle, asks-streams, asks-maps, cuts, finishes, ends, fails}
-use Rattle.std.specs.declared.plan.Request.TheVariants as request
-use Rattle.std.specs.declared.plan.Value.TheVariants as value
+use Rattle.sound_core.specs.declared.plan.Request.TheVariants as request
+use Rattle.sound_core.specs.declared.plan.Value.TheVariants as value
 use Rattle.exchange.specs.Types.{Verdict, Said, Call, MapsAsked, Sent, Core, Say, Send, Done, Refused, Look, Plan, Says}
 
 pub wrong : ◌≡◌ {A = ℕ} 0 1 → ⊥

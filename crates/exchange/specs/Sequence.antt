@@ -19,8 +19,8 @@ use Rattle.tables.specs.Tables.{judged}
 use Rattle.turns.specs.Ring.{direct, new_ring}
 use Rattle.turns.specs.Consistent.{placed_of, paced_of}
 use Rattle.turns.specs.declared.reading.Reading.TheVariants.{Quiet, Completed}
-use Rattle.std.specs.Consistent.{consistent_of, stream_ok}
-use Rattle.std.specs.Plan.{own_set, begin_of, after_jacks, after_streams, after_maps, after_sent, answer_of}
+use Rattle.sound_core.specs.Consistent.{consistent_of, stream_ok}
+use Rattle.sound_core.specs.Plan.{own_set, begin_of, after_jacks, after_streams, after_maps, after_sent, answer_of}
 use Rattle.exchange.specs.Exchange.{call_of, feed_of, fail_of}
 use Rattle.exchange.specs.Feed.{plan_of, page_of}
 use Rattle.exchange.specs.XferLaws.{start-by, script-by, traced-by, capture-by}

@@ -5,8 +5,8 @@ use Rattle.codes.specs.Says.{Says, says, guard}
 use Rattle.records.specs.Records.{jack_info_of, pcm_info_of}
 use Rattle.tables.specs.Tables.{tables_bytes, jacks_in, pcms_in, maps_in}
 use Rattle.pending.specs.Table.{new_pending}
-use Rattle.std.specs.State.{unset, new_core}
-use Rattle.std.specs.Consistent.{consistent_of}
+use Rattle.sound_core.specs.State.{unset, new_core}
+use Rattle.sound_core.specs.Consistent.{consistent_of}
 use Rattle.exchange.specs.Types.{JackInfo, PcmInfo, ChannelMap, Core, Params, Sound, Configured}
 use Rattle.exchange.specs.declared.state.Configured.TheVariants as configured
 

@@ -2,7 +2,7 @@
 -- Assumes nothing.
 use Rattle.std.specs.Prelude.{◌≡◌, ℕ, Bool, true, false, List, refl}
 use Rattle.std.proofs.Common.{sym, ap, ◌∙◌}
-use Rattle.std.specs.Consistent.{consistent_of}
+use Rattle.sound_core.specs.Consistent.{consistent_of}
 use Rattle.exchange.specs.ConsistentLaws.{facts, not-ready}
 use Rattle.exchange.specs.Tables.{sound_after}
 use Rattle.exchange.specs.Exchange.{call_of}

@@ -12,7 +12,7 @@ use Rattle.turns.specs.Capture.{capture_start}
 use Rattle.turns.specs.Script.{transfer_of}
 use Rattle.turns.specs.declared.ring.Step as ring
 use Rattle.pending.specs.Table.{none_in}
-use Rattle.std.specs.Reply.{message_after, reply_of}
+use Rattle.sound_core.specs.Reply.{message_after, reply_of}
 use Rattle.exchange.specs.State.{pcms_of}
 use Rattle.exchange.specs.Exchange.{ids_by, list_of, step_of, list_values, says_beside, says_step, says_say, Stepped}
 use Rattle.exchange.specs.Xfer.{xfer_as, xfer_by, waiting_as, refused_step, set_up_step_with, set_up_step, start_step, done_step, start_as, start_of, start_traced_of, xfer_of, capture_of, xfer_message, says_xfer, start_says_as, start_says, start_traced_says, xfer_says, capture_says, Transfers}

@@ -7,9 +7,9 @@ use Rattle.layout.specs.Bytes.{num_at}
 use Rattle.codes.specs.Says.{pick}
 use Rattle.tables.specs.Tables.{is_good}
 use Rattle.tables.specs.TablesLaws.{good-whole}
-use Rattle.std.specs.State.{unset}
+use Rattle.sound_core.specs.State.{unset}
 use Rattle.exchange.specs.State.{params_of}
-use Rattle.std.specs.Plan.{stored_of, effect_of, verdict_by}
+use Rattle.sound_core.specs.Plan.{stored_of, effect_of, verdict_by}
 use Rattle.exchange.specs.Tables.{sound_after}
 use Rattle.exchange.specs.PlanLaws.{Answered, short, idle, asks-streams, asks-maps, cuts, finishes, ends, fails, fed}
 use Rattle.exchange.specs.Exchange.{step_of, call_of}

@@ -17,8 +17,8 @@ use Rattle.tables.specs.TablesLaws.{good-whole}
 use Rattle.tables.specs.WrittenLaws.{enough, judged-alike, copied-alike}
 use Rattle.tables.specs.declared.verdict.Verdict.TheVariants as verdict
 use Rattle.tables.specs.declared.verdict.Written.TheVariants.{Bytes}
-use Rattle.std.specs.Consistent.{consistent_of}
-use Rattle.std.specs.Plan.{refuse_of, status_refusal, effect_of, answer_by, answer_of, after_jacks, after_streams, after_maps, after_sent, verdict_by}
+use Rattle.sound_core.specs.Consistent.{consistent_of}
+use Rattle.sound_core.specs.Plan.{refuse_of, status_refusal, effect_of, answer_by, answer_of, after_jacks, after_streams, after_maps, after_sent, verdict_by}
 use Rattle.exchange.specs.Tables.{pending_look, sound_after}
 use Rattle.exchange.specs.Exchange.{step_of, feed_of, fail_of}
 use Rattle.exchange.specs.Feed.{paged, long_of, Long}

@@ -14,8 +14,8 @@ use Rattle.pending.specs.Full.{lowest-below, full-if}
 use Rattle.turns.specs.Ring.{direct, indirect}
 use Rattle.turns.specs.Calls.{idle_of}
 use Rattle.turns.specs.Consistent as ring
-use Rattle.std.specs.Consistent.{consistent_of, stream_ok, held_to}
-use Rattle.std.specs.Plan.{is_idle}
+use Rattle.sound_core.specs.Consistent.{consistent_of, stream_ok, held_to}
+use Rattle.sound_core.specs.Plan.{is_idle}
 use Rattle.exchange.specs.State.{params_of, life_of}
 use Rattle.exchange.specs.Submit.{places_of, refused_nb, set_up_nb, submit_of, nb_of, says_nb}
 use Rattle.exchange.specs.SubmitLaws.{few-places}

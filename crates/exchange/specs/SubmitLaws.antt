@@ -16,7 +16,7 @@ use Rattle.pending.specs.declared.calls.Outcome.TheVariants as outcome
 use Rattle.pending.specs.declared.place.Spot.TheVariants as spot
 use Rattle.turns.specs.Ring.{indirect}
 use Rattle.turns.specs.declared.reading.Reading.TheVariants.{Quiet, Completed}
-use Rattle.std.specs.Consistent.{consistent_of}
+use Rattle.sound_core.specs.Consistent.{consistent_of}
 use Rattle.exchange.specs.Xfer.{xfer_by}
 use Rattle.exchange.specs.StepLaws.{xfer-ap}
 use Rattle.exchange.specs.Submit.{places_of, refused_nb, set_up_nb, token_nb, submit_of, nb_of, nb_store, nb_message, says_nb, nb_says, Submits, end_by, barred_end, mark_by, mark_step, finish_step, token_seen}

@@ -19,9 +19,9 @@ use Rattle.turns.specs.Capture.{capture_start}
 use Rattle.turns.specs.Script.{transfer_of}
 use Rattle.turns.specs.Consistent as ring
 use Rattle.turns.specs.declared.reading.Reading.TheVariants.{Quiet, Completed}
-use Rattle.std.specs.Consistent.{consistent_of, stream_ok}
-use Rattle.std.specs.Plan.{is_idle}
-use Rattle.std.specs.State.{with_stage}
+use Rattle.sound_core.specs.Consistent.{consistent_of, stream_ok}
+use Rattle.sound_core.specs.Plan.{is_idle}
+use Rattle.sound_core.specs.State.{with_stage}
 use Rattle.exchange.specs.State.{params_of, life_of, with_core}
 use Rattle.exchange.specs.Tables.{sound_after}
 use Rattle.exchange.specs.Xfer.{xfer_as, waiting_as, refused_step, set_up_step_with, set_up_step, start_step, done_step, start_as, start_of, start_traced_of, xfer_of, capture_of, set_up_plan}

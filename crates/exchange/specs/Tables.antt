@@ -5,8 +5,8 @@ use Rattle.codes.specs.Says.{pick}
 use Rattle.layout.specs.Layout.{size}
 use Rattle.records.specs.Records.{jack_info, pcm_info, channel_map, jack_info_of, pcm_info_of}
 use Rattle.tables.specs.Tables.{jacks_place, pcms_place, maps_place, copied_in}
-use Rattle.std.specs.declared.plan.Value.TheVariants as value
-use Rattle.std.specs.declared.plan.Look.TheVariants as look
+use Rattle.sound_core.specs.declared.plan.Value.TheVariants as value
+use Rattle.sound_core.specs.declared.plan.Look.TheVariants as look
 use Rattle.exchange.specs.State.{jacks_of, pcms_of, with_core}
 use Rattle.exchange.specs.Types.{JackInfo, PcmInfo, Field, Rates, Formats, Channels, Features, Call, SetParams, Command, Remap, Streams, Supported, Xfer, Capture, Stage, Idle, JacksAsked, StreamsAsked, MapsAsked, Sent, Core, Value, Look, Effect, Nothing, FillJacks, FillStreams, FillMaps, Store, Move, Sound}
 

@@ -20,26 +20,26 @@ pub use Rattle.turns.specs.declared.ring.Turned.{Turned}
 pub use Rattle.pending.specs.declared.table.Pending.{Pending}
 pub use Rattle.pending.specs.declared.calls.Judged.{Judged}
 pub use Rattle.pending.specs.declared.place.Spot.{Spot}
-pub use Rattle.std.specs.declared.state.Params.{Params}
-pub use Rattle.std.specs.declared.state.Counts.{Counts}
-pub use Rattle.std.specs.declared.state.Call.{Call}
-pub use Rattle.std.specs.declared.state.Call.TheVariants.{SetParams, Command, Remap, Streams, Supported, Xfer, Capture}
-pub use Rattle.std.specs.declared.state.Stage.{Stage}
-pub use Rattle.std.specs.declared.state.Stage.TheVariants.{Idle, JacksAsked, StreamsAsked, MapsAsked, Sent}
-pub use Rattle.std.specs.declared.state.Core.{Core}
-pub use Rattle.std.specs.declared.plan.Look.{Look}
-pub use Rattle.std.specs.declared.plan.Plan.{Plan}
-pub use Rattle.std.specs.declared.reply.Reply.{Reply}
-pub use Rattle.std.specs.declared.plan.Value.{Value}
-pub use Rattle.std.specs.declared.plan.Say.{Say}
-pub use Rattle.std.specs.declared.plan.Say.TheVariants.{Refused, Done, Send}
-pub use Rattle.std.specs.declared.state.Field.{Field}
-pub use Rattle.std.specs.declared.state.Field.TheVariants.{Rates, Formats, Channels, Features}
-pub use Rattle.std.specs.declared.plan.Effect.{Effect}
-pub use Rattle.std.specs.declared.plan.Effect.TheVariants.{Nothing, FillJacks, FillStreams, FillMaps, Store, Move}
-pub use Rattle.std.specs.declared.state.Kind.{Kind}
-pub use Rattle.std.specs.declared.gate.Gate.{Gate}
-pub use Rattle.std.specs.declared.gate.Gate.TheVariants.{Shut, SetUp, Open}
+pub use Rattle.sound_core.specs.declared.state.Params.{Params}
+pub use Rattle.sound_core.specs.declared.state.Counts.{Counts}
+pub use Rattle.sound_core.specs.declared.state.Call.{Call}
+pub use Rattle.sound_core.specs.declared.state.Call.TheVariants.{SetParams, Command, Remap, Streams, Supported, Xfer, Capture}
+pub use Rattle.sound_core.specs.declared.state.Stage.{Stage}
+pub use Rattle.sound_core.specs.declared.state.Stage.TheVariants.{Idle, JacksAsked, StreamsAsked, MapsAsked, Sent}
+pub use Rattle.sound_core.specs.declared.state.Core.{Core}
+pub use Rattle.sound_core.specs.declared.plan.Look.{Look}
+pub use Rattle.sound_core.specs.declared.plan.Plan.{Plan}
+pub use Rattle.sound_core.specs.declared.reply.Reply.{Reply}
+pub use Rattle.sound_core.specs.declared.plan.Value.{Value}
+pub use Rattle.sound_core.specs.declared.plan.Say.{Say}
+pub use Rattle.sound_core.specs.declared.plan.Say.TheVariants.{Refused, Done, Send}
+pub use Rattle.sound_core.specs.declared.state.Field.{Field}
+pub use Rattle.sound_core.specs.declared.state.Field.TheVariants.{Rates, Formats, Channels, Features}
+pub use Rattle.sound_core.specs.declared.plan.Effect.{Effect}
+pub use Rattle.sound_core.specs.declared.plan.Effect.TheVariants.{Nothing, FillJacks, FillStreams, FillMaps, Store, Move}
+pub use Rattle.sound_core.specs.declared.state.Kind.{Kind}
+pub use Rattle.sound_core.specs.declared.gate.Gate.{Gate}
+pub use Rattle.sound_core.specs.declared.gate.Gate.TheVariants.{Shut, SetUp, Open}
 pub use Rattle.exchange.specs.declared.state.Configured.{Configured}
 pub use Rattle.exchange.specs.declared.state.Sound.{Sound}
 pub use Rattle.exchange.specs.declared.xfer.XferStep.{XferStep}

@@ -7,10 +7,10 @@ use Rattle.codes.specs.Answers.{says_refusal}
 use Rattle.codes.specs.Life.{takes_of}
 use Rattle.exchange.specs.State.{params_of, life_of}
 use Rattle.exchange.specs.ConsistentLaws.{facts, not-ready}
-use Rattle.std.specs.Consistent.{consistent_of}
+use Rattle.sound_core.specs.Consistent.{consistent_of}
 use Rattle.exchange.specs.OwnLaws.{Own, refuses}
 use Rattle.exchange.specs.PlanLaws.{Failing, long-verdict, long_of_lem, Answered, short, idle, asks-streams, asks-maps, cuts, finishes, ends, fails, fed}
-use Rattle.std.specs.Reply.{reply_of}
+use Rattle.sound_core.specs.Reply.{reply_of}
 use Rattle.exchange.specs.Exchange.{step_of}
 use Rattle.exchange.specs.Xfer.{waiting_as, start_of, start_traced_of, xfer_of, capture_of}
 use Rattle.exchange.specs.Kept.{Kept}
@@ -18,7 +18,7 @@ use Rattle.exchange.specs.XferLaws.{start-by, script-by, traced-by, capture-by}
 use Rattle.exchange.specs.StayLaws.{after-core}
 use Rattle.exchange.specs.ResultLaws.{wrong, recall}
 use Rattle.exchange.specs.Feed.{Feed, page_of, plan_of, fed_of, verdict_of, long_of, Long, One, asking, call_at}
-use Rattle.std.specs.declared.reply.Reply.TheVariants as reply
+use Rattle.sound_core.specs.declared.reply.Reply.TheVariants as reply
 use Rattle.exchange.specs.declared.xfer.XferReply.TheVariants as xfer
 use Rattle.exchange.specs.Types.{Refusal, Verdict, Ring, Stage, Idle, Core, Sound, Look, Plan, Reply, XferStep}
 

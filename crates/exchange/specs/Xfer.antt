@@ -10,10 +10,10 @@ use Rattle.turns.specs.Script.{transfer_of}
 use Rattle.turns.specs.declared.ring.Step as ring
 use Rattle.turns.specs.declared.ring.Said.TheVariants as said
 use Rattle.pending.specs.Table.{none_in}
-use Rattle.std.specs.State.{with_stage}
-use Rattle.std.specs.Plan.{query_of, send_of}
-use Rattle.std.specs.Gate.{gate_by}
-use Rattle.std.specs.Reply.{message_after}
+use Rattle.sound_core.specs.State.{with_stage}
+use Rattle.sound_core.specs.Plan.{query_of, send_of}
+use Rattle.sound_core.specs.Gate.{gate_by}
+use Rattle.sound_core.specs.Reply.{message_after}
 use Rattle.exchange.specs.State.{params_of, life_of, pcm_of, with_core}
 use Rattle.exchange.specs.declared.xfer.XferReply.TheVariants.{Send}
 use Rattle.exchange.specs.Types.{Refusal, Track, Ring, Turned, Transferred, Call, Xfer, Capture, JacksAsked, Sound, Nothing, Plan, XferReply, Says, XferStep}

@@ -10,15 +10,15 @@ use Rattle.codes.specs.Life.{takes_of}
 use Rattle.turns.specs.Calls.{idle_of, start_call, start_traced, started_of}
 use Rattle.turns.specs.Capture.{capture_start}
 use Rattle.turns.specs.Script.{transfer_of}
-use Rattle.std.specs.GateLaws.{faces, faced-by}
+use Rattle.sound_core.specs.GateLaws.{faces, faced-by}
 use Rattle.turns.specs.Consistent as ring
 use Rattle.turns.specs.declared.ring.Step as step
 use Rattle.turns.specs.ConsistentLaws.{both}
 use Rattle.pending.specs.Table.{none_in}
 use Rattle.exchange.specs.State.{params_of, life_of, pcm_of, with_core}
-use Rattle.std.specs.Consistent.{call_ok, numbers_ok, period_ok, params_ok, consistent_of, stream_ok, held_to}
+use Rattle.sound_core.specs.Consistent.{call_ok, numbers_ok, period_ok, params_ok, consistent_of, stream_ok, held_to}
 use Rattle.exchange.specs.ConsistentLaws.{both_of, either-of, Paced, period-facts}
-use Rattle.std.specs.Plan.{is_idle}
+use Rattle.sound_core.specs.Plan.{is_idle}
 use Rattle.exchange.specs.PlanLaws.{idle-is}
 use Rattle.exchange.specs.Xfer.{xfer_as, xfer_by, waiting_as, set_up_with, set_up_plan, refused_step, set_up_step_with, set_up_step, start_step, done_step, start_as, start_of, start_traced_of, xfer_of, capture_of}
 use Rattle.exchange.specs.Kept.{Kept, Playable}

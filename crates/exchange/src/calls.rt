@@ -2,11 +2,11 @@
 ghost use Rattle.std.specs.Prelude.{◌≡◌, ◌≤◌, [], ◌++◌, length};
 ghost use Rattle.layout.specs.Lent.{message_size};
 ghost use Rattle.codes.specs.declared.answers.Refusal.TheVariants.{BadLength};
-ghost use Rattle.std.specs.State.{asked_params};
-ghost use Rattle.std.specs.Plan.{refuse_of};
-ghost use Rattle.std.specs.declared.state.Kind.TheVariants.{Prepare, Release, Start, Stop};
-ghost use Rattle.std.specs.declared.state.Field.TheVariants.{Rates, Formats, Channels, Features};
-ghost use Rattle.std.specs.declared.state.Call.TheVariants as calls;
+ghost use Rattle.sound_core.specs.State.{asked_params};
+ghost use Rattle.sound_core.specs.Plan.{refuse_of};
+ghost use Rattle.sound_core.specs.declared.state.Kind.TheVariants.{Prepare, Release, Start, Stop};
+ghost use Rattle.sound_core.specs.declared.state.Field.TheVariants.{Rates, Formats, Channels, Features};
+ghost use Rattle.sound_core.specs.declared.state.Call.TheVariants as calls;
 ghost use Rattle.tables.specs.declared.verdict.Written.TheVariants.{InFull, Bytes};
 ghost use Rattle.exchange.specs.Exchange.{step_of, Stepped, call_of, feed_of, fail_of};
 

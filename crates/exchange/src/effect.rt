@@ -3,7 +3,7 @@ ghost use Rattle.std.specs.Prelude.{◌≡◌, ◌+◌, ◌*◌, ◌<◌, ◌≤
 ghost use Rattle.layout.specs.Layout.{size};
 ghost use Rattle.records.specs.Records.{jack_info_of, pcm_info, pcm_info_of};
 ghost use Rattle.tables.specs.Tables.{pcms_place, jacks_in, pcms_in, copied_in};
-ghost use Rattle.std.specs.State.{unset};
+ghost use Rattle.sound_core.specs.State.{unset};
 ghost use Rattle.exchange.specs.State.{params_of, life_of, pcm_of};
 ghost use Rattle.exchange.specs.Tables.{field_of, look_by, pending_by, moved, sound_after};
 

@@ -1,7 +1,7 @@
 // The state: a core on which every decision is made, three tables as the received records, of each
 // stream its parameters and where it is in its lifecycle, and what was submitted without waiting.
 ghost use Rattle.std.specs.Prelude.{◌≡◌, true, false, replicate};
-ghost use Rattle.std.specs.State.{unset};
+ghost use Rattle.sound_core.specs.State.{unset};
 ghost use Rattle.exchange.specs.State.{new_sound, says_configured, configured_of};
 
 use codes::life;

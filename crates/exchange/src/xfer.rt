@@ -1,8 +1,8 @@
 // The start of a transfer, of a playback or a capture, and a playback over a whole script.
 ghost use Rattle.std.specs.Prelude.{◌≡◌, ◌≤◌, length};
 ghost use Rattle.layout.specs.Lent.{message_size};
-ghost use Rattle.std.specs.Reply.{message_after};
-ghost use Rattle.std.specs.declared.gate.Gate.TheVariants.{Shut, SetUp, Open};
+ghost use Rattle.sound_core.specs.Reply.{message_after};
+ghost use Rattle.sound_core.specs.declared.gate.Gate.TheVariants.{Shut, SetUp, Open};
 ghost use Rattle.exchange.specs.Xfer.{xfer_as, set_up_with, refused_step, set_up_step_with, start_step, done_step, start_of, start_traced_of, xfer_of, capture_of, start_says, start_traced_says, xfer_says, capture_says, Transfers};
 
 use crate::effect::{direction_of, life_of, params_of};

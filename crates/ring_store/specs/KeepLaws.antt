@@ -179,6 +179,8 @@ Begins (Refused r) = Unit {0}
 unless-begun : (said : Said) (old new : List ℕ) → Begins said → (said_word said ≡ going → ⊥) → pick (is_refused said) old new ≡ old
 unless-begun Going old new p n = absurd (n refl)
 unless-begun (Refused r) old new p n = refl
+unless-begun Done old new e n = elim e [ ]
+unless-begun (Ended _) old new e n = elim e [ ]
 
 refused-unchanged : (s : List ℕ) (x : Step) → Telling x.said → Barred (leaves s x).answer → (leaves s x).store ≡ s
 refused-unchanged s x p =

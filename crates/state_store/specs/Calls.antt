@@ -10,13 +10,13 @@ use Rattle.codes.specs.Says.{guard}
 use Rattle.pending.specs.Table.{none_in}
 use Rattle.codes.specs.Answers.{refusal_word}
 use Rattle.exchange.specs.State.{new_sound}
-use Rattle.std.specs.Consistent.{consistent_of}
+use Rattle.sound_core.specs.Consistent.{consistent_of}
 use Rattle.exchange.specs.Tables.{sound_after}
-use Rattle.std.specs.Reply.{reply_word, message_after}
+use Rattle.sound_core.specs.Reply.{reply_word, message_after}
 use Rattle.exchange.specs.Exchange.{step_of, call_of, feed_of, fail_of}
 use Rattle.exchange.specs.Xfer.{xfer_as, set_up_with}
-use Rattle.std.specs.declared.plan.Value.TheVariants as value
-use Rattle.std.specs.declared.reply.Reply.TheVariants as reply
+use Rattle.sound_core.specs.declared.plan.Value.TheVariants as value
+use Rattle.sound_core.specs.declared.reply.Reply.TheVariants as reply
 use Rattle.state_store.specs.Places.{state_size}
 use Rattle.layout.specs.Lent.{Made, made, Shown, shown, result_size, message_size}
 use Rattle.state_store.specs.Store.{sound_of, sound_bytes, state_after}

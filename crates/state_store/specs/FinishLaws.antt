@@ -9,12 +9,12 @@ use Rattle.layout.specs.Bytes.{Bytes}
 use Rattle.codes.specs.Says.{guard}
 use Rattle.codes.specs.SaysLaws.{picks, skips, passes, stops}
 use Rattle.turns.specs.ConsistentLaws.{both}
-use Rattle.std.specs.Plan.{refuse_of, begin_of, answer_of, verdict_by}
+use Rattle.sound_core.specs.Plan.{refuse_of, begin_of, answer_of, verdict_by}
 use Rattle.exchange.specs.Tables.{look_of, pending_look, sound_after}
-use Rattle.std.specs.ReplyLaws.{tells-reply, tells-message}
-use Rattle.std.specs.Reply.{message_after, reply_of, tell_of, told_in}
+use Rattle.sound_core.specs.ReplyLaws.{tells-reply, tells-message}
+use Rattle.sound_core.specs.Reply.{message_after, reply_of, tell_of, told_in}
 use Rattle.exchange.specs.Exchange.{call_of, feed_of, fail_of}
-use Rattle.std.specs.declared.plan.Say.TheVariants.{Refused}
+use Rattle.sound_core.specs.declared.plan.Say.TheVariants.{Refused}
 use Rattle.state_store.specs.Types.{Written, BadLength, Track, Verdict, QueueFailed, Refused, Call, Core, Say, Effect, Look, Plan}
 use Rattle.state_store.specs.Places.{state_size}
 use Rattle.layout.specs.Lent.{result_size, message_size, page_size}

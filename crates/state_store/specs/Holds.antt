@@ -24,10 +24,10 @@ use Rattle.turns.specs.Consistent as ring
 use Rattle.turns.specs.declared.ring.Step as ring-step
 use Rattle.turns.specs.ConsistentLaws.{both}
 use Rattle.pending.specs.Table.{free_token, none_in}
-use Rattle.std.specs.State.{unset, new_core}
+use Rattle.sound_core.specs.State.{unset, new_core}
 use Rattle.exchange.specs.State.{new_sound, params_of}
-use Rattle.std.specs.Consistent.{consistent_of, stream_ok}
-use Rattle.std.specs.Plan.{effect_of, kind_life}
+use Rattle.sound_core.specs.Consistent.{consistent_of, stream_ok}
+use Rattle.sound_core.specs.Plan.{effect_of, kind_life}
 use Rattle.exchange.specs.Tables.{moved, sound_after}
 use Rattle.exchange.specs.Exchange.{step_of, call_of, feed_of, fail_of}
 use Rattle.exchange.specs.Feed.{Feed, paged, failed, plan_of, page_of}

@@ -16,7 +16,7 @@ use Rattle.exchange.specs.Exchange.{ids_from, listed}
 use Rattle.exchange.specs.ListLaws.{listed-push, listed_more, length_ids, take-cap}
 use Rattle.exchange.specs.Steps.{pushed}
 use Rattle.state_store.specs.Types.{StreamList}
-use Rattle.std.specs.declared.plan.Value.TheVariants.{Streams}
+use Rattle.sound_core.specs.declared.plan.Value.TheVariants.{Streams}
 use Rattle.state_store.specs.Calls.{value_bytes}
 use Rattle.state_store.specs.Steps.{ids_in, Listed}
 

@@ -11,7 +11,7 @@ use Rattle.layout.specs.StoreLaws.{sets_then}
 use Rattle.codes.specs.SaysLaws.{passes, stops}
 use Rattle.tables.specs.Tables.{tables_bytes}
 use Rattle.pending.specs.Table.{free_token}
-use Rattle.std.specs.State.{unset, new_core}
+use Rattle.sound_core.specs.State.{unset, new_core}
 use Rattle.state_store.specs.Types.{Counts, Core}
 use Rattle.state_store.specs.Places.{head_size, state_size, tables_size}
 use Rattle.state_store.specs.Store.{params_bytes, life_bytes, token_bytes, head_at, core_of, sound_bytes}

@@ -7,10 +7,10 @@ use Rattle.codes.specs.SaysLaws.{stops}
 use Rattle.turns.specs.ConsistentLaws.{both}
 use Rattle.pending.specs.Table.{none_in}
 use Rattle.exchange.specs.State.{params_of, life_of, pcm_of}
-use Rattle.std.specs.Gate.{gate_by}
+use Rattle.sound_core.specs.Gate.{gate_by}
 use Rattle.exchange.specs.Xfer.{xfer_as}
 use Rattle.exchange.specs.StepLaws as step
-use Rattle.std.specs.declared.gate.Gate.TheVariants as gate
+use Rattle.sound_core.specs.declared.gate.Gate.TheVariants as gate
 use Rattle.state_store.specs.Places.{head_size, state_size}
 use Rattle.state_store.specs.Store.{head_at, core_of, sound_of}
 use Rattle.state_store.specs.Calls.{Opened, opened, shut, setting_up_with, open_as}

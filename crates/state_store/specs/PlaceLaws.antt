@@ -10,7 +10,7 @@ use Rattle.layout.specs.BytesLaws.{bytes_at-part, num_at-one}
 use Rattle.layout.specs.RowsLaws.{length-rows, rows-at}
 use Rattle.tables.specs.Tables.{tables_bytes}
 use Rattle.pending.specs.Table.{free_token, token_at}
-use Rattle.std.specs.State.{unset}
+use Rattle.sound_core.specs.State.{unset}
 use Rattle.exchange.specs.State.{params_of}
 use Rattle.state_store.specs.Types.{Params, Token}
 use Rattle.state_store.specs.Places.{head_size, params_place, lives_place, tokens_place, state_size}

@@ -13,16 +13,16 @@ use Rattle.codes.specs.Answers.{says_refusal}
 use Rattle.codes.specs.AnswersLaws.{numbered}
 use Rattle.codes.specs.Cause.{number_in, forget}
 use Rattle.records.specs.Records.{query, query_values, remap, remap_values, pcm_command, pcm_command_values, set_parameters, set_parameters_values}
-use Rattle.std.specs.Consistent.{consistent_of}
-use Rattle.std.specs.Plan.{refuse_of}
-use Rattle.std.specs.Reply.{request_bytes, says_reply, reply_word, reply_of}
+use Rattle.sound_core.specs.Consistent.{consistent_of}
+use Rattle.sound_core.specs.Plan.{refuse_of}
+use Rattle.sound_core.specs.Reply.{request_bytes, says_reply, reply_word, reply_of}
 use Rattle.exchange.specs.Exchange.{step_of, call_of}
 use Rattle.exchange.specs.Feed.{Feed, paged, failed, plan_of, page_of, fed_of, One, own_refusals}
 use Rattle.exchange.specs.PlanLaws.{Begun, bars, asks, goes, Answered, short, idle, asks-streams, asks-maps, cuts, finishes, ends, fails, fed}
 use Rattle.exchange.specs.Refused.{refused-writes-nothing, refused-unchanged, Left, same, closed, cut, done, refused-feed}
-use Rattle.std.specs.declared.reply.Reply.TheVariants as reply
-use Rattle.std.specs.declared.plan.Request.TheVariants as request
-use Rattle.std.specs.declared.plan.Say.TheVariants as say
+use Rattle.sound_core.specs.declared.reply.Reply.TheVariants as reply
+use Rattle.sound_core.specs.declared.plan.Request.TheVariants as request
+use Rattle.sound_core.specs.declared.plan.Say.TheVariants as say
 use Rattle.state_store.specs.Store.{whole, sound_of, sound_bytes, state_after}
 use Rattle.state_store.specs.Calls.{Told, told, too_short, result_bytes, call_in, feed_in, fail_in, Opened, open_as, open_in, open_capture_in}
 use Rattle.state_store.specs.StoreLaws.{core_at, store_same}

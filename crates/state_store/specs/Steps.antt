@@ -4,16 +4,16 @@ use Rattle.std.specs.Prelude.{◌≡◌, ℕ, ◌+◌, ◌*◌, Bool, List, [], 
 use Rattle.std.proofs.lemmas.List.Edits.{sets}
 use Rattle.layout.specs.Bytes.{le}
 use Rattle.codes.specs.Says.{guard, pick}
-use Rattle.std.specs.Consistent.{consistent_of}
+use Rattle.sound_core.specs.Consistent.{consistent_of}
 use Rattle.layout.specs.Lent.{Shown, shown}
 use Rattle.state_store.specs.Calls.{Told, left, result_bytes, Opened, opened}
 use Rattle.layout.specs.Rows.{rows_bytes}
 use Rattle.tables.specs.Tables.{pcms_in}
 use Rattle.exchange.specs.State.{pcms_of}
 use Rattle.exchange.specs.Exchange.{ids_from, list_of}
-use Rattle.std.specs.Reply.{reply_word, message_after, reply_of}
+use Rattle.sound_core.specs.Reply.{reply_word, message_after, reply_of}
 use Rattle.state_store.specs.Store.{sound_of, sound_bytes}
-use Rattle.std.specs.Plan.{query_of, send_of}
+use Rattle.sound_core.specs.Plan.{query_of, send_of}
 use Rattle.exchange.specs.Tables.{sound_after}
 use Rattle.codes.specs.Says as answers
 use Rattle.codes.specs.Answers.{refusal_word}

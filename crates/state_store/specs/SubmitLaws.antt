@@ -14,9 +14,9 @@ use Rattle.pending.specs.Places.{placed_in, spot_by}
 use Rattle.pending.specs.declared.place.Spot.TheVariants as spot
 use Rattle.turns.specs.Consistent as ring
 use Rattle.turns.specs.ConsistentLaws.{both}
-use Rattle.std.specs.Consistent.{consistent_of, stream_ok}
-use Rattle.std.specs.Gate.{gate_by}
-use Rattle.std.specs.declared.gate.Gate.TheVariants as gate
+use Rattle.sound_core.specs.Consistent.{consistent_of, stream_ok}
+use Rattle.sound_core.specs.Gate.{gate_by}
+use Rattle.sound_core.specs.declared.gate.Gate.TheVariants as gate
 use Rattle.exchange.specs.State.{params_of, life_of}
 use Rattle.exchange.specs.Xfer.{xfer_by}
 use Rattle.exchange.specs.StepLaws.{xfer-ap, set-up-long}

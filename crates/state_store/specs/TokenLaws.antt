@@ -18,7 +18,7 @@ use Rattle.pending.specs.CallLaws.{seen_none, seen-there}
 use Rattle.pending.specs.declared.table.Seen.TheVariants as seen
 use Rattle.turns.specs.Script.{reading_of}
 use Rattle.turns.specs.declared.reading.Reading.TheVariants.{Quiet, Completed}
-use Rattle.std.specs.Consistent.{consistent_of}
+use Rattle.sound_core.specs.Consistent.{consistent_of}
 use Rattle.exchange.specs.State.{configured_of}
 use Rattle.exchange.specs.Submit.{with_pending, end_by, token_seen}
 use Rattle.exchange.specs.SubmitLaws as step

@@ -7,28 +7,28 @@ pub use Rattle.tables.specs.declared.verdict.Verdict.TheVariants.{Refused}
 pub use Rattle.tables.specs.declared.verdict.Written.{Written}
 pub use Rattle.turns.specs.declared.ring.Track.{Track}
 pub use Rattle.turns.specs.declared.ring.Ring.{Ring}
-pub use Rattle.std.specs.declared.reply.Reply.{Reply}
-pub use Rattle.std.specs.declared.plan.Plan.{Plan}
-pub use Rattle.std.specs.declared.state.Core.{Core}
-pub use Rattle.std.specs.declared.state.Call.{Call}
-pub use Rattle.std.specs.declared.state.Call.TheVariants.{Streams, SetParams, Command, Remap, Supported, Xfer, Capture}
-pub use Rattle.std.specs.declared.state.Counts.{Counts}
-pub use Rattle.std.specs.declared.plan.Value.{Value}
-pub use Rattle.std.specs.declared.plan.Effect.{Effect}
-pub use Rattle.std.specs.declared.plan.Effect.TheVariants.{Nothing, FillJacks, FillStreams, FillMaps, Store, Move}
-pub use Rattle.std.specs.declared.state.Params.{Params}
-pub use Rattle.std.specs.declared.plan.Request.{Request}
-pub use Rattle.std.specs.declared.plan.Say.{Say}
-pub use Rattle.std.specs.declared.plan.Say.TheVariants.{Send, Done}
-pub use Rattle.std.specs.declared.plan.Look.{Look}
-pub use Rattle.std.specs.declared.state.Kind.{Kind}
-pub use Rattle.std.specs.declared.state.Kind.TheVariants.{Prepare, Release, Start, Stop}
-pub use Rattle.std.specs.declared.state.Field.{Field}
-pub use Rattle.std.specs.declared.state.Field.TheVariants.{Rates, Formats, Channels, Features}
-pub use Rattle.std.specs.declared.state.Stage.{Stage}
-pub use Rattle.std.specs.declared.state.Stage.TheVariants.{Idle, JacksAsked, StreamsAsked, MapsAsked, Sent}
-pub use Rattle.std.specs.declared.gate.Gate.{Gate}
-pub use Rattle.std.specs.declared.gate.Gate.TheVariants.{Open, Shut, SetUp}
+pub use Rattle.sound_core.specs.declared.reply.Reply.{Reply}
+pub use Rattle.sound_core.specs.declared.plan.Plan.{Plan}
+pub use Rattle.sound_core.specs.declared.state.Core.{Core}
+pub use Rattle.sound_core.specs.declared.state.Call.{Call}
+pub use Rattle.sound_core.specs.declared.state.Call.TheVariants.{Streams, SetParams, Command, Remap, Supported, Xfer, Capture}
+pub use Rattle.sound_core.specs.declared.state.Counts.{Counts}
+pub use Rattle.sound_core.specs.declared.plan.Value.{Value}
+pub use Rattle.sound_core.specs.declared.plan.Effect.{Effect}
+pub use Rattle.sound_core.specs.declared.plan.Effect.TheVariants.{Nothing, FillJacks, FillStreams, FillMaps, Store, Move}
+pub use Rattle.sound_core.specs.declared.state.Params.{Params}
+pub use Rattle.sound_core.specs.declared.plan.Request.{Request}
+pub use Rattle.sound_core.specs.declared.plan.Say.{Say}
+pub use Rattle.sound_core.specs.declared.plan.Say.TheVariants.{Send, Done}
+pub use Rattle.sound_core.specs.declared.plan.Look.{Look}
+pub use Rattle.sound_core.specs.declared.state.Kind.{Kind}
+pub use Rattle.sound_core.specs.declared.state.Kind.TheVariants.{Prepare, Release, Start, Stop}
+pub use Rattle.sound_core.specs.declared.state.Field.{Field}
+pub use Rattle.sound_core.specs.declared.state.Field.TheVariants.{Rates, Formats, Channels, Features}
+pub use Rattle.sound_core.specs.declared.state.Stage.{Stage}
+pub use Rattle.sound_core.specs.declared.state.Stage.TheVariants.{Idle, JacksAsked, StreamsAsked, MapsAsked, Sent}
+pub use Rattle.sound_core.specs.declared.gate.Gate.{Gate}
+pub use Rattle.sound_core.specs.declared.gate.Gate.TheVariants.{Open, Shut, SetUp}
 pub use Rattle.pending.specs.declared.table.Token.{Token}
 pub use Rattle.pending.specs.declared.table.Pending.{Pending}
 pub use Rattle.pending.specs.declared.table.Seen.{Seen}

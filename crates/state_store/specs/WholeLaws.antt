@@ -12,7 +12,7 @@ use Rattle.codes.specs.Says.{pick}
 use Rattle.codes.specs.SaysLaws.{picks, guarded-by}
 use Rattle.tables.specs.Tables.{is_good}
 use Rattle.turns.specs.ConsistentLaws.{both}
-use Rattle.std.specs.State.{new_core, with_stage}
+use Rattle.sound_core.specs.State.{new_core, with_stage}
 use Rattle.exchange.specs.State.{new_sound}
 use Rattle.exchange.specs.Tables.{sound_after}
 use Rattle.exchange.specs.Feed.{Feed, paged, failed, plan_of, page_of}

@@ -2,8 +2,8 @@
 // what it leaves written over it. Only what changes is written.
 ghost use Rattle.std.specs.Prelude.{◌≡◌, ◌≤◌, [], length};
 ghost use Rattle.layout.specs.Lent.{message_size};
-ghost use Rattle.std.specs.Reply.{says_reply, reply_word};
-ghost use Rattle.std.specs.declared.plan.Effect.TheVariants.{Nothing};
+ghost use Rattle.sound_core.specs.Reply.{says_reply, reply_word};
+ghost use Rattle.sound_core.specs.declared.plan.Effect.TheVariants.{Nothing};
 ghost use Rattle.tables.specs.declared.verdict.Written.TheVariants.{InFull, Bytes};
 ghost use Rattle.state_store.specs.Calls.{left, call_in, feed_in, fail_in, opened, open_as, open_in, open_capture_in};
 ghost use Rattle.state_store.specs.Steps.{changed, finished, setting_up_by};

@@ -10,10 +10,10 @@ use Rattle.tables.specs.Tables.{judged}
 use Rattle.turns.specs.Consistent.{placed_of, paced_of}
 use Rattle.turns.specs.Ring.{direct, new_track}
 use Rattle.turns.specs.Worked as turns
-use Rattle.std.specs.State.{new_core, with_stage, asked_params}
-use Rattle.std.specs.Consistent.{consistent_of}
-use Rattle.std.specs.Plan.{own_set, begin_of, read_to, after_streams, answer_of}
-use Rattle.std.specs.Reply.{message_after, says_reply, reply_of}
+use Rattle.sound_core.specs.State.{new_core, with_stage, asked_params}
+use Rattle.sound_core.specs.Consistent.{consistent_of}
+use Rattle.sound_core.specs.Plan.{own_set, begin_of, read_to, after_streams, answer_of}
+use Rattle.sound_core.specs.Reply.{message_after, says_reply, reply_of}
 use Rattle.exchange.specs.State.{new_sound, with_core}
 use Rattle.exchange.specs.Exchange.{call_of, feed_of}
 use Rattle.worked.specs.Types.{InFull, Going, Done, Ended, Completed, Call, SetParams, Streams, StreamsAsked, Sound}

@@ -9,12 +9,12 @@ use Rattle.codes.specs.SaysLaws.{picks}
 use Rattle.records.specs.Records.{pcm_command, set_parameters, set_parameters_values}
 use Rattle.turns.specs.Asked as ring
 use Rattle.turns.specs.Cut.{cut}
-use Rattle.std.specs.State.{unset, with_stage}
-use Rattle.std.specs.Consistent.{period_ok, numbers_ok, call_ok}
-use Rattle.std.specs.Plan.{kind_code, kind_life, set_of, own_of, stored_of}
-use Rattle.std.specs.Reply.{request_bytes}
-use Rattle.std.specs.Unguarded.{off-command}
-use Rattle.std.specs.declared.plan.Request.TheVariants as request
+use Rattle.sound_core.specs.State.{unset, with_stage}
+use Rattle.sound_core.specs.Consistent.{period_ok, numbers_ok, call_ok}
+use Rattle.sound_core.specs.Plan.{kind_code, kind_life, set_of, own_of, stored_of}
+use Rattle.sound_core.specs.Reply.{request_bytes}
+use Rattle.sound_core.specs.Unguarded.{off-command}
+use Rattle.sound_core.specs.declared.plan.Request.TheVariants as request
 use Rattle.exchange.specs.State.{jacks_of, pcms_of, maps_of, params_of}
 use Rattle.exchange.specs.Kept.{Playable}
 use Rattle.exchange.specs.XferLaws.{set-range, period-divides, start_is}

@@ -12,15 +12,15 @@ use Rattle.codes.specs.declared.requests.RequestCode.TheVariants.{RPcmPrepare, R
 use Rattle.records.specs.Records.{pcm_command}
 use Rattle.tables.specs.Tables.{judged}
 use Rattle.pending.specs.Table.{none_in}
-use Rattle.std.specs.State.{with_stage}
-use Rattle.std.specs.Consistent.{period_ok, call_ok}
-use Rattle.std.specs.Plan.{send_of, end_of, kind_code, set_of, own_set, own_of, effect_of, after_sent}
-use Rattle.std.specs.Reply.{request_bytes}
-use Rattle.std.specs.Unguarded.{off_set}
-use Rattle.std.specs.declared.plan.Request.TheVariants as request
-use Rattle.std.specs.declared.plan.Value.TheVariants as value
-use Rattle.std.specs.declared.plan.Say.TheVariants.{Done}
-use Rattle.std.specs.declared.reply.Reply.TheVariants as reply
+use Rattle.sound_core.specs.State.{with_stage}
+use Rattle.sound_core.specs.Consistent.{period_ok, call_ok}
+use Rattle.sound_core.specs.Plan.{send_of, end_of, kind_code, set_of, own_set, own_of, effect_of, after_sent}
+use Rattle.sound_core.specs.Reply.{request_bytes}
+use Rattle.sound_core.specs.Unguarded.{off_set}
+use Rattle.sound_core.specs.declared.plan.Request.TheVariants as request
+use Rattle.sound_core.specs.declared.plan.Value.TheVariants as value
+use Rattle.sound_core.specs.declared.plan.Say.TheVariants.{Done}
+use Rattle.sound_core.specs.declared.reply.Reply.TheVariants as reply
 use Rattle.exchange.specs.Feed.{paged}
 use Rattle.exchange.specs.Kept.{Kept}
 use Rattle.exchange.specs.KeptLaws.{call_kept, feed-kept}

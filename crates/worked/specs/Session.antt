@@ -15,10 +15,10 @@ use Rattle.turns.specs.Ring.{direct, new_track}
 use Rattle.turns.specs.Cut.{cut}
 use Rattle.turns.specs.Log.{Ran}
 use Rattle.turns.specs.ConsistentLaws.{both}
-use Rattle.std.specs.Consistent.{period_ok, numbers_ok}
-use Rattle.std.specs.Plan.{set_of, stored_of}
-use Rattle.std.specs.declared.plan.Value.TheVariants as value
-use Rattle.std.specs.declared.reply.Reply.TheVariants as reply
+use Rattle.sound_core.specs.Consistent.{period_ok, numbers_ok}
+use Rattle.sound_core.specs.Plan.{set_of, stored_of}
+use Rattle.sound_core.specs.declared.plan.Value.TheVariants as value
+use Rattle.sound_core.specs.declared.reply.Reply.TheVariants as reply
 use Rattle.exchange.specs.State.{params_of}
 use Rattle.exchange.specs.Kept.{Playable}
 use Rattle.exchange.specs.Demand.{period_of, starting}

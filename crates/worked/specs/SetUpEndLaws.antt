@@ -7,12 +7,12 @@ use Rattle.std.proofs.lemmas.Bool.{false≢true}
 use Rattle.codes.specs.Says.{guard}
 use Rattle.tables.specs.Tables.{jack_at, pcm_at, map_at, jacks_place, pcms_place, tables_bytes, jacks_in, pcms_in, maps_in}
 use Rattle.tables.specs.FillLaws.{copied-length, jacks-filled, pcms-leave-jacks, pcms-filled, maps-leave-jacks, maps-leave-pcms, maps-filled}
-use Rattle.std.specs.State.{with_stage}
-use Rattle.std.specs.Consistent.{call_ok, consistent_of}
-use Rattle.std.specs.Plan.{own_set, own_command, own_remap, own_supported, own_xfer, own_of, after_maps}
-use Rattle.std.specs.Reply.{request_bytes, message_after, reply_of}
-use Rattle.std.specs.declared.plan.Value.TheVariants as value
-use Rattle.std.specs.declared.plan.Say.TheVariants.{Done}
+use Rattle.sound_core.specs.State.{with_stage}
+use Rattle.sound_core.specs.Consistent.{call_ok, consistent_of}
+use Rattle.sound_core.specs.Plan.{own_set, own_command, own_remap, own_supported, own_xfer, own_of, after_maps}
+use Rattle.sound_core.specs.Reply.{request_bytes, message_after, reply_of}
+use Rattle.sound_core.specs.declared.plan.Value.TheVariants as value
+use Rattle.sound_core.specs.declared.plan.Say.TheVariants.{Done}
 use Rattle.exchange.specs.FineLaws.{Allowed}
 use Rattle.exchange.specs.OwnLaws.{own}
 use Rattle.exchange.specs.StayLaws.{own-stays}

@@ -5,9 +5,9 @@ use Rattle.std.proofs.Common.{ap}
 use Rattle.codes.specs.Says.{guard}
 use Rattle.records.specs.Records.{jack_info_of, pcm_info_of, channel_map_of, jack_bytes, pcm_bytes, map_bytes}
 use Rattle.tables.specs.Tables.{jack_at, pcm_at, map_at}
-use Rattle.std.specs.Consistent.{call_ok, consistent_of}
-use Rattle.std.specs.Plan.{query_of, after_jacks, after_streams, after_maps}
-use Rattle.std.specs.Reply.{request_bytes}
+use Rattle.sound_core.specs.Consistent.{call_ok, consistent_of}
+use Rattle.sound_core.specs.Plan.{query_of, after_jacks, after_streams, after_maps}
+use Rattle.sound_core.specs.Reply.{request_bytes}
 use Rattle.exchange.specs.ConsistentLaws.{exactly-self, none_or_all-self}
 use Rattle.exchange.specs.KeptLaws.{new-kept}
 use Rattle.exchange.specs.Tables.{look_of, sound_after}

@@ -7,10 +7,10 @@ use Rattle.records.specs.Records.{jack_info, jack_info_values, pcm_info, pcm_inf
 use Rattle.pending.specs.Table.{none_in}
 use Rattle.turns.specs.Calls.{idle_of}
 use Rattle.turns.specs.Consistent as ring
-use Rattle.std.specs.Reply.{message_after}
-use Rattle.std.specs.declared.state.Counts.{Counts}
-use Rattle.std.specs.declared.plan.Value.TheVariants as value
-use Rattle.std.specs.declared.reply.Reply.TheVariants as reply
+use Rattle.sound_core.specs.Reply.{message_after}
+use Rattle.sound_core.specs.declared.state.Counts.{Counts}
+use Rattle.sound_core.specs.declared.plan.Value.TheVariants as value
+use Rattle.sound_core.specs.declared.reply.Reply.TheVariants as reply
 use Rattle.exchange.specs.State.{new_sound}
 use Rattle.exchange.specs.Kept.{Kept}
 use Rattle.exchange.specs.Exchange.{step_of, call_of, feed_of}

@@ -18,10 +18,10 @@ use Rattle.tables.specs.TablesLaws.{good-fits}
 use Rattle.tables.specs.WrittenLaws.{in-full}
 use Rattle.turns.specs.Calls.{idle_of}
 use Rattle.turns.specs.Consistent as ring
-use Rattle.std.specs.Consistent.{call_ok, consistent_of}
-use Rattle.std.specs.Plan.{query_of, is_idle, set_up_of, begin_of, answer_by, answer_of, verdict_by}
-use Rattle.std.specs.Reply.{request_bytes}
-use Rattle.std.specs.declared.reply.Reply.TheVariants as reply
+use Rattle.sound_core.specs.Consistent.{call_ok, consistent_of}
+use Rattle.sound_core.specs.Plan.{query_of, is_idle, set_up_of, begin_of, answer_by, answer_of, verdict_by}
+use Rattle.sound_core.specs.Reply.{request_bytes}
+use Rattle.sound_core.specs.declared.reply.Reply.TheVariants as reply
 use Rattle.exchange.specs.ConsistentLaws.{both_of}
 use Rattle.exchange.specs.Feed.{paged}
 use Rattle.exchange.specs.PlanLaws.{long-verdict}

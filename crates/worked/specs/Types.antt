@@ -14,20 +14,20 @@ pub use Rattle.turns.specs.declared.reading.Reading.TheVariants.{Quiet, Complete
 pub use Rattle.turns.specs.declared.rules.Choice.{Choice}
 pub use Rattle.turns.specs.declared.rules.Choice.TheVariants.{Submit, Finish}
 pub use Rattle.turns.specs.declared.calls.Offer.{Offer}
-pub use Rattle.std.specs.declared.state.Params.{Params}
-pub use Rattle.std.specs.declared.state.Kind.{Kind}
-pub use Rattle.std.specs.declared.state.Kind.TheVariants.{Prepare, Release, Start, Stop}
-pub use Rattle.std.specs.declared.state.Call.{Call}
-pub use Rattle.std.specs.declared.state.Call.TheVariants.{SetParams, Command, Remap, Streams, Supported, Xfer, Capture}
-pub use Rattle.std.specs.declared.state.Stage.{Stage}
-pub use Rattle.std.specs.declared.state.Stage.TheVariants.{Idle, JacksAsked, StreamsAsked, MapsAsked, Sent}
-pub use Rattle.std.specs.declared.state.Core.{Core}
-pub use Rattle.std.specs.declared.plan.Request.{Request}
-pub use Rattle.std.specs.declared.plan.Look.{Look}
-pub use Rattle.std.specs.declared.plan.Effect.{Effect}
-pub use Rattle.std.specs.declared.plan.Effect.TheVariants.{Nothing, FillJacks, FillStreams, FillMaps}
-pub use Rattle.std.specs.declared.plan.Plan.{Plan}
-pub use Rattle.std.specs.declared.reply.Reply.{Reply}
+pub use Rattle.sound_core.specs.declared.state.Params.{Params}
+pub use Rattle.sound_core.specs.declared.state.Kind.{Kind}
+pub use Rattle.sound_core.specs.declared.state.Kind.TheVariants.{Prepare, Release, Start, Stop}
+pub use Rattle.sound_core.specs.declared.state.Call.{Call}
+pub use Rattle.sound_core.specs.declared.state.Call.TheVariants.{SetParams, Command, Remap, Streams, Supported, Xfer, Capture}
+pub use Rattle.sound_core.specs.declared.state.Stage.{Stage}
+pub use Rattle.sound_core.specs.declared.state.Stage.TheVariants.{Idle, JacksAsked, StreamsAsked, MapsAsked, Sent}
+pub use Rattle.sound_core.specs.declared.state.Core.{Core}
+pub use Rattle.sound_core.specs.declared.plan.Request.{Request}
+pub use Rattle.sound_core.specs.declared.plan.Look.{Look}
+pub use Rattle.sound_core.specs.declared.plan.Effect.{Effect}
+pub use Rattle.sound_core.specs.declared.plan.Effect.TheVariants.{Nothing, FillJacks, FillStreams, FillMaps}
+pub use Rattle.sound_core.specs.declared.plan.Plan.{Plan}
+pub use Rattle.sound_core.specs.declared.reply.Reply.{Reply}
 pub use Rattle.exchange.specs.declared.state.Sound.{Sound}
 pub use Rattle.exchange.specs.declared.calls.StreamList.{StreamList}
 pub use Rattle.exchange.specs.declared.calls.Step.{Step}

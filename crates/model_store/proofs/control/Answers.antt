@@ -8,21 +8,21 @@ pub returns-then-device-lt-SIZE : goal.returns-then-device-lt-SIZE
 returns-then-device-lt-SIZE c =
     let a = c.args in
     let s = a.device.now in
-    let r = a.result.now in
+    let r = a.res.now in
     control-short s a.request.now a.page.now r (short-store s r c.if-device-lt-SIZE.true)
 
 pub returns-then-res-lt-RESULT : goal.returns-then-res-lt-RESULT
 returns-then-res-lt-RESULT c =
     let a = c.args in
     let s = a.device.now in
-    let r = a.result.now in
+    let r = a.res.now in
     control-short s a.request.now a.page.now r (short-result s r c.if-device-lt-SIZE.false c.if-res-lt-RESULT.true)
 
 pub returns-then-page-ne-PAGE : goal.returns-then-page-ne-PAGE
 returns-then-page-ne-PAGE c =
     let a = c.args in
     let s = a.device.now in
-    let r = a.result.now in
+    let r = a.res.now in
     control-page s a.request.now a.page.now r (long s r c.if-device-lt-SIZE.false c.if-res-lt-RESULT.false) (λ k. (c.slice_known-1.given k).fits) c.if-page-ne-PAGE.true
 
 pub outcome-n-requires : goal.outcome-n-requires
@@ -32,7 +32,7 @@ pub returns-then-within : goal.returns-then-within
 returns-then-within c =
     let a = c.args in
     let s = a.device.now in
-    let r = a.result.now in
+    let r = a.res.now in
     let w = sym (c.within.ensures ∙ ap within_of c.counts_at-counts.ensures) ∙ c.if-within.true in
     control-gave s a.request.now a.page.now r (long s r c.if-device-lt-SIZE.false c.if-res-lt-RESULT.false) c.if-page-ne-PAGE.false w _ _ _ _ c.outcome-n.ensures c.put_u64.ensures
 
@@ -40,6 +40,6 @@ pub returns : goal.returns
 returns c =
     let a = c.args in
     let s = a.device.now in
-    let r = a.result.now in
+    let r = a.res.now in
     let w = sym (c.within.ensures ∙ ap within_of c.counts_at-counts.ensures) ∙ c.if-within.false in
     control-many s a.request.now a.page.now r (long s r c.if-device-lt-SIZE.false c.if-res-lt-RESULT.false) c.if-page-ne-PAGE.false (λ k. (c.slice_known-1.given k).fits) w

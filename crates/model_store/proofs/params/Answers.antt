@@ -9,21 +9,21 @@ pub returns-then-device-lt-SIZE : goal.returns-then-device-lt-SIZE
 returns-then-device-lt-SIZE c =
     let a = c.args in
     let s = a.device.now in
-    let r = a.result.now in
+    let r = a.res.now in
     params-short s a.stream r (short-store s r c.if-device-lt-SIZE.true)
 
 pub returns-then-res-lt-RESULT : goal.returns-then-res-lt-RESULT
 returns-then-res-lt-RESULT c =
     let a = c.args in
     let s = a.device.now in
-    let r = a.result.now in
+    let r = a.res.now in
     params-short s a.stream r (short-result s r c.if-device-lt-SIZE.false c.if-res-lt-RESULT.true)
 
 pub returns-then-get_u8-eq0 : goal.returns-then-get_u8-eq0
 returns-then-get_u8-eq0 c =
     let a = c.args in
     let s = a.device.now in
-    let r = a.result.now in
+    let r = a.res.now in
     let t = sym c.stream_ok.ensures ∙ c.if-stream_ok.true in
     params_none s a.stream r (long s r c.if-device-lt-SIZE.false c.if-res-lt-RESULT.false) (stream-by s a.stream _ c.counts_at-counts.ensures true t) (stream-below c.counts_at-counts.result a.stream t) _ _
     c.get_u8.ensures
@@ -39,7 +39,7 @@ pub returns-then-stream_ok : goal.returns-then-stream_ok
 returns-then-stream_ok c =
     let a = c.args in
     let s = a.device.now in
-    let r = a.result.now in
+    let r = a.res.now in
     let t = sym c.stream_ok.ensures ∙ c.if-stream_ok.true in
     params-some s a.stream r (long s r c.if-device-lt-SIZE.false c.if-res-lt-RESULT.false) (stream-by s a.stream _ c.counts_at-counts.ensures true t) (stream-below c.counts_at-counts.result a.stream t) _ _
     c.get_u8.ensures
@@ -53,6 +53,6 @@ pub returns : goal.returns
 returns c =
     let a = c.args in
     let s = a.device.now in
-    let r = a.result.now in
+    let r = a.res.now in
     let t = sym c.stream_ok.ensures ∙ c.if-stream_ok.false in
     params-bad s a.stream r (long s r c.if-device-lt-SIZE.false c.if-res-lt-RESULT.false) (stream-by s a.stream _ c.counts_at-counts.ensures false t)

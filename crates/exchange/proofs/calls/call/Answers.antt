@@ -2,7 +2,7 @@
 use Rattle.std.proofs.Common.{[], length, refl, ap, ◌∙◌, le-leb}
 use borrow.Author.Tests.{lt-leb}
 use Rattle.exchange.specs.StepLaws.{stepped, moved}
-use Rattle.std.specs.Plan.{begin_of}
+use Rattle.sound_core.specs.Plan.{begin_of}
 use Rattle.exchange.specs.Exchange.{call_of}
 use Rattle.codes.specs.SaysLaws.{passes, stops}
 use Rattle.exchange.proofs.calls.call.Goals as goal

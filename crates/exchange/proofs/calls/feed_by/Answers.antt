@@ -2,7 +2,7 @@
 use Rattle.std.proofs.Common.{length, refl, ◌∙◌, le-leb}
 use borrow.Author.Tests.{lt-leb}
 use Rattle.exchange.specs.StepLaws.{stepped, moved}
-use Rattle.std.specs.Plan.{answer_of}
+use Rattle.sound_core.specs.Plan.{answer_of}
 use Rattle.exchange.specs.Exchange.{feed_of}
 use Rattle.codes.specs.SaysLaws.{passed, failed, passes, stops}
 use Rattle.exchange.proofs.calls.feed_by.Goals as goal

@@ -4,7 +4,7 @@ use borrow.Author.Tests.{lt-leb}
 use Rattle.exchange.specs.StepLaws.{stepped, moved}
 use Rattle.exchange.specs.Types.{QueueFailed}
 use Rattle.tables.specs.declared.verdict.Verdict.TheVariants.{Refused}
-use Rattle.std.specs.Plan.{answer_of}
+use Rattle.sound_core.specs.Plan.{answer_of}
 use Rattle.exchange.specs.Exchange.{fail_of}
 use Rattle.codes.specs.SaysLaws.{passes, stops}
 use Rattle.exchange.proofs.calls.feed_failure.Goals as goal

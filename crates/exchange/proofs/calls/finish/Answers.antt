@@ -1,6 +1,6 @@
 -- `exchange::calls::finish` meets its contract, by those of its parts. Assumes nothing.
 use Rattle.std.proofs.Common.{length, ◌∙◌}
-use Rattle.std.specs.ReplyLaws.{tells-reply, tells-message}
+use Rattle.sound_core.specs.ReplyLaws.{tells-reply, tells-message}
 use Rattle.exchange.specs.StepLaws.{stepped}
 use Rattle.exchange.proofs.calls.finish.Goals as goal
 

@@ -6,7 +6,7 @@ use Rattle.layout.specs.Table.{offset}
 use Rattle.layout.specs.TableLaws.{field_in}
 use Rattle.records.specs.Records.{pcm_info, pcm_info_of}
 use Rattle.tables.specs.Tables.{pcm_at, pcms_place, pcms_in}
-use Rattle.std.specs.declared.plan.Value.TheVariants as value
+use Rattle.sound_core.specs.declared.plan.Value.TheVariants as value
 use Rattle.exchange.specs.Types.{PcmInfo}
 use Rattle.exchange.proofs.effect.field_at.Goals as goal
 

@@ -1,6 +1,6 @@
 -- `exchange::effect::look` meets its contract, case by case. Assumes nothing.
 use Rattle.std.proofs.Common.{ap}
-use Rattle.std.specs.declared.plan.Look.TheVariants as look
+use Rattle.sound_core.specs.declared.plan.Look.TheVariants as look
 use Rattle.exchange.proofs.effect.look.Goals as goal
 
 pub returns-in-SetParams : goal.returns-in-SetParams

@@ -1,7 +1,7 @@
 -- `exchange::effect::params_at` meets its contract: past the end there is 0. Assumes nothing.
 use Rattle.std.proofs.Common.{◌≡◌, ◌≤◌, length, sym, arith, rules}
 use lib.ListN.{get_or-eq_default}
-use Rattle.std.specs.State.{unset}
+use Rattle.sound_core.specs.State.{unset}
 use Rattle.exchange.proofs.effect.params_at.Goals as goal
 
 pub returns-then-i-ge127 : goal.returns-then-i-ge127

@@ -11,4 +11,4 @@ pub returns-in-Range : goal.returns-in-Range
 returns-in-Range c = rw c.in-Range.is c.no_ids-in-Range.ensures
 
 pub returns-in-Streams : goal.returns-in-Streams
-returns-in-Streams c = rw c.in-Streams.is c.All-ids.ensures
+returns-in-Streams c = rw c.in-Streams.is c.all_ids.ensures

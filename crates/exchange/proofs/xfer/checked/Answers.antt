@@ -1,6 +1,6 @@
 -- `exchange::xfer::checked` meets its contract: the checks, with the stream's parameters. Assumes nothing.
 use Rattle.std.proofs.Common.{◌∙◌}
-use Rattle.std.specs.Gate.{gate_by}
+use Rattle.sound_core.specs.Gate.{gate_by}
 use Rattle.exchange.specs.Types.{Shut, SetUp, Open}
 use Rattle.exchange.proofs.xfer.checked.Goals as goal
 

@@ -1,6 +1,6 @@
 -- `exchange::xfer::set_up` meets its contract. Assumes nothing.
 use Rattle.std.proofs.Common.{◌∙◌}
-use Rattle.std.specs.ReplyLaws.{tells-message}
+use Rattle.sound_core.specs.ReplyLaws.{tells-message}
 use Rattle.exchange.proofs.xfer.set_up.Goals as goal
 
 pub returns : goal.returns

@@ -17,7 +17,7 @@ returns-then-plays c =
     let a = c.args in
     let e = c.requires.1 in
     let t = ap (λ (n : Counts). plays n a.request.now) (sym e) ∙ sym c.plays.ensures ∙ c.if-plays.true in
-    play-more a.device.now a.request.now (λ k. (c.slice_known-1.given k).fits) (ap within_of (sym e) ∙ c.requires.2) t _ _ _ _ c.get_u32.ensures c.get_u64-n.ensures c.wrapping_add_u64.ensures c.put_u64.ensures
+    play-more a.device.now a.request.now (λ k. (c.slice_known-1.given k).fits) (ap within_of (sym e) ∙ c.requires.2) t _ _ _ _ c.get_u32.ensures c.get_u64-n.ensures c.wrapping_add_u64.ensures.value c.put_u64.ensures
 
 pub returns : goal.returns
 returns c =

@@ -11,7 +11,7 @@ use Rattle.ring_store.specs.Calls.{offer_word}
 use Rattle.ring_store.proofs.reads.offered.Goals as goal
 
 pub returns-then-not-roomy : goal.returns-then-not-roomy
-returns-then-not-roomy c = let a = c.args in unroomy a.ring.now a.result.now _ (failed c.roomy.ensures c.if-not-roomy.true-raw)
+returns-then-not-roomy c = let a = c.args in unroomy a.ring.now a.res.now _ (failed c.roomy.ensures c.if-not-roomy.true-raw)
 
 pub get_track-t-requires : goal.get_track-t-requires
 get_track-t-requires c = leb-true ring_size _ (both _ _ (passed c.roomy.ensures c.if-not-roomy.false-raw)).0
@@ -19,9 +19,9 @@ get_track-t-requires c = leb-true ring_size _ (both _ _ (passed c.roomy.ensures 
 pub returns-in-Is : goal.returns-in-Is
 returns-in-Is c =
     let a = c.args in
-    told a.ring.now a.result.now _ _ (ap (offer_word says_sent) (sym c.in-Is.is ∙ c.offer_track-offer.ensures ∙ ap (λ (u : Track). offer_call u a.len) c.get_track-t.ensures)) c.tell_sent.ensures
+    told a.ring.now a.res.now _ _ (ap (offer_word says_sent) (sym c.in-Is.is ∙ c.offer_track-offer.ensures ∙ ap (λ (u : Track). offer_call u a.len) c.get_track-t.ensures)) c.tell_sent.ensures
 
 pub returns-in-Refused : goal.returns-in-Refused
 returns-in-Refused c =
     let a = c.args in
-    told a.ring.now a.result.now _ _ (ap (offer_word says_sent) (sym c.in-Refused.is ∙ c.offer_track-offer.ensures ∙ ap (λ (u : Track). offer_call u a.len) c.get_track-t.ensures)) c.tell_refusal.ensures
+    told a.ring.now a.res.now _ _ (ap (offer_word says_sent) (sym c.in-Refused.is ∙ c.offer_track-offer.ensures ∙ ap (λ (u : Track). offer_call u a.len) c.get_track-t.ensures)) c.tell_refusal.ensures

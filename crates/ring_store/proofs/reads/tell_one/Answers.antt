@@ -9,14 +9,14 @@ use Rattle.ring_store.specs.ReadsLaws.{unroomy, bare, tells}
 use Rattle.ring_store.proofs.reads.tell_one.Goals as goal
 
 pub returns-then-not-room : goal.returns-then-not-room
-returns-then-not-room c = let a = c.args in unroomy a.ring.now a.result.now _ (failed c.roomy-room.ensures c.if-not-room.true-raw)
+returns-then-not-room c = let a = c.args in unroomy a.ring.now a.res.now _ (failed c.roomy-room.ensures c.if-not-room.true-raw)
 
 pub returns-then-not-sound : goal.returns-then-not-sound
 returns-then-not-sound c =
     let a = c.args in
-    bare a.ring.now a.result.now 1 _ (passed c.roomy-room.ensures c.if-not-room.false-raw) (stops _ _ _ (not-true _ c.if-not-sound.true-raw) refl)
+    bare a.ring.now a.res.now 1 _ (passed c.roomy-room.ensures c.if-not-room.false-raw) (stops _ _ _ (not-true _ c.if-not-sound.true-raw) refl)
 
 pub returns : goal.returns
 returns c =
     let a = c.args in
-    tells a.ring.now a.result.now _ (a.value ∷ []) _ (passed c.roomy-room.ensures c.if-not-room.false-raw) (put c.put_u64.ensures end) (passes _ _ _ (not-false _ c.if-not-sound.false-raw) refl)
+    tells a.ring.now a.res.now _ (a.value ∷ []) _ (passed c.roomy-room.ensures c.if-not-room.false-raw) (put c.put_u64.ensures end) (passes _ _ _ (not-false _ c.if-not-sound.false-raw) refl)

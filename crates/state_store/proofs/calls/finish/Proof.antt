@@ -2,7 +2,7 @@
 use Rattle.std.proofs.Common.{ℕ, List, ap, ◌∙◌, rules}
 use lib.Seq.{sets}
 use Rattle.tables.specs.Tables.{pcms_in}
-use Rattle.std.specs.Reply.{reply_word, reply_of}
+use Rattle.sound_core.specs.Reply.{reply_word, reply_of}
 use Rattle.exchange.specs.Exchange.{list_of}
 use Rattle.state_store.specs.Calls.{left, result_bytes}
 use Rattle.state_store.specs.FinishLaws.{tells, says-in}

@@ -5,7 +5,7 @@ use Rattle.state_store.specs.Store.{core_of}
 use Rattle.state_store.specs.Calls.{opened}
 use Rattle.state_store.specs.Steps.{setting_up_by}
 use Rattle.state_store.specs.OpenLaws.{gated, shut-short, long-open, long-head, set-up-long, opens}
-use Rattle.std.specs.declared.gate.Gate.TheVariants as gate
+use Rattle.sound_core.specs.declared.gate.Gate.TheVariants as gate
 use Rattle.state_store.specs.StoreLaws.{core_at}
 use Rattle.pending.specs.Table.{none_in}
 use borrow.Author.Tests.{not-true, not-false}

@@ -3,7 +3,7 @@ use Rattle.std.proofs.Common.{[], ap, ◌∙◌, rules}
 use Rattle.state_store.specs.Calls.{opened}
 use Rattle.state_store.specs.FinishLaws.{says-in}
 use Rattle.state_store.specs.Steps.{changed}
-use Rattle.std.specs.Reply.{message_after}
+use Rattle.sound_core.specs.Reply.{message_after}
 use Rattle.state_store.specs.Types.{Nothing, Plan, Says}
 use Rattle.state_store.proofs.calls.set_up.Statement.{statement}
 use Rattle.state_store.proofs.calls.set_up.Tie as tie

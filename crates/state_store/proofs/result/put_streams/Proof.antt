@@ -2,7 +2,7 @@
 use Rattle.std.proofs.Common.{ℕ, List, ap, ◌∙◌, arith, rules}
 use lib.Seq.{sets}
 use Rattle.exchange.specs.Exchange.{listed}
-use Rattle.std.specs.declared.plan.Value.TheVariants.{Streams}
+use Rattle.sound_core.specs.declared.plan.Value.TheVariants.{Streams}
 use Rattle.state_store.specs.Calls.{value_bytes}
 use Rattle.state_store.specs.ListedLaws.{ids_short, ids_all, count-listed}
 use Rattle.state_store.proofs.result.put_streams.Statement.{statement}
