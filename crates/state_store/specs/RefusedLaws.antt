@@ -65,6 +65,7 @@ Others (x ∷ xs) = ((x == 10) ≡ false) × Others xs
 lacks : (n : ℕ) (ns : List ℕ) → Others ns → n ≡ 10 → One n ns → ⊥
 lacks n (x ∷ xs) h e (inl o) = false≢true (sym h.0 ∙ eq-eqb x 10 (sym o ∙ e))
 lacks n (x ∷ xs) h e (inr o) = lacks n xs h.1 e o
+lacks n [] h e x3 = elim x3 [ ]
 
 own-others : (call : Call) → Others (own_refusals call)
 own-others (SetParams stream to) = (refl, (refl, tt))

@@ -15,10 +15,10 @@ use crate::place::{HEAD, PARAMS, direction_at, life_at, look, params_at, pending
 use crate::result::put_result;
 use crate::tokens::pending_in;
 use codes::{Refusal, both};
+use pending::is_none;
 use sound_core::{
     Call, Core, Effect, Gate, MESSAGE, Plan, Reply, ask_jacks, tell, verdict_by, xfer_gate,
 };
-use pending::is_none;
 use tables::{Verdict, Written, page_ok};
 use turns::Track;
 

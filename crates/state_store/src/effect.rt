@@ -9,8 +9,8 @@ ghost use Rattle.state_store.specs.Places.{params_place, state_size};
 use crate::fields;
 use crate::place::{JACKS, LIVES, MAPS, PARAMS, PCMS, ROW};
 use codes::life;
-use sound_core::{Effect, Params};
 use records::{ChannelMap, JackInfo, PcmInfo};
+use sound_core::{Effect, Params};
 use tables::fill;
 
 // Past the last stream nothing is stored.

@@ -1,5 +1,6 @@
 // The state as bytes in its owner's storage, looked at and changed by place: no table is decoded.
 #![tactic(auto)]
+
 mod calls;
 mod config;
 mod effect;

@@ -12,9 +12,9 @@ use crate::head::{core_by, get_head, is_whole};
 use crate::place::{life_at, params_at};
 use crate::tokens::{pending_in, put_token};
 use codes::both;
-use sound_core::{Call, Gate, MESSAGE, xfer_gate};
 use exchange::places_of;
 use pending::{Spot, Token, find_spot, lowest, placed};
+use sound_core::{Call, Gate, MESSAGE, xfer_gate};
 use turns::Track;
 
 // The stream's number and the payload go into one of so many places, whose token then waits.

@@ -10,8 +10,8 @@ ghost use Rattle.tables.specs.Tables.{pcms_in};
 ghost use Rattle.state_store.specs.Calls.{value_bytes, result_bytes};
 ghost use Rattle.state_store.specs.Steps.{ids_in, Listed};
 
-use sound_core::{Say, Value};
 use exchange::direction_at;
+use sound_core::{Say, Value};
 
 // One more id after `count` of them, where that is wanted; how many there are then.
 fn put_id(res: &mut [u8], count: usize, wanted: bool, id: u32) -> usize

@@ -16,8 +16,8 @@ use crate::fields;
 use crate::head::{core_of, get_head};
 use crate::place::{TOKEN, TOKENS};
 use codes::both;
-use sound_core::consistent;
 use pending::{Outcome, Pending, Seen, Token, Told, count, finish_token, mark_token, seen_token};
+use sound_core::consistent;
 use turns::Reading;
 
 // A token; past the last it is free.

@@ -1,0 +1,41 @@
+-- `state_store::calls::feed_failure` meets its contract: the lengths, then the answer. Assumes nothing.
+use Rattle.std.proofs.Common.{sym, ap, ◌∙◌, arith, le-leb}
+use borrow.Author.Tests.{lt-leb, not-true, not-false}
+use Rattle.state_store.specs.Store.{whole_head}
+use Rattle.state_store.specs.Store.{core_of}
+use Rattle.state_store.specs.FinishLaws.{long-state, fail-unread, fail-short, failed}
+use Rattle.state_store.proofs.calls.feed_failure.Goals as goal
+
+pub returns-then-not-both : goal.returns-then-not-both
+returns-then-not-both c =
+    let a = c.args in
+    fail-unread a.state.now a.message.now a.res.now (sym c.both.ensures ∙ not-true _ c.if-not-both.true-raw)
+
+pub returns-then-message-lt-MESSAGE : goal.returns-then-message-lt-MESSAGE
+returns-then-message-lt-MESSAGE c =
+    let a = c.args in
+    fail-short a.state.now a.message.now a.res.now (sym c.both.ensures ∙ not-false _ c.if-not-both.false-raw)
+    (λ k. (c.slice_known-1.given k).fits) (lt-leb 24 _ c.if-message-lt-MESSAGE.true)
+
+pub get_head-h-requires : goal.get_head-h-requires
+get_head-h-requires c =
+    let a = c.args in
+    omega (arith, long-state a.state.now a.res.now (sym c.both.ensures ∙ not-false _ c.if-not-both.false-raw))
+
+pub pending_look-found-requires : goal.pending_look-found-requires
+pending_look-found-requires c =
+    let a = c.args in
+    long-state a.state.now a.res.now (sym c.both.ensures ∙ not-false _ c.if-not-both.false-raw)
+
+pub finish-requires : goal.finish-requires
+finish-requires c =
+    let a = c.args in
+    (long-state a.state.now a.res.now (sym c.both.ensures ∙ not-false _ c.if-not-both.false-raw), c.if-message-lt-MESSAGE.false)
+
+pub returns : goal.returns
+returns c =
+    let a = c.args in
+    c.finish.ensures
+    ∙ failed a.state.now a.message.now a.res.now (sym c.both.ensures ∙ not-false _ c.if-not-both.false-raw)
+    (c.is_whole-whole.ensures ∙ ap whole_head c.get_head-h.ensures) (c.core_by-c.ensures ∙ ap core_of c.get_head-h.ensures)
+    (le-leb 24 _ c.if-message-lt-MESSAGE.false) c.pending_look-found.ensures c.answer-plan.ensures

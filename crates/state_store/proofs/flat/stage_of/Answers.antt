@@ -1,0 +1,18 @@
+-- `state_store::flat::stage_of` meets its contract, test by test. Assumes nothing.
+use Rattle.std.proofs.Common.{eq-eqb, ne_eqb}
+use Rattle.state_store.proofs.flat.stage_of.Goals as goal
+
+pub returns-then-n-eq0 : goal.returns-then-n-eq0
+returns-then-n-eq0 c = simp (eq-eqb _ _ c.if-n-eq0.true)
+
+pub returns-then-n-eq1 : goal.returns-then-n-eq1
+returns-then-n-eq1 c = simp (ne_eqb _ _ c.if-n-eq0.false, eq-eqb _ _ c.if-n-eq1.true) (cc)
+
+pub returns-then-n-eq2 : goal.returns-then-n-eq2
+returns-then-n-eq2 c = simp (ne_eqb _ _ c.if-n-eq0.false, ne_eqb _ _ c.if-n-eq1.false, eq-eqb _ _ c.if-n-eq2.true) (cc)
+
+pub returns-then-n-eq3 : goal.returns-then-n-eq3
+returns-then-n-eq3 c = simp (ne_eqb _ _ c.if-n-eq0.false, ne_eqb _ _ c.if-n-eq1.false, ne_eqb _ _ c.if-n-eq2.false, eq-eqb _ _ c.if-n-eq3.true) (cc)
+
+pub returns : goal.returns
+returns c = simp (ne_eqb _ _ c.if-n-eq0.false, ne_eqb _ _ c.if-n-eq1.false, ne_eqb _ _ c.if-n-eq2.false, ne_eqb _ _ c.if-n-eq3.false) (cc)
