@@ -1,5 +1,6 @@
 // The C entries: numbers and byte slices only. docs/BOUNDARY.md has each with what it answers and writes.
 #![tactic(auto)]
+
 mod calls;
 mod capture;
 mod compare;
