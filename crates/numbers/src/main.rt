@@ -1,20 +1,23 @@
 // Prints every size, offset and number of the wire as the libraries hand them out, under the names
 // of linux/virtio_snd.h, so that the two can be compared line by line (tests/header).
 #![tactic(auto)]
+
 mod codes_of;
 mod controls;
 mod fields;
 mod show;
 
-fn main() {
-    fields::control();
-    fields::info();
-    fields::transfer();
-    codes_of::requests();
-    codes_of::answers();
-    codes_of::formats();
-    codes_of::rates();
-    codes_of::flags();
-    codes_of::positions();
-    controls::all();
+use std::io;
+
+fn main(rt: HostRuntime) -> io::Result<()> {
+    fields::control(&rt)?;
+    fields::info(&rt)?;
+    fields::transfer(&rt)?;
+    codes_of::requests(&rt)?;
+    codes_of::answers(&rt)?;
+    codes_of::formats(&rt)?;
+    codes_of::rates(&rt)?;
+    codes_of::flags(&rt)?;
+    codes_of::positions(&rt)?;
+    controls::all(&rt)
 }

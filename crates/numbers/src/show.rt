@@ -1,43 +1,37 @@
 // Lines of the output.
-ghost use Rattle.std.specs.Prelude.{◌≤◌, length};
-
-use libc::STDOUT_FILENO;
+use std::io;
 
 // `NAME VALUE`
-pub(crate) fn plain(name: &[u8], value: u64) {
-    io::write_all(STDOUT_FILENO, name);
-    io::write_all(STDOUT_FILENO, b" ");
-    io::print_decimal(STDOUT_FILENO, value);
-    io::write_all(STDOUT_FILENO, b"\n");
+pub(crate) fn plain(rt: &impl Print, name: &[u8], value: u64) -> io::Result<()> {
+    rt.write_all(name)?;
+    println!(rt; " {value}")
 }
 
 // A constant of the header. Its prefix is written here, so that the many names stay short.
-pub(crate) fn number(name: &[u8], value: u64) {
-    io::write_all(STDOUT_FILENO, b"VIRTIO_SND_");
-    plain(name, value);
+pub(crate) fn number(rt: &impl Print, name: &[u8], value: u64) -> io::Result<()> {
+    rt.write_all(b"VIRTIO_SND_")?;
+    plain(rt, name, value)
 }
 
 // A bit of a mask.
-pub(crate) fn mask(name: &[u8], value: u64) {
-    io::write_all(STDOUT_FILENO, b"1 << ");
-    number(name, value);
+pub(crate) fn mask(rt: &impl Print, name: &[u8], value: u64) -> io::Result<()> {
+    rt.write_all(b"1 << ")?;
+    number(rt, name, value)
 }
 
 // The size of a record.
-pub(crate) fn size(name: &[u8], value: u64) {
-    io::write_all(STDOUT_FILENO, b"virtio_snd_");
-    plain(name, value);
+pub(crate) fn size(rt: &impl Print, name: &[u8], value: u64) -> io::Result<()> {
+    rt.write_all(b"virtio_snd_")?;
+    plain(rt, name, value)
 }
 
 // `NAME OFFSET WIDTH`, of a record that was written with this one field all ones.
-pub(crate) fn field(name: &[u8], record: &[u8]) {
-    io::write_all(STDOUT_FILENO, b"virtio_snd_");
-    io::write_all(STDOUT_FILENO, name);
-    io::write_all(STDOUT_FILENO, b" ");
-    io::print_decimal(STDOUT_FILENO, first(record) as u64);
-    io::write_all(STDOUT_FILENO, b" ");
-    io::print_decimal(STDOUT_FILENO, ones(record) as u64);
-    io::write_all(STDOUT_FILENO, b"\n");
+pub(crate) fn field(rt: &impl Print, name: &[u8], record: &[u8]) -> io::Result<()> {
+    let first = first(record);
+    let ones = ones(record);
+    rt.write_all(b"virtio_snd_")?;
+    rt.write_all(name)?;
+    println!(rt; " {first} {ones}")
 }
 
 // The place of the first byte that is not 0.

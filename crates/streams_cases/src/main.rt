@@ -1,8 +1,10 @@
 // The listing of answers good and bad, each under a title.
 #![tactic(auto)]
+
 ghost use Rattle.std.specs.Prelude.{◌≤◌};
 
 use listing::Line;
+use std::io;
 
 // Record `i` of the page: its direction, and its channels from `min` to `max`.
 fn put_stream(page: &mut [u8], i: usize, direction: u8, min: u8, max: u8)
@@ -24,41 +26,42 @@ fn put_all(page: &mut [u8]) {
 }
 
 // Writes line `k`; past the last line there is none.
-fn show(n: usize, page: &[u8; 4096], k: usize) -> bool {
+fn show(rt: &impl Print, n: usize, page: &[u8; 4096], k: usize) -> io::Result<bool> {
     let mut text = [0u8; 32];
     let Line::Is(len) = listing::line_at(n, page, k, &mut text) else {
-        return false;
+        return Ok(false);
     };
-    io::write_all(1, &text[..len]);
-    len > 0
+    rt.write_all(&text[..len])?;
+    Ok(len > 0)
 }
 
-fn list(title: &[u8], n: usize, page: &[u8; 4096]) {
-    io::write_all(1, title);
+fn list(rt: &impl Print, title: &[u8], n: usize, page: &[u8; 4096]) -> io::Result<()> {
+    rt.write_all(title)?;
     let mut k: usize = 0;
     while k < 128 {
-        if !show(n, page, k) {
-            return;
+        if !show(rt, n, page, k)? {
+            return Ok(());
         }
         k += 1;
     }
+    Ok(())
 }
 
-fn main() {
+fn main(rt: HostRuntime) -> io::Result<()> {
     let mut page = [0u8; 4096];
     layout::put_u32(&mut page, 0, 0x8000);
     put_stream(&mut page, 0, 0, 1, 2);
     put_stream(&mut page, 1, 1, 1, 1);
     put_stream(&mut page, 2, 2, 0, 255);
-    list(b"three directions:\n", 100, &page);
-    list(b"no streams:\n", 4, &page);
-    list(b"one byte short:\n", 99, &page);
-    list(b"under 4 bytes:\n", 3, &page);
-    list(b"one record too many:\n", 4100, &page);
+    list(&rt, b"three directions:\n", 100, &page)?;
+    list(&rt, b"no streams:\n", 4, &page)?;
+    list(&rt, b"one byte short:\n", 99, &page)?;
+    list(&rt, b"under 4 bytes:\n", 3, &page)?;
+    list(&rt, b"one record too many:\n", 4100, &page)?;
     layout::put_u32(&mut page, 0, 0x8002);
-    list(b"header not ok:\n", 100, &page);
-    list(b"header not ok, and one byte short:\n", 99, &page);
+    list(&rt, b"header not ok:\n", 100, &page)?;
+    list(&rt, b"header not ok, and one byte short:\n", 99, &page)?;
     layout::put_u32(&mut page, 0, 0x8000);
     put_all(&mut page);
-    list(b"127 streams:\n", 4068, &page);
+    list(&rt, b"127 streams:\n", 4068, &page)
 }

@@ -2,55 +2,58 @@
 use crate::host::Host;
 use crate::{calls, host, numbers, show, transfer};
 use model::Count;
+use std::io;
 
-fn opened(h: Host) -> Host {
+fn opened(rt: &impl Print, h: Host) -> io::Result<Host> {
     let set = calls::set_params(h, 0, 64, 16);
-    let h = host::finish(b"set parameters, stream 0, buffer 64, period 16\n", set);
-    let h = host::finish(b"prepare\n", calls::prepare(h, 0));
-    host::finish(b"start\n", calls::start(h, 0))
+    let h = host::finish(rt, b"set parameters, stream 0, buffer 64, period 16\n", set)?;
+    let h = host::finish(rt, b"prepare\n", calls::prepare(h, 0))?;
+    host::finish(rt, b"start\n", calls::start(h, 0))
 }
 
-fn closed(h: Host) -> Host {
-    let h = host::finish(b"stop\n", calls::stop(h, 0));
-    host::finish(b"release\n", calls::release(h, 0))
+fn closed(rt: &impl Print, h: Host) -> io::Result<Host> {
+    let h = host::finish(rt, b"stop\n", calls::stop(h, 0))?;
+    host::finish(rt, b"release\n", calls::release(h, 0))
 }
 
-fn played(h: Host) {
+fn played(rt: &impl Print, h: Host) -> io::Result<()> {
     let count = h.device.played(0);
     match count {
         Count::Is(n) => {
-            show::text(b"  device played ");
-            show::decimal(n);
-            show::text(b" bytes of stream 0\n");
+            show::text(rt, b"  device played ")?;
+            show::decimal(rt, n)?;
+            show::text(rt, b" bytes of stream 0\n")
         }
-        Count::InvalidParam => show::text(b"  device has no stream 0\n"),
+        Count::InvalidParam => show::text(rt, b"  device has no stream 0\n"),
     }
 }
 
-pub(crate) fn prompt() {
-    show::text(b"\nAN ANNOUNCEMENT: 50 bytes\n");
-    let h = opened(numbers::ready());
-    show::text(b"transfer, budget 100\n");
-    let h = transfer::run(h, &[7; 50], 100, b"0123.");
-    transfer::account(h);
-    played(closed(h));
+pub(crate) fn prompt(rt: &impl Print) -> io::Result<()> {
+    show::text(rt, b"\nAN ANNOUNCEMENT: 50 bytes\n")?;
+    let h = opened(rt, numbers::ready())?;
+    show::text(rt, b"transfer, budget 100\n")?;
+    let h = transfer::run(rt, h, &[7; 50], 100, b"0123.")?;
+    transfer::account(rt, h)?;
+    let h = closed(rt, h)?;
+    played(rt, h)
 }
 
 // Here the ring is advanced in its own storage.
-pub(crate) fn slow() {
+pub(crate) fn slow(rt: &impl Print) -> io::Result<()> {
     show::text(
+        rt,
         b"\nA SLOW DEVICE: completes every third turn, 4 periods, Ok no later than turn 4 * 3 + 1\n",
-    );
+    )?;
     let ready = numbers::ready_with(64, 16);
     let h = Host {
         lent: true,
         ..ready
     };
-    let h = transfer::run(h, &[7; 50], 13, b"..0..1..2..3.");
-    show::text(b"  turns used ");
-    show::decimal(h.turns);
-    show::text(b", allowed ");
-    show::decimal(h.ring.track.budget);
-    show::text(b"\n");
-    transfer::account(h);
+    let h = transfer::run(rt, h, &[7; 50], 13, b"..0..1..2..3.")?;
+    show::text(rt, b"  turns used ")?;
+    show::decimal(rt, h.turns)?;
+    show::text(rt, b", allowed ")?;
+    show::decimal(rt, h.ring.track.budget)?;
+    show::text(rt, b"\n")?;
+    transfer::account(rt, h)
 }

@@ -1,9 +1,10 @@
 // The host between driver and device: it carries requests, answers and periods, and says what it
 // carried.
 use crate::show;
-use sound_core::{MESSAGE, Reply, Value};
 use exchange::{Sound, Step, StreamList};
 use model::{Control, Device};
+use sound_core::{MESSAGE, Reply, Value};
+use std::io;
 use tables::PAGE;
 use turns::{Ring, Said};
 
@@ -113,55 +114,58 @@ pub(crate) fn settle(h: Host) -> Host {
 }
 
 // What the driver said last.
-fn reply(h: Host) {
+fn reply(rt: &impl Print, h: Host) -> io::Result<()> {
     let reply = h.reply;
     let message = h.message;
     match reply {
         Reply::Send(n) => {
-            show::text(b"  sends");
-            show::bytes(front(&message, n));
+            show::text(rt, b"  sends")?;
+            show::bytes(rt, front(&message, n))?;
         }
         Reply::Done(v) => {
-            show::text(b"  says ");
-            show::value(v, h.streams);
+            show::text(rt, b"  says ")?;
+            show::value(rt, v, h.streams)?;
         }
         Reply::Refused(r) => {
-            show::text(b"  says ");
-            show::refusal(r);
+            show::text(rt, b"  says ")?;
+            show::refusal(rt, r)?;
         }
     }
-    show::text(b"\n");
+    show::text(rt, b"\n")
 }
 
 // What the device answered last, and what the driver said to that.
-pub(crate) fn answered(h: Host) {
-    show::text(b"  device answers ");
-    show::decimal(h.answer as u64);
-    show::text(b" bytes, ");
-    show::hex(h.status as u64);
-    show::text(b"\n");
-    reply(h);
+pub(crate) fn answered(rt: &impl Print, h: Host) -> io::Result<()> {
+    show::text(rt, b"  device answers ")?;
+    show::decimal(rt, h.answer as u64)?;
+    show::text(rt, b" bytes, ")?;
+    show::hex(rt, h.status as u64)?;
+    show::text(rt, b"\n")?;
+    reply(rt, h)
 }
 
 // What a call or a feed says, under its title.
-pub(crate) fn said(title: &[u8], h: Host) {
-    show::text(title);
-    reply(h);
+pub(crate) fn said(rt: &impl Print, title: &[u8], h: Host) -> io::Result<()> {
+    show::text(rt, title)?;
+    reply(rt, h)
 }
 
 // One request and its answer, told.
-fn exchanged(h: Host) -> Host {
+fn exchanged(rt: &impl Print, h: Host) -> io::Result<Host> {
     let reply = h.reply;
     let Reply::Send(_) = reply else {
-        return h;
+        return Ok(h);
     };
     let after = carry(h);
-    answered(after);
-    after
+    answered(rt, after)?;
+    Ok(after)
 }
 
 // A call under its title: what it says first, and then each answer and what the driver says to it.
-pub(crate) fn finish(title: &[u8], h: Host) -> Host {
-    said(title, h);
-    exchanged(exchanged(exchanged(exchanged(h))))
+pub(crate) fn finish(rt: &impl Print, title: &[u8], h: Host) -> io::Result<Host> {
+    said(rt, title, h)?;
+    let h = exchanged(rt, h)?;
+    let h = exchanged(rt, h)?;
+    let h = exchanged(rt, h)?;
+    exchanged(rt, h)
 }

@@ -1,6 +1,7 @@
 // Runs what document 01 works out, and then the driver against the model device, and prints what
 // each said.
 #![tactic(auto)]
+
 mod announcement;
 mod calls;
 mod device;
@@ -11,14 +12,16 @@ mod setup;
 mod show;
 mod transfer;
 
-fn main() {
-    numbers::all();
-    setup::done();
-    announcement::prompt();
-    announcement::slow();
-    faults::failing();
-    faults::wrong_slot();
-    faults::small_budget();
-    faults::remap();
-    setup::wrong();
+use std::io;
+
+fn main(rt: HostRuntime) -> io::Result<()> {
+    numbers::all(&rt)?;
+    setup::done(&rt)?;
+    announcement::prompt(&rt)?;
+    announcement::slow(&rt)?;
+    faults::failing(&rt)?;
+    faults::wrong_slot(&rt)?;
+    faults::small_budget(&rt)?;
+    faults::remap(&rt)?;
+    setup::wrong(&rt)
 }

@@ -2,9 +2,10 @@
 use crate::host::Host;
 use crate::{calls, device, host, show, transfer};
 use codes::{Cause, Refusal, StatusCode};
-use sound_core::MESSAGE;
 use exchange::Sound;
 use records::{Event, Notice};
+use sound_core::MESSAGE;
+use std::io;
 use tables::PAGE;
 use turns::Ring;
 
@@ -19,27 +20,30 @@ pub(crate) fn ready_with(buffer: u32, period: u32) -> Host {
     host::settle(calls::set_params(ready(), 0, buffer, period))
 }
 
-fn parameters(h: Host) {
+fn parameters(rt: &impl Print, h: Host) -> io::Result<()> {
     host::said(
+        rt,
         b"P: buffer 8, period 8 is sent\n",
         calls::set_params(h, 0, 8, 8),
-    );
+    )?;
     host::said(
+        rt,
         b"P: buffer 8, period 3 gives 1\n",
         calls::set_params(h, 0, 8, 3),
-    );
-    host::said(b"P: period 0 gives 1\n", calls::set_params(h, 0, 8, 0));
+    )?;
+    host::said(rt, b"P: period 0 gives 1\n", calls::set_params(h, 0, 8, 0))
 }
 
-fn requests() {
+fn requests(rt: &impl Print) -> io::Result<()> {
     let h = ready();
     host::said(
+        rt,
         b"P: set parameters, stream 1, buffer 8192, period 2048, features 0, 2 channels, S16, 48000\n",
         calls::set_params(h, 1, 8192, 2048),
-    );
+    )?;
     let three = host::new(Sound::new(3, 0, 0), device::small());
-    host::said(b"P: query of 3 jacks\n", calls::output_streams(three));
-    parameters(h);
+    host::said(rt, b"P: query of 3 jacks\n", calls::output_streams(three))?;
+    parameters(rt, h)
 }
 
 // A driver that was told of 127 streams by a device that has them.
@@ -60,61 +64,71 @@ fn streams_fed() -> Host {
     host::told(asked, step, message)
 }
 
-fn pages() {
-    show::text(b"P: 127 streams with ok fit (4,068 bytes)\n");
-    host::answered(streams_told());
-    host::said(b"P: 128 give 5 (4,100)\n", streams_fed());
+fn pages(rt: &impl Print) -> io::Result<()> {
+    show::text(rt, b"P: 127 streams with ok fit (4,068 bytes)\n")?;
+    host::answered(rt, streams_told())?;
+    host::said(rt, b"P: 128 give 5 (4,100)\n", streams_fed())
 }
 
-fn transfers() {
+fn transfers(rt: &impl Print) -> io::Result<()> {
     let h = ready_with(8, 4);
-    show::text(b"P: empty frames: Ok on turn 1\n");
-    transfer::ended(transfer::run_quiet(h, &[], 100));
+    show::text(rt, b"P: empty frames: Ok on turn 1\n")?;
+    transfer::ended(rt, transfer::run_quiet(h, &[], 100))?;
     show::text(
+        rt,
         b"P: 10 bytes, period 4: lengths 4, 4, 2; a right completion every turn: Ok on turn 4\n",
-    );
-    show::text(b"  turn    | offered                      | queue          | driver\n");
-    transfer::ended(transfer::run(h, &[0; 10], 100, b"012."));
-    show::text(b"P: 11 periods, all quiet, budget 12: answer 9, 10 in flight\n");
-    transfer::ended(transfer::run_quiet(h, &[0; 44], 12));
-    indirect(h);
+    )?;
+    show::text(
+        rt,
+        b"  turn    | offered                      | queue          | driver\n",
+    )?;
+    transfer::ended(rt, transfer::run(rt, h, &[0; 10], 100, b"012.")?)?;
+    show::text(
+        rt,
+        b"P: 11 periods, all quiet, budget 12: answer 9, 10 in flight\n",
+    )?;
+    transfer::ended(rt, transfer::run_quiet(h, &[0; 44], 12))?;
+    indirect(rt, h)
 }
 
 // No number of document 01, but of the request for indirect descriptors: the ring is full.
-fn indirect(h: Host) {
+fn indirect(rt: &impl Print, h: Host) -> io::Result<()> {
     let ring = Ring::new_indirect();
-    show::text(b"Indirect descriptors, 33 periods, all quiet, budget 34: answer 9, 32 in flight\n");
-    transfer::ended(transfer::run_quiet(Host { ring, ..h }, &[0; 132], 34));
+    show::text(
+        rt,
+        b"Indirect descriptors, 33 periods, all quiet, budget 34: answer 9, 32 in flight\n",
+    )?;
+    transfer::ended(rt, transfer::run_quiet(Host { ring, ..h }, &[0; 132], 34))
 }
 
-fn notice(n: Notice) {
-    show::text(b"  says ");
+fn notice(rt: &impl Print, n: Notice) -> io::Result<()> {
+    show::text(rt, b"  says ")?;
     match n {
-        Notice::Is(_, data) => show::decimal(data as u64),
-        Notice::Control(control, _) => show::decimal(control as u64),
-        Notice::IoError => show::refusal(Refusal::IoError(Cause::NoStatus)),
-        Notice::Nothing => show::text(b"nothing"),
+        Notice::Is(_, data) => show::decimal(rt, data as u64)?,
+        Notice::Control(control, _) => show::decimal(rt, control as u64)?,
+        Notice::IoError => show::refusal(rt, Refusal::IoError(Cause::NoStatus))?,
+        Notice::Nothing => show::text(rt, b"nothing")?,
     }
-    show::text(b"\n");
+    show::text(rt, b"\n")
 }
 
-fn events() {
+fn events(rt: &impl Print) -> io::Result<()> {
     let mut bytes = [0u8; Event::SIZE];
     let event = Event {
         code: 0x1002,
         data: 0,
     };
     event.write(&mut bytes);
-    show::text(b"Event code 0x1002 gives 2\n");
-    notice(records::latest_notification(&bytes));
-    show::text(b"7 bytes give \"nothing\"\n");
-    notice(records::latest_notification(&[0; 7]));
+    show::text(rt, b"Event code 0x1002 gives 2\n")?;
+    notice(rt, records::latest_notification(&bytes))?;
+    show::text(rt, b"7 bytes give \"nothing\"\n")?;
+    notice(rt, records::latest_notification(&[0; 7]))
 }
 
-pub(crate) fn all() {
-    show::text(b"WORKED NUMBERS OF DOCUMENT 01\n");
-    requests();
-    pages();
-    transfers();
-    events();
+pub(crate) fn all(rt: &impl Print) -> io::Result<()> {
+    show::text(rt, b"WORKED NUMBERS OF DOCUMENT 01\n")?;
+    requests(rt)?;
+    pages(rt)?;
+    transfers(rt)?;
+    events(rt)
 }

@@ -2,10 +2,11 @@
 use crate::host::Host;
 use crate::{host, show};
 use codes::StatusCode;
-use sound_core::MESSAGE;
 use exchange::{XferReply, XferStep};
 use model::{Answered, Device};
 use records::{Transfer, TransferStatus};
+use sound_core::MESSAGE;
+use std::io;
 use std::num::wrapping_add_u64;
 use turns::{Carried, Heard, Offer, Oldest, Reading, Ring, RingNumber, Said, Sent, Turned};
 
@@ -182,150 +183,155 @@ fn turned(h: Host, t: Turned) -> Host {
 
 // ---- its line
 
-fn offered(offer: Offer) {
+fn offered(rt: &impl Print, offer: Offer) -> io::Result<()> {
     let Offer::Is(sent) = offer else {
-        return;
+        return Ok(());
     };
     match sent {
-        Sent::Nothing => show::text(b"nothing                     "),
+        Sent::Nothing => show::text(rt, b"nothing                     "),
         Sent::Period { slot, offset, len } => {
-            show::text(b"slot ");
-            show::decimal(slot as u64);
-            show::text(b", offset ");
-            show::wide(offset as u64);
-            show::text(b", length ");
-            show::wide(len as u64);
+            show::text(rt, b"slot ")?;
+            show::decimal(rt, slot as u64)?;
+            show::text(rt, b", offset ")?;
+            show::wide(rt, offset as u64)?;
+            show::text(rt, b", length ")?;
+            show::wide(rt, len as u64)
         }
     }
 }
 
-fn seen_in(w: Words) {
+fn seen_in(rt: &impl Print, w: Words) -> io::Result<()> {
     if w.kind == 0 {
-        show::text(b" | quiet          | ");
-        return;
+        return show::text(rt, b" | quiet          | ");
     }
-    show::text(b" | slot ");
-    show::decimal(w.slot as u64);
-    show::text(b", ");
-    show::hex(w.status as u64);
-    show::text(b" | ");
+    show::text(rt, b" | slot ")?;
+    show::decimal(rt, w.slot as u64)?;
+    show::text(rt, b", ")?;
+    show::hex(rt, w.status as u64)?;
+    show::text(rt, b" | ")
 }
 
-fn says(said: Said) {
+fn says(rt: &impl Print, said: Said) -> io::Result<()> {
     match said {
-        Said::Going => show::text(b"goes on"),
-        Said::Done => show::ok(),
-        Said::Ended(r) => show::refusal(r),
-        Said::Refused(r) => show::refusal(r),
+        Said::Going => show::text(rt, b"goes on"),
+        Said::Done => show::ok(rt),
+        Said::Ended(r) => show::refusal(rt, r),
+        Said::Refused(r) => show::refusal(rt, r),
     }
 }
 
-fn line(turns: u64, offer: Offer, w: Words, said: Said) {
-    show::text(b"  turn ");
-    show::wide(turns);
-    show::text(b" | ");
-    offered(offer);
-    seen_in(w);
-    says(said);
-    show::text(b"\n");
+fn line(rt: &impl Print, turns: u64, offer: Offer, w: Words, said: Said) -> io::Result<()> {
+    show::text(rt, b"  turn ")?;
+    show::wide(rt, turns)?;
+    show::text(rt, b" | ")?;
+    offered(rt, offer)?;
+    seen_in(rt, w)?;
+    says(rt, said)?;
+    show::text(rt, b"\n")
 }
 
 // A turn: what it offers goes to the device, and what the queue then shows goes to the driver.
-fn turn(h: Host, frames: &[u8], mark: u8) -> Host {
+fn turn(rt: &impl Print, h: Host, frames: &[u8], mark: u8) -> io::Result<Host> {
     let offer = turns::next_offer(h.ring, frames);
     let sent = submit(h, frames, offer);
     let w = in_words(sent, mark);
     let t = advance(sent.lent, sent.ring, frames, w);
     let after = turned(sent, t);
     let said = after.said;
-    line(after.turns, offer, w, said);
-    after
+    line(rt, after.turns, offer, w, said)?;
+    Ok(after)
 }
 
 // A turn for each mark.
-fn play(h: Host, frames: &[u8], marks: &[u8]) -> Host {
+fn play(rt: &impl Print, h: Host, frames: &[u8], marks: &[u8]) -> io::Result<Host> {
     let mut now = h;
     let mut i: usize = 0;
     while i < marks.len() {
-        now = turn(now, frames, marks[i]);
+        now = turn(rt, now, frames, marks[i])?;
         i += 1;
     }
-    now
+    Ok(now)
 }
 
 // A transfer to stream 0, turn by turn: what the queue shows in each is a mark.
-pub(crate) fn run(h: Host, frames: &[u8], budget: u64, marks: &[u8]) -> Host {
-    play(start(h, frames, budget), frames, marks)
+pub(crate) fn run(
+    rt: &impl Print,
+    h: Host,
+    frames: &[u8],
+    budget: u64,
+    marks: &[u8],
+) -> io::Result<Host> {
+    play(rt, start(h, frames, budget), frames, marks)
 }
 
 // ---- after a turn
 
-fn number(n: RingNumber) {
+fn number(rt: &impl Print, n: RingNumber) -> io::Result<()> {
     match n {
-        RingNumber::Is(k) => show::decimal(k),
-        RingNumber::InvalidParam => show::text(b"no number of"),
+        RingNumber::Is(k) => show::decimal(rt, k),
+        RingNumber::InvalidParam => show::text(rt, b"no number of"),
     }
 }
 
 // What the transfer said last, and after how many turns.
-pub(crate) fn ended(h: Host) {
+pub(crate) fn ended(rt: &impl Print, h: Host) -> io::Result<()> {
     let said = h.said;
     let ring = h.ring;
-    show::text(b"  says ");
-    says(said);
-    show::text(b" on turn ");
-    show::decimal(h.turns);
-    show::text(b", ");
-    number(ring.in_flight());
-    show::text(b" in flight\n");
+    show::text(rt, b"  says ")?;
+    says(rt, said)?;
+    show::text(rt, b" on turn ")?;
+    show::decimal(rt, h.turns)?;
+    show::text(rt, b", ")?;
+    number(rt, ring.in_flight())?;
+    show::text(rt, b" in flight\n")
 }
 
-fn oldest(o: Oldest) {
+fn oldest(rt: &impl Print, o: Oldest) -> io::Result<()> {
     match o {
         Oldest::Slot(slot) => {
-            show::text(b", the oldest slot ");
-            show::decimal(slot as u64);
+            show::text(rt, b", the oldest slot ")?;
+            show::decimal(rt, slot as u64)
         }
-        Oldest::Nothing => show::text(b""),
-        Oldest::InvalidParam => show::text(b""),
+        Oldest::Nothing => show::text(rt, b""),
+        Oldest::InvalidParam => show::text(rt, b""),
     }
 }
 
 // What was completed with 0x8000, and what is in flight.
-pub(crate) fn account(h: Host) {
+pub(crate) fn account(rt: &impl Print, h: Host) -> io::Result<()> {
     let ring = h.ring;
-    show::text(b"  accepted ");
-    show::decimal(h.accepted);
-    show::text(b" bytes, ");
-    number(ring.in_flight());
-    show::text(b" in flight");
-    oldest(ring.oldest());
-    show::text(b"\n");
+    show::text(rt, b"  accepted ")?;
+    show::decimal(rt, h.accepted)?;
+    show::text(rt, b" bytes, ")?;
+    number(rt, ring.in_flight())?;
+    show::text(rt, b" in flight")?;
+    oldest(rt, ring.oldest())?;
+    show::text(rt, b"\n")
 }
 
 // A drain turn, and its line.
-fn drain(h: Host, mark: u8) -> Host {
+fn drain(rt: &impl Print, h: Host, mark: u8) -> io::Result<Host> {
     let w = in_words(h, mark);
     let reading = Reading::from_words(w.kind, w.slot, w.status);
     let t = turns::drain_turn(h.ring, reading);
     let ring = t.ring;
     let said = t.said;
-    show::text(b"  drain  ");
-    seen_in(w);
-    says(said);
-    show::text(b", ");
-    number(ring.in_flight());
-    show::text(b" in flight\n");
-    Host { ring, said, ..h }
+    show::text(rt, b"  drain  ")?;
+    seen_in(rt, w)?;
+    says(rt, said)?;
+    show::text(rt, b", ")?;
+    number(rt, ring.in_flight())?;
+    show::text(rt, b" in flight\n")?;
+    Ok(Host { ring, said, ..h })
 }
 
 // A drain turn for each mark.
-pub(crate) fn drains(h: Host, marks: &[u8]) -> Host {
+pub(crate) fn drains(rt: &impl Print, h: Host, marks: &[u8]) -> io::Result<Host> {
     let mut now = h;
     let mut i: usize = 0;
     while i < marks.len() {
-        now = drain(now, marks[i]);
+        now = drain(rt, now, marks[i])?;
         i += 1;
     }
-    now
+    Ok(now)
 }
