@@ -1,4 +1,4 @@
--- `core::consistency::consistent` meets its contract, by those of its tests. Assumes nothing.
+-- `sound_core::consistency::consistent` meets its contract, by those of its tests. Assumes nothing.
 use Rattle.sound_core.specs.Consistent.{consistent_of}
 use Rattle.sound_core.proofs.consistency.consistent.Goals as goal
 

@@ -1,4 +1,4 @@
--- `core::consistency::params_ok` meets its contract, by those of its tests. Assumes nothing.
+-- `sound_core::consistency::params_ok` meets its contract, by those of its tests. Assumes nothing.
 use Rattle.sound_core.proofs.consistency.params_ok.Goals as goal
 
 pub returns : goal.returns

@@ -1,4 +1,4 @@
--- `core::consistency::period_ok` meets its contract: there is no division by 0. Assumes nothing.
+-- `sound_core::consistency::period_ok` meets its contract: there is no division by 0. Assumes nothing.
 use borrow.Author.Tests.{eq-eqb, ne_eqb}
 use Rattle.sound_core.proofs.consistency.period_ok.Goals as goal
 

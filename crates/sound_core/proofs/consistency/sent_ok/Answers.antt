@@ -1,4 +1,4 @@
--- `core::consistency::sent_ok` meets its contract, case by case. Assumes nothing.
+-- `sound_core::consistency::sent_ok` meets its contract, case by case. Assumes nothing.
 use Rattle.sound_core.proofs.consistency.sent_ok.Goals as goal
 
 pub returns-in-SetParams : goal.returns-in-SetParams

@@ -1,4 +1,4 @@
--- `core::consistency::set_ok` meets its contract, by those of its tests. Assumes nothing.
+-- `sound_core::consistency::set_ok` meets its contract, by those of its tests. Assumes nothing.
 use Rattle.sound_core.proofs.consistency.set_ok.Goals as goal
 
 pub returns : goal.returns

@@ -1,4 +1,4 @@
--- `core::consistency::stage_ok` meets its contract, case by case. Assumes nothing.
+-- `sound_core::consistency::stage_ok` meets its contract, case by case. Assumes nothing.
 use Rattle.sound_core.proofs.consistency.stage_ok.Goals as goal
 
 pub returns-in-Sent : goal.returns-in-Sent

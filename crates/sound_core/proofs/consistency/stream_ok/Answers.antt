@@ -1,4 +1,4 @@
--- `core::consistency::stream_ok` meets its contract, by those of its tests. Assumes nothing.
+-- `sound_core::consistency::stream_ok` meets its contract, by those of its tests. Assumes nothing.
 use Rattle.sound_core.specs.Consistent.{stream_ok}
 use Rattle.sound_core.proofs.consistency.stream_ok.Goals as goal
 

@@ -1,4 +1,4 @@
--- `core::consistency::tables_ok` meets its contract, by those of its tests. Assumes nothing.
+-- `sound_core::consistency::tables_ok` meets its contract, by those of its tests. Assumes nothing.
 use Rattle.sound_core.proofs.consistency.tables_ok.Goals as goal
 
 pub returns : goal.returns

@@ -1,4 +1,4 @@
--- `core::decide::after_jacks` meets its contract. Assumes nothing.
+-- `sound_core::decide::after_jacks` meets its contract. Assumes nothing.
 use mathlib.Core.Path.{sym, ap, ◌∙◌}
 use Rattle.std.specs.Prelude.{not}
 use Rattle.codes.specs.SaysLaws.{passes, stops}

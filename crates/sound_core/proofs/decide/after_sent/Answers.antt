@@ -1,4 +1,4 @@
--- `core::decide::after_sent` meets its contract. Assumes nothing.
+-- `sound_core::decide::after_sent` meets its contract. Assumes nothing.
 use Rattle.codes.specs.SaysLaws.{passed, failed, passes, stops}
 use Rattle.sound_core.specs.Plan.{after_sent}
 use Rattle.sound_core.proofs.decide.after_sent.Goals as goal

@@ -1,4 +1,4 @@
--- `core::decide::answer` meets its contract: the page's length, the consistency test, then by what was asked. Assumes nothing.
+-- `sound_core::decide::answer` meets its contract: the page's length, the consistency test, then by what was asked. Assumes nothing.
 use mathlib.Core.Path.{sym, ap, ◌∙◌}
 use Rattle.std.specs.Prelude.{not}
 use Rattle.sound_core.specs.Plan.{answer_of}

@@ -1,4 +1,4 @@
--- `core::decide::answer_by` meets its contract, case by case. Assumes nothing.
+-- `sound_core::decide::answer_by` meets its contract, case by case. Assumes nothing.
 use Rattle.sound_core.proofs.decide.answer_by.Goals as goal
 
 pub returns-in-Idle : goal.returns-in-Idle

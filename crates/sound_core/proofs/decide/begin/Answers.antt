@@ -1,4 +1,4 @@
--- `core::decide::begin` meets its contract: a chain of refusals, then set-up or the call. Assumes nothing.
+-- `sound_core::decide::begin` meets its contract: a chain of refusals, then set-up or the call. Assumes nothing.
 use Rattle.std.specs.Prelude.{◌&&◌}
 use mathlib.Core.Path.{◌∙◌}
 use Rattle.sound_core.specs.Plan.{begin_of}

@@ -1,4 +1,4 @@
--- `core::decide::can_remap` meets its contract, case by case. Assumes nothing.
+-- `sound_core::decide::can_remap` meets its contract, case by case. Assumes nothing.
 use mathlib.Core.Path.{ap, ◌∙◌}
 use Rattle.std.specs.Prelude.{ℕ}
 use Rattle.codes.specs.Flags.{has_bit, remap_feature}

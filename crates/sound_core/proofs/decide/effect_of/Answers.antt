@@ -1,4 +1,4 @@
--- `core::decide::effect_of` meets its contract, case by case. Assumes nothing.
+-- `sound_core::decide::effect_of` meets its contract, case by case. Assumes nothing.
 use Rattle.sound_core.proofs.decide.effect_of.Goals as goal
 
 pub returns-in-SetParams : goal.returns-in-SetParams

@@ -1,4 +1,4 @@
--- `core::decide::may` meets its contract. Assumes nothing.
+-- `sound_core::decide::may` meets its contract. Assumes nothing.
 use Rattle.sound_core.proofs.decide.may.Goals as goal
 
 pub returns : goal.returns

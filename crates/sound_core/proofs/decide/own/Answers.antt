@@ -1,4 +1,4 @@
--- `core::decide::own` meets its contract, case by case. Assumes nothing.
+-- `sound_core::decide::own` meets its contract, case by case. Assumes nothing.
 use Rattle.sound_core.proofs.decide.own.Goals as goal
 
 pub returns-in-SetParams : goal.returns-in-SetParams

@@ -1,4 +1,4 @@
--- `core::decide::own_command` meets its contract, test by test. Assumes nothing.
+-- `sound_core::decide::own_command` meets its contract, test by test. Assumes nothing.
 use Rattle.codes.specs.SaysLaws.{passed, failed, passes, stops}
 use Rattle.sound_core.specs.Plan.{own_command}
 use Rattle.sound_core.proofs.decide.own_command.Goals as goal

@@ -1,4 +1,4 @@
--- `core::decide::own_remap` meets its contract, test by test. Assumes nothing.
+-- `sound_core::decide::own_remap` meets its contract, test by test. Assumes nothing.
 use mathlib.Core.Path.{ap}
 use Rattle.std.specs.Prelude.{not}
 use borrow.Author.Tests.{lt-ltb, le-ltb, eq-eqb, ne_eqb}

@@ -1,4 +1,4 @@
--- `core::decide::own_set` meets its contract, test by test. Assumes nothing.
+-- `sound_core::decide::own_set` meets its contract, test by test. Assumes nothing.
 use borrow.Author.Tests.{lt-ltb, le-ltb}
 use Rattle.codes.specs.SaysLaws.{passed, failed, passes, stops}
 use Rattle.sound_core.specs.Plan.{own_set}

@@ -1,4 +1,4 @@
--- `core::decide::refusal` meets its contract, case by case. Assumes nothing.
+-- `sound_core::decide::refusal` meets its contract, case by case. Assumes nothing.
 use Rattle.sound_core.proofs.decide.refusal.Goals as goal
 
 pub returns-in-Refused : goal.returns-in-Refused

@@ -1,4 +1,4 @@
--- `core::decide::set_up` meets its contract: set-up first, where it is not done. Assumes nothing.
+-- `sound_core::decide::set_up` meets its contract: set-up first, where it is not done. Assumes nothing.
 use Rattle.sound_core.proofs.decide.set_up.Goals as goal
 
 pub returns-then-ready : goal.returns-then-ready

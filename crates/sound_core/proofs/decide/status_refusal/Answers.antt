@@ -1,4 +1,4 @@
--- `core::decide::status_refusal` meets its contract, case by case. Assumes nothing.
+-- `sound_core::decide::status_refusal` meets its contract, case by case. Assumes nothing.
 use Rattle.sound_core.proofs.decide.status_refusal.Goals as goal
 
 pub returns-in-SetParams : goal.returns-in-SetParams

@@ -1,4 +1,4 @@
--- `core::gate::checked_by` meets its contract: a chain of tests. Assumes nothing.
+-- `sound_core::gate::checked_by` meets its contract: a chain of tests. Assumes nothing.
 use Rattle.std.specs.Prelude.{not}
 use mathlib.Core.Path.{refl, ap}
 use borrow.Author.Tests.{eq-eqb, ne_eqb, lt-ltb, le-ltb, not-true, not-false}

@@ -1,4 +1,4 @@
--- `core::gate::xfer_gate` meets its contract: a chain of refusals, then the rest. Assumes nothing.
+-- `sound_core::gate::xfer_gate` meets its contract: a chain of refusals, then the rest. Assumes nothing.
 use Rattle.std.specs.Prelude.{◌&&◌}
 use mathlib.Core.Path.{refl, ◌∙◌}
 use borrow.Author.Tests.{not-true, not-false}

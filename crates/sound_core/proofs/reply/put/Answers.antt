@@ -1,4 +1,4 @@
--- `core::reply::put` meets its contract: only a request is written. Assumes nothing.
+-- `sound_core::reply::put` meets its contract: only a request is written. Assumes nothing.
 use Rattle.sound_core.proofs.reply.put.Goals as goal
 
 pub returns-in-Send : goal.returns-in-Send

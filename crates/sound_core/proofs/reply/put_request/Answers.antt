@@ -1,4 +1,4 @@
--- `core::reply::put_request` meets its contract: each record writes itself. Assumes nothing.
+-- `sound_core::reply::put_request` meets its contract: each record writes itself. Assumes nothing.
 use borrow.Author.Rules.{rules}
 use Rattle.records.specs.Records.{query, query_values, remap, remap_values, pcm_command, pcm_command_values, set_parameters, set_parameters_values}
 use Rattle.sound_core.specs.ReplyLaws.{sent-by}

@@ -1,4 +1,4 @@
--- `core::reply::tell` meets its contract: a short message is refused, and otherwise what is said is put. Assumes nothing.
+-- `sound_core::reply::tell` meets its contract: a short message is refused, and otherwise what is said is put. Assumes nothing.
 use mathlib.Core.Path.{refl}
 use borrow.Author.Tests.{le-leb, lt-leb}
 use Rattle.codes.specs.SaysLaws.{passes, stops}

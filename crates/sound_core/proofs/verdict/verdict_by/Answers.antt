@@ -1,4 +1,4 @@
--- `core::verdict::verdict_by` meets its contract, case by case. Assumes nothing.
+-- `sound_core::verdict::verdict_by` meets its contract, case by case. Assumes nothing.
 use Rattle.sound_core.proofs.verdict.verdict_by.Goals as goal
 
 pub returns-in-Idle : goal.returns-in-Idle
