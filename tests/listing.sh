@@ -12,15 +12,11 @@ fault() {
     faults=$((faults + 1))
 }
 
-# Proves it and what it stands on, where that was not done yet, and writes target/bin/streams.
-rt=$(command -v rt) || { echo "rt is not on the PATH: install the Rattle kit (rt version: $(cat .ci/kit))" && exit 1; }
-rt check streams >"$made/check" 2>&1 || { tail -n 20 "$made/check" && echo "rt check streams failed" && exit 1; }
-
-# It is run as rt runs it: by the kit's loader and C library, and by the kit's emulator where this machine is no x86-64.
-kit=${RATTLE_HOME:-$(dirname "$(readlink -f "$rt")")/..}
-tools=$kit/on/$(uname -m)/toolchain
-run=("$tools/lib/ld-linux-x86-64.so.2" --library-path "$tools/lib" target/bin/streams)
-[ ! -x "$tools/bin/qemu-x86_64" ] || run=("$tools/bin/qemu-x86_64" "${run[@]}")
+# Proves it and what it stands on, where that was not done yet, and leaves it at crates/streams/out/streams.
+command -v rt >/dev/null || { echo "rt is not on the PATH: install the Rattle kit (rt version: $(cat .ci/kit))" && exit 1; }
+(cd crates/streams && exec rt run) <crates/streams/stdin >"$made/first" 2>"$made/check" || { tail -n 20 "$made/check" && echo "rt run fails in crates/streams" && exit 1; }
+run=("$PWD/crates/streams/out/streams")
+[ -x "${run[0]}" ] || { echo "rt run leaves no program ${run[0]}" && exit 1; }
 
 zeros() { # COUNT
     head -c "$1" /dev/zero

@@ -14,7 +14,7 @@ skip() {
 # The first words of a call of a C compiler for x86-64: the machine's own, a cross compiler, the kit's clang.
 compiler() {
     local kit
-    kit=${RATTLE_HOME:-$(dirname "$(readlink -f "$(command -v rt)")")/..}/on/$(uname -m)/toolchain/bin
+    kit=${RATTLE_HOME:-$(dirname "$(readlink -f "$(command -v rt)")")/..}/toolchain/bin
     if [[ $(gcc -dumpmachine 2>/dev/null) == x86_64-* ]]; then
         cc=(gcc)
     elif command -v x86_64-linux-gnu-gcc >/dev/null; then

@@ -39,49 +39,72 @@ walk turn_in_place turn_words turnWords frames:slice,kind:32,slot:32,status:32
 tools/wrap turns a b c d E.f kind:33 unit >/dev/null 2>&1 && fault "tools/wrap takes a number of 33 bits"
 
 # What a theorem rests on: 4 lines of a type, 4 of two definitions, and a record of 2 in a file of laws. A comment, a proof and what only the proof mentions
-# do not count, nor does a field or a variable that has a definition's name; a type that another file hands on counts where it stands.
+# do not count, nor does a field or a variable that has a definition's name; a type that another file hands on counts where it stands. A contract rests on
+# the definition that it names, also where the function has its name.
 mkdir -p "$made/rests/tools" "$made/rests/crates/small/src" "$made/rests/crates/small/specs"
 cp tools/rests "$made/rests/tools"
 cat >"$made/rests/crates/small/src/lib.rt" <<'RT'
+ghost use Rattle.std.specs.Prelude.{◌≡◌, ◌<◌, ◌^◌};
+ghost use Rattle.small.specs.Sums.{sum};
+
 // Two numbers.
+#[derive(Clone, Copy)]
 pub struct Pair {
     // the first
     pub a: u64,
     pub b: u64,
 }
+
+pub fn sum(a: Pair) -> u64
+    ensures value { result ≡ sum a }
+    ensures fits {
+        result < 2 ^ 64
+    }
+{
+    a.a + a.a + a.b
+}
 RT
 cat >"$made/rests/crates/small/specs/Sums.antt" <<'ANTT'
-use Prim.Native.Nat.{ℕ, _+_}
-use Rattle·small·specs.specs.SumLaws.{Even, even-sum}
-use Rattle·small·specs.specs.Types.{Pair}
+use Rattle.std.specs.Prelude.{ℕ, ◌+◌}
+use Rattle.small.specs.SumLaws.{Even, even_sum}
+use Rattle.small.specs.Types.{Pair}
 
 -- twice a number
 abbrev pub twice : ℕ → ℕ
 twice a = a + a
 
 abbrev pub sum : Pair → ℕ
-sum p = twice (p .a) + p .b
+sum p = twice p.a + p.b
 
 abbrev pub a : ℕ → ℕ
 a n = n
 
 pub even : (p : Pair)
     → Even (sum p)
-even p = even-sum (a (p .a))
+even p = even_sum (a p.a)
 ANTT
-echo 'pub use Rattle·small·specs.specs.declared.Pair.{Pair}' >"$made/rests/crates/small/specs/Types.antt"
+echo 'pub use Rattle.small.specs.declared.Pair.{Pair}' >"$made/rests/crates/small/specs/Types.antt"
 cat >"$made/rests/crates/small/specs/SumLaws.antt" <<'ANTT'
-use mathlib.Core.Path.{_≡_}
-use Prim.Native.Nat.{ℕ, _+_}
+use Rattle.std.specs.Prelude.{ℕ, ◌+◌, ◌≡◌, ◌×◌}
 
 pub record Even (n : ℕ) : Type 0 where
   pub half : (m : ℕ) × (m + m ≡ n)
 ANTT
-said=$("$made/rests/tools/rests" small:even)
-for line in "    4        2  crates/small/src/lib.rt  Pair" "    4        1  crates/small/specs/Sums.antt  sum twice" "    2        0* crates/small/specs/SumLaws.antt  Even" \
-    "10 lines of definitions in 3 files, with 3 lines of comment; what was asked for has 2 lines itself" "* Even (crates/small/specs/SumLaws.antt) is reached by even (crates/small/specs/Sums.antt)"; do
-    grep -qxF "$line" <<<"$said" || fault "tools/rests does not say '$line' of a small theorem: $said"
-done
+says() { # NAME LINE..
+    local name=$1 line
+    said=$("$made/rests/tools/rests" "$name")
+    shift
+    for line; do
+        grep -qxF -- "$line" <<<"$said" || fault "tools/rests does not say '$line' of $name: $said"
+    done
+}
+says small:even "    4        2  crates/small/src/lib.rt  Pair" "    4        1  crates/small/specs/Sums.antt  sum twice" "    2        0* crates/small/specs/SumLaws.antt  Even" \
+    "10 lines of definitions in 3 files, with 3 lines of comment; what was asked for has 2 lines itself" "* Even (crates/small/specs/SumLaws.antt) is reached by even (crates/small/specs/Sums.antt)"
+says crates/small/src/lib.rt:sum "    4        2  crates/small/src/lib.rt  Pair" "    4        1  crates/small/specs/Sums.antt  sum twice" \
+    "8 lines of definitions in 2 files, with 3 lines of comment; what was asked for has 5 lines itself"
+[ "$("$made/rests/tools/rests" --unknown)" = "0 names unknown" ] || fault "tools/rests cannot place every name of a small crate"
+sed -i 's/ensures value { result ≡ sum a }/ensures value { result ≡ other a }/' "$made/rests/crates/small/src/lib.rt"
+[ "$("$made/rests/tools/rests" --unknown)" = $'crates/small/src/lib.rt: other\n1 name unknown' ] || fault "tools/rests takes a name in a contract that is not there"
 "$made/rests/tools/rests" small:odd >/dev/null 2>&1 && fault "tools/rests takes a name that is not there"
 said=$(tools/rests --unknown) || fault "tools/rests cannot place every name of the tree: $said"
 for path in $(tools/rests --demand | grep -oE 'crates/\w+/specs/\w+\.antt' | sort -u); do
@@ -92,56 +115,74 @@ for tool in skel paths; do
     tools/$tool no_such_crate f >/dev/null 2>&1 && fault "tools/$tool takes a crate that is not there"
 done
 
-# A repository of three crates, a kit of empty files, and an rt that says what the files beside it tell it to.
+# A repository of five crates, a kit of empty files, and an rt that says what the files beside it tell it to. The crates lie where rt
+# is called, and rt takes the folder that it lies in for its kit.
 stand=$made/stand
 machine=$(uname -m)
-mkdir -p "$stand/bin" "$stand/kit/on/$machine/bin" "$stand/kit/on/$machine/toolchain/bin" "$stand/repo/.ci" "$stand/repo/tools" "$stand/repo/tests" "$stand/repo/host/snd"
+mkdir -p "$stand/kit/bin" "$stand/kit/toolchain/bin" "$stand/kit/toolchain/lib" "$stand/repo/.ci" "$stand/repo/tools" "$stand/repo/tests" "$stand/repo/host/snd"
+mkdir -p "$stand"/repo/crates/{base,one,other,alone,console}/src
 echo stand-in-1 | tee "$stand/kit/KIT-ID" >"$stand/repo/.ci/kit"
-for part in bin/rattle toolchain/bin/clang toolchain/bin/llvm-ar; do
-    : >"$stand/kit/on/$machine/$part"
-    chmod +x "$stand/kit/on/$machine/$part"
+for part in bin/rattle bin/rtlib.py toolchain/bin/clang toolchain/bin/llvm-ar; do
+    : >"$stand/kit/$part"
+    chmod +x "$stand/kit/$part"
 done
+printf '%s\n' '#!/bin/sh' 'printf "%s\n" "$@" >"$STAND/words"' >"$stand/kit/toolchain/bin/clang"
 cp tools/staticlib "$stand/repo/tools"
 cp .ci/run "$stand/repo/.ci"
-printf '%s\n' '# two stores: and what is on them' 'base:' 'one: base io' 'other: base' 'alone: io' 'console: base one other' >"$stand/repo/crates.txt"
-cat >"$stand/bin/rt" <<'RT'
+printf '%s\n' '# two stores: and what is on them' 'base:' 'one: base io' 'other: base' 'alone staticlib: io' 'console staticlib: base one other' >"$stand/repo/crates.txt"
+cat >"$stand/kit/bin/rt" <<'RT'
 #!/usr/bin/env bash
-[ "$1" = version ] && cat "$RATTLE_HOME/KIT-ID" && exit
-echo "$*" >>"$STAND/asked"
+[ "$1" = version ] && cat "$STAND/kit/KIT-ID" && exit
+name=$(basename "$PWD")
+kit=$(dirname "$(dirname "$(readlink -f "$0")")")
+echo "$1 $name" >>"$STAND/asked"
 case $1 in
-check) echo "rt: base proved (1 s)" && exit "$(cat "$STAND/check")" ;;
-staticlib) mkdir -p target/staticlib && printf '!<arch>\nsnd_new\0' >"target/staticlib/lib$2.a" && echo "fn f: proved" ;;
-ci) rm -rf target && echo "3 passed, 0 failed" ;;
+check) echo "rt: chose --jobs 2 for base" && exit "$(cat "$STAND/check")" ;;
+lib) mkdir -p out && printf '!<arch>\nsnd_new\0' >"out/lib$name.a" && "$kit/toolchain/bin/clang" -x ir module.bc && echo "fn f: proved" ;;
+ci) cat "$STAND/said" && exit "$(cat "$STAND/ended")" ;;
 esac
 RT
 # The kit's folder is named as a user's is, and SND_LIB as one's who has an archive from elsewhere.
-beside() { env PATH="$stand/bin:$PATH" STAND="$stand" RATTLE_HOME="$stand/kit" SND_LIB=/elsewhere.a "$@" 2>&1; }
+beside() { env PATH="$stand/kit/bin:$stand/bin:$PATH" STAND="$stand" RATTLE_HOME="$stand/kit" SND_LIB=/elsewhere.a "$@" 2>&1; }
 afresh() {
-    rm -rf "$stand/repo/target" "$stand/asked"
+    rm -rf "$stand/repo/target" "$stand"/repo/crates/*/out "$stand/asked" "$stand/words"
     echo 0 >"$stand/check"
     echo stand-in-1 >"$stand/kit/KIT-ID"
+    printf '%s\n' 'rt: ok; handles allowed: none; must-fail edits: 2 refused; every proof and must-fail edit was done in this run' '3 passed, 0 failed' >"$stand/said"
+    echo 0 >"$stand/ended"
 }
-chmod +x "$stand/bin/rt"
+mkdir -p "$stand/bin"
+chmod +x "$stand/kit/bin/rt"
 
-# staticlib tells what it is about to do, then has the crates proved below the one that it is for, together, then makes the archive.
+# staticlib tells what it is about to do, then has the crate proved that it is for, with those below, then makes the archive.
 afresh
 said=$(beside "$stand/repo/tools/staticlib") || fault "tools/staticlib fails over a stand-in for rt: $said"
-[ "$(cat "$stand/asked")" = $'check base one other\nstaticlib console' ] || fault "tools/staticlib asks rt for other than the crates below, then the archive: $(cat "$stand/asked")"
+[ "$(cat "$stand/asked")" = $'check console\nlib console' ] || fault "tools/staticlib asks rt for other than the proof, then the archive: $(cat "$stand/asked")"
 [ "$(head -n 1 <<<"$said")" = "tools/staticlib: proves 4 crates, console last; one that has not changed since it was proved here is not proved again" ] ||
     fault "tools/staticlib does not say first how many crates it proves: $said"
 takes=$(sed -nE 's/^tools\/staticlib: from nothing that takes (about [0-9]+ minutes on two cores) .*/\1/p' <<<"$said")
 [ -n "$takes" ] && grep -q "$takes" docs/BENCH.md || fault "tools/staticlib does not say how long it takes, in words of docs/BENCH.md: $said"
+[ -f "$stand/repo/target/staticlib/libconsole.a" ] || fault "tools/staticlib leaves no archive at target/staticlib/libconsole.a"
+if [ "$machine" = x86_64 ]; then
+    grep -qx -- '-force-attribute=noredzone' "$stand/words" && [ "$(tail -n 3 "$stand/words")" = $'-x\nir\nmodule.bc' ] || fault "clang is not told to force that there is no red zone, beside what rt tells it: $(cat "$stand/words")"
+    grep -qx -- '-mgeneral-regs-only' "$stand/words" && fault "clang is held to the general registers with no --no-sse"
+    cp -p "$stand/repo/target/staticlib/libconsole.a" "$stand/kept.a"
+    said=$(beside "$stand/repo/tools/staticlib" --no-sse) || fault "tools/staticlib --no-sse fails over a stand-in for rt: $said"
+    grep -qx -- '-mgeneral-regs-only' "$stand/words" && grep -qx -- '-force-attribute=noredzone' "$stand/words" || fault "clang is not held to the general registers by --no-sse: $(cat "$stand/words")"
+    [ -f "$stand/repo/target/staticlib/no-sse/libconsole.a" ] && [ ! "$stand/repo/target/staticlib/libconsole.a" -nt "$stand/kept.a" ] || fault "tools/staticlib --no-sse does not leave both archives"
+fi
 afresh
 said=$(beside "$stand/repo/tools/staticlib" alone) || fault "tools/staticlib fails of a crate with none below it: $said"
-[ "$(cat "$stand/asked")" = "staticlib alone" ] || fault "tools/staticlib asks rt to check crates that are not below: $(cat "$stand/asked")"
+[ "$(cat "$stand/asked")" = $'check alone\nlib alone' ] && [ "$(head -n 1 <<<"$said" | cut -d, -f1)" = "tools/staticlib: proves 1 crates" ] ||
+    fault "tools/staticlib proves other crates than the one that has none below it: $(cat "$stand/asked") $said"
 afresh
 echo 3 >"$stand/check"
 beside "$stand/repo/tools/staticlib" >/dev/null
-[ $? -eq 3 ] && [ "$(wc -l <"$stand/asked")" -eq 1 ] || fault "tools/staticlib goes on where a crate below is not proved"
+[ $? -eq 3 ] && [ "$(wc -l <"$stand/asked")" -eq 1 ] || fault "tools/staticlib goes on where a crate is not proved"
 
 # What costs nothing is refused before anything is proved.
-early() { # WHAT SENTENCE
-    said=$(beside "$stand/repo/tools/staticlib") && fault "tools/staticlib goes on with $1"
+early() { # WHAT SENTENCE [NAME]
+    said=$(beside "$stand/repo/tools/staticlib" ${3:+"$3"}) && fault "tools/staticlib goes on with $1"
     grep -q "^tools/staticlib: $2" <<<"$said" || fault "tools/staticlib does not say of $1 '$2': $said"
     [ ! -e "$stand/asked" ] || fault "tools/staticlib has something proved before it sees $1"
 }
@@ -149,15 +190,17 @@ afresh
 echo stand-in-2 >"$stand/kit/KIT-ID"
 early "another kit" "the kit at hand is 'stand-in-2'; this repository is proved with 'stand-in-1'"
 afresh
-chmod -x "$stand/kit/on/$machine/toolchain/bin/clang"
-early "a clang that cannot be run" "the kit's on/$machine/toolchain/bin/clang cannot be run"
-mv "$stand/kit/on/$machine/toolchain/bin/clang" "$stand/clang"
-early "no clang" "the kit at .* lacks on/$machine/toolchain/bin/clang"
-mv "$stand/clang" "$stand/kit/on/$machine/toolchain/bin/clang"
-chmod +x "$stand/kit/on/$machine/toolchain/bin/clang"
+early "a library for crates" "crates.txt does not call 'base' a static library" base
+early "a crate that is not there" "crates.txt lists no crate 'bas'" bas
+chmod -x "$stand/kit/toolchain/bin/clang"
+early "a clang that cannot be run" "the kit's toolchain/bin/clang cannot be run"
+mv "$stand/kit/toolchain/bin/clang" "$stand/clang"
+early "no clang" "the kit at .* lacks toolchain/bin/clang"
+mv "$stand/clang" "$stand/kit/toolchain/bin/clang"
+chmod +x "$stand/kit/toolchain/bin/clang"
 printf '%s\n' '#!/bin/sh' 'echo Filesystem' 'echo x 9 9 20480 9 /' >"$stand/bin/df"
 chmod +x "$stand/bin/df"
-early "a full disk" "20 MB are free where target/ stands: proving may take 1000 MB more"
+early "a full disk" "20 MB are free where crates/ stands: proving may take 4000 MB more"
 rm "$stand/bin/df"
 
 # The gate is of this tree and of this kit: no archive from elsewhere, and a kit of another name is one failure more.
@@ -167,6 +210,7 @@ echo 'echo "a test sees SND_LIB=${SND_LIB-none}"' >"$stand/repo/tests/sees.sh"
 afresh
 said=$(beside bash "$stand/repo/.ci/run") || fault "the gate fails over a stand-in for rt: $said"
 [ "$(tail -n 1 <<<"$said")" = "6 passed, 0 failed" ] || fault "the gate counts otherwise over a stand-in for rt: $said"
+[ "$(head -n 1 "$stand/asked")" = "ci repo" ] || fault "the gate does not begin with rt ci at the top: $(cat "$stand/asked")"
 [ "$(grep -c 'SND_LIB=none$' <<<"$said")" -eq 2 ] || fault "the gate's tests see SND_LIB: $said"
 sum=$(sha256sum <"$stand/repo/target/staticlib/libconsole.a" | cut -d' ' -f1)
 grep -qx "archive sha256 $sum  target/staticlib/libconsole.a" <<<"$said" || fault "the gate does not tell the archive's sha256, $sum: $said"
@@ -176,24 +220,60 @@ said=$(beside bash "$stand/repo/.ci/run") && fault "the gate passes with another
 grep -qx "the kit at hand is 'stand-in-2'; this repository is proved with 'stand-in-1' (.ci/kit)" <<<"$said" || fault "the gate does not name both kits: $said"
 [ "$(tail -n 1 <<<"$said")" = "4 passed, 2 failed" ] || fault "the gate with another kit counts otherwise (the kit; the static library): $said"
 
+# It fails where rt ci does, whatever that counted, and where rt ci passes over an edit that is bad.
+refuses() { # WHAT TOTAL SENTENCE
+    said=$(beside bash "$stand/repo/.ci/run") && fault "the gate passes where $1"
+    [ "$(tail -n 1 <<<"$said")" = "$2" ] || fault "the gate counts otherwise where $1: $said"
+    grep -qx "$3" <<<"$said" || fault "the gate does not say '$3' where $1: $said"
+}
+afresh
+printf '%s\n' 'rt: FAILED: base' '2 passed, 1 failed' >"$stand/said"
+echo 1 >"$stand/ended"
+refuses "a crate is not proved" "5 passed, 1 failed" 'rt: FAILED: base'
+afresh
+echo 1 >"$stand/ended"
+refuses "rt ci ends with a status that is not 0" "6 passed, 1 failed" 'rt ci ended with status 1'
+afresh
+echo '3 passed, 0 failed' >"$stand/said"
+refuses "rt ci does not say that all is well" "6 passed, 1 failed" "rt ci has no line 'rt: ok'"
+afresh
+echo 'rt: stopped' >"$stand/said"
+echo 2 >"$stand/ended"
+refuses "rt ci comes to no total" "3 passed, 1 failed" 'rt ci came to no total'
+for edits in '3 refused, 2 bad' '3 refused, 1 of them only by a limit, 2 bad' '0 refused, 2 bad'; do
+    for share in 'every proof and must-fail edit was done in this run' 'done in this run: 3 of the 8 proofs (of crates and of their tests); the others are kept from earlier runs of the same files on this machine'; do
+        afresh
+        printf '%s\n' "rt: ok; handles allowed: none; must-fail edits: $edits; $share" '3 passed, 0 failed' >"$stand/said"
+        refuses "edits are bad ($edits)" "6 passed, 2 failed" 'rt ci passed over must-fail edits that are bad: 2'
+    done
+done
+
 # The host's build script shows how far the proof is, on the terminal if there is one, else by two warnings of cargo's.
 if command -v rustc >/dev/null; then
     rustc --edition 2024 -o "$stand/build" host/snd/build.rs || fault "host/snd/build.rs does not compile by itself"
-    mkdir -p "$stand/out" "$stand/repo/crates"
-    echo x >"$stand/repo/crates/x"
+    mkdir -p "$stand/out"
+    echo x >"$stand/repo/crates/base/src/lib.rt"
     build=(env -u SND_LIB "CARGO_MANIFEST_DIR=$stand/repo/host/snd" "OUT_DIR=$stand/out" "$stand/build")
     afresh
     said=$(beside setsid -w "${build[@]}") || fault "the build script fails over a stand-in for rt: $said"
     [ "$(grep -c '^cargo:warning=' <<<"$said")" -eq 2 ] && grep -q '^cargo:warning=proved and made in [0-9]* s$' <<<"$said" || fault "the build script leaves no two warnings where there is no terminal: $said"
     afresh
     said=$(beside python3 -c 'import pty, sys; sys.exit(pty.spawn(sys.argv[1:]))' bash -c '"$@" >"$0"' "$stand/said" "${build[@]}") || fault "the build script fails on a terminal: $said"
-    grep -q 'rt: base proved (1 s)' <<<"$said" && grep -q 'tools/staticlib: proves 4 crates' <<<"$said" || fault "the build script shows no progress on the terminal: $said"
+    grep -q 'rt: chose --jobs 2 for base' <<<"$said" && grep -q 'tools/staticlib: proves 4 crates' <<<"$said" || fault "the build script shows no progress on the terminal: $said"
     grep -q 'fn f: proved' <<<"$said" && fault "the build script shows each function on the terminal: $said"
     grep -q '^cargo:warning=' "$stand/said" && fault "the build script warns though there is a terminal: $(cat "$stand/said")"
     afresh
     echo 1 >"$stand/check"
     said=$(beside setsid -w "${build[@]}") && fault "the build script goes on where a crate is not proved"
-    grep -q '^no archive was made' <<<"$said" && grep -q '^rt: base proved (1 s)$' <<<"$said" || fault "the build script does not tell what was said where no archive was made: $said"
+    grep -q '^no archive was made' <<<"$said" && grep -q '^rt: chose --jobs 2 for base$' <<<"$said" || fault "the build script does not tell what was said where no archive was made: $said"
+
+    # The archive is made again where a proved source is newer, and not where what proving keeps beside it is.
+    afresh
+    beside setsid -w "${build[@]}" >/dev/null && rm "$stand/asked"
+    touch -d '1 hour' "$stand/repo/crates/console/out/kept"
+    beside setsid -w "${build[@]}" >/dev/null && [ ! -e "$stand/asked" ] || fault "the build script makes the archive again where only out/ is newer"
+    touch -d '1 hour' "$stand/repo/crates/base/src/lib.rt"
+    beside setsid -w "${build[@]}" >/dev/null && [ -e "$stand/asked" ] || fault "the build script makes no archive where a proved source is newer"
 fi
 
 if command -v rt >/dev/null; then

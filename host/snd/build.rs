@@ -54,14 +54,25 @@ fn own_archive() -> PathBuf {
     let manifest = env::var("CARGO_MANIFEST_DIR").expect("cargo sets it");
     let repository = Path::new(&manifest).join("../..");
     let archive = repository.join("target/staticlib/libconsole.a");
-    for source in ["crates", "crates.txt", "tools/staticlib"] {
+    let mut proved = changed(&repository.join("crates.txt"));
+    for source in ["crates.txt", "tools/staticlib"] {
         println!("cargo:rerun-if-changed={}", repository.join(source).display());
     }
-    let proved = newest(&repository.join("crates")).max(changed(&repository.join("crates.txt")));
+    for folder in proved_folders(&repository) {
+        println!("cargo:rerun-if-changed={}", folder.display());
+        proved = proved.max(newest(&folder));
+    }
     if changed(&archive) < proved {
         make(&repository);
     }
     archive
+}
+
+/// What a proof reads of each crate. Beside it lies `out`, where proving leaves its work.
+fn proved_folders(repository: &Path) -> Vec<PathBuf> {
+    let crates = fs::read_dir(repository.join("crates")).into_iter().flatten().flatten();
+    let parts = crates.flat_map(|of| ["src", "specs", "proofs"].map(|part| of.path().join(part)));
+    parts.filter(|folder| folder.is_dir()).collect()
 }
 
 fn make(repository: &Path) {
