@@ -1,6 +1,6 @@
 -- THE STATUS THAT A REFUSAL CARRIES. "Refusals: 2 and 3 keep number and place and carry the status that caused them, or none."
 -- Assumes nothing.
-use Rattle.std.specs.Prelude.{◌≡◌, ℕ, Bool, true, false, not, List, [], ◌∷◌, ◌==◌, ◌≢◌, refl}
+use Rattle.std.specs.Prelude.{◌≡◌, ℕ, Bool, true, false, not, List, [], ◌==◌, ◌≢◌, refl}
 use Rattle.std.proofs.Common.{sym, subst}
 use Rattle.std.proofs.lemmas.Bool.{false≢true, eqb-false}
 use Rattle.layout.specs.Bytes.{num_at}
@@ -26,7 +26,6 @@ use Rattle.turns.specs.declared.rules.Choice.{Choice}
 use Rattle.turns.specs.declared.rules.Choice.TheVariants.{Submit, Finish, Wait}
 use Rattle.turns.specs.declared.rules.Verdict as rules
 use Rattle.turns.specs.declared.rules.Verdict.TheVariants as rule
-use Rattle.sound_core.specs.Consistent.{consistent_of}
 use Rattle.sound_core.specs.GateLaws.{faced-by}
 use Rattle.exchange.specs.State.{params_of, pcm_of}
 use Rattle.sound_core.specs.Plan.{send_of, query_of, own_set, own_command, own_remap, own_supported, own_xfer, own_of, begin_of, cause_of, refusal_of, status_refusal, read_to, after_jacks, after_streams, after_maps, after_sent, answer_by, answer_of, verdict_by}

@@ -15,7 +15,7 @@ use Rattle.sound_core.specs.Reply.{reply_of}
 use Rattle.exchange.specs.State.{jacks_of, pcms_of, maps_of}
 use Rattle.exchange.specs.Tables.{look_by, pending_by, sound_after}
 use Rattle.exchange.specs.Exchange.{list_of, step_of, call_of, feed_of, fail_of}
-use Rattle.exchange.specs.Feed.{Feed, paged, failed, plan_of, fed_of}
+use Rattle.exchange.specs.Feed.{Feed, paged, failed, fed_of}
 use Rattle.exchange.specs.Types.{JackInfo, PcmInfo, ChannelMap, QueueFailed, BadLength, Track, Call, Core, Sound, Effect, Nothing, FillJacks, FillStreams, FillMaps, Store, Move, Plan}
 
 -- ---- the effect

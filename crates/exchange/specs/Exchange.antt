@@ -2,7 +2,7 @@
 -- Assumes nothing.
 use Rattle.std.specs.Prelude.{◌≡◌, ℕ, suc, ◌+◌, ◌-◌, ◌&&◌, List, [], ◌∷◌, ◌++◌, length, take, replicate, ◌==◌, nat_le}
 use Rattle.tables.specs.Tables.{page_ok}
-use Rattle.layout.specs.Lent.{message_size, page_size}
+use Rattle.layout.specs.Lent.{message_size}
 use Rattle.codes.specs.Says.{Says, says, pick, guard}
 use Rattle.codes.specs.Answers.{says_refusal}
 use Rattle.tables.specs.declared.verdict.Verdict.TheVariants as verdict

@@ -1,14 +1,14 @@
 -- Theorems: in a state and ring that calls left, slots and tokens are never in flight together, and never take more than 32 descriptors.
 -- Assumes nothing.
-use Rattle.std.specs.Prelude.{◌≡◌, ℕ, ◌+◌, ◌*◌, ◌%◌, ◌<◌, ◌≤◌, Bool, true, false, not, ◌&&◌, ltb, ◌⊎◌, List, [], length, ◌==◌, ◌≢◌, nat_le, nat_lt}
+use Rattle.std.specs.Prelude.{◌≡◌, ℕ, ◌+◌, ◌*◌, ◌%◌, ◌≤◌, Bool, true, false, not, ◌&&◌, ltb, ◌⊎◌, List, [], length, ◌==◌, ◌≢◌, nat_le, nat_lt}
 use Rattle.std.proofs.Math.Path.{refl, subst}
-use Rattle.std.proofs.Common.{sym, ap, ◌∙◌, zero-mul, mul-zero, arith, eqb-true, leb-true}
+use Rattle.std.proofs.Common.{sym, ap, ◌∙◌, zero-mul, mul-zero, arith, eqb-true}
 use Rattle.std.proofs.Math.Bool.{false≢true}
 use Rattle.std.proofs.Math.Logic.{inl, inr}
 use Rattle.layout.specs.Lent.{message_size}
 use Rattle.codes.specs.Says.{pick}
 use Rattle.codes.specs.SaysLaws.{guarded-by}
-use Rattle.pending.specs.Table.{new_pending, pending_at, none_in, count_in, lowest_in, waits, mark_of, finish_of}
+use Rattle.pending.specs.Table.{new_pending, none_in, count_in, lowest_in, waits, mark_of, finish_of}
 use Rattle.pending.specs.TableLaws.{bound-is, waits-pending}
 use Rattle.pending.specs.CallLaws.{mark-by, finish-by}
 use Rattle.pending.specs.Count.{none_then, AboveFree, other, completes-above, finishes-above, few-pending}

@@ -1,8 +1,8 @@
 -- A feed of either kind, a page or a queue failure, so that each theorem is stated once: "The caller then feeds the 4,096-byte answer page or a queue failure."
 -- Assumes nothing.
-use Rattle.std.specs.Prelude.{◌≡◌, ℕ, ◌≤◌, Bool, true, false, ◌&&◌, ◌⊎◌, List, [], ◌∷◌, length, nat_le}
+use Rattle.std.specs.Prelude.{◌≡◌, ℕ, ◌≤◌, Bool, true, false, ◌&&◌, ◌⊎◌, List, [], ◌∷◌, nat_le}
 use Rattle.tables.specs.Tables.{page_ok}
-use Rattle.layout.specs.Lent.{message_size, page_size}
+use Rattle.layout.specs.Lent.{message_size}
 use Rattle.tables.specs.declared.verdict.Verdict.TheVariants as verdict
 use Rattle.sound_core.specs.Plan.{verdict_by}
 use Rattle.exchange.specs.Exchange.{step_of, feed_of, fail_of}

@@ -4,7 +4,7 @@ use Rattle.std.specs.Prelude.{◌≡◌, ℕ, ◌+◌, ◌*◌, ◌<◌, Bool, t
 use Rattle.std.proofs.Common.{sym, ap, ◌∙◌, subst, inl, inr, arith}
 use Rattle.std.proofs.lemmas.Bool.{false≢true}
 use Rattle.codes.specs.Says.{pick}
-use Rattle.tables.specs.Tables.{judged, is_good, fits, filled, pcm_at, tables_bytes}
+use Rattle.tables.specs.Tables.{judged, is_good, fits, pcm_at, tables_bytes}
 use Rattle.codes.specs.SaysLaws.{picks}
 use Rattle.tables.specs.TablesLaws.{good-fits}
 use Rattle.tables.specs.FillLaws.{jacks-leave-pcms, pcms-filled, maps-leave-pcms, filled_at}

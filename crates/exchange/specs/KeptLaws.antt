@@ -7,7 +7,7 @@ use Rattle.std.proofs.lemmas.List.{length-replicate}
 use Rattle.tables.specs.Tables.{jacks_place, pcms_place, maps_place, tables_bytes}
 use Rattle.tables.specs.FillLaws.{copied-length}
 use Rattle.sound_core.specs.State.{unset}
-use Rattle.exchange.specs.State.{new_sound, params_of, life_of}
+use Rattle.exchange.specs.State.{new_sound, params_of}
 use Rattle.sound_core.specs.Consistent.{consistent_of, params_ok}
 use Rattle.exchange.specs.Tables.{moved, sound_after}
 use Rattle.exchange.specs.Exchange.{step_of, call_of}

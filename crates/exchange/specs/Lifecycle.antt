@@ -1,14 +1,14 @@
 -- Theorems of the guard. "For any sequence of calls the state is the one the table gives for the ok commands." A command that was sent was permitted; the guard never
 -- changes; and without it no state moves.
 -- Assumes nothing.
-use Rattle.std.specs.Prelude.{◌≡◌, ℕ, ◌-◌, ◌<◌, ◌≤◌, Bool, true, false, ◌&&◌, List, [], ◌∷◌, ◌++◌, length, set, replicate, ◌==◌, nat_le, slice_index, slice_index_or, slice_set, refl}
+use Rattle.std.specs.Prelude.{◌≡◌, ℕ, ◌-◌, ◌<◌, ◌≤◌, Bool, true, false, ◌&&◌, List, [], ◌∷◌, ◌++◌, length, replicate, ◌==◌, nat_le, slice_index, slice_index_or, slice_set, refl}
 use Rattle.std.proofs.Common.{sym, ap, ap₂, ◌∙◌, subst, append-nil, inl, arith, get_or-set_other, get_or-set_same, eqb-true, leb-true, ltb-true}
 use Rattle.std.proofs.lemmas.Bool.{false≢true, eqb-false}
 use Rattle.layout.specs.Bytes.{un, bytes_at, num_at}
 use Rattle.codes.specs.Says.{pick, guard}
 use Rattle.codes.specs.Life.{permits_of}
 use Rattle.tables.specs.Tables.{judged, is_good}
-use Rattle.sound_core.specs.Consistent.{held_to, exactly, none_or_all, tables_ok, consistent_of}
+use Rattle.sound_core.specs.Consistent.{held_to, exactly, none_or_all, consistent_of}
 use Rattle.sound_core.specs.Plan.{kind_code, kind_life, life_in, effect_of, own_set, own_command, begin_of, after_jacks, after_streams, after_maps, after_sent, answer_of}
 use Rattle.sound_core.specs.declared.plan.Request.TheVariants as request
 use Rattle.sound_core.specs.declared.state.Kind.TheVariants.{Prepare, Release, Start, Stop}
@@ -16,9 +16,8 @@ use Rattle.sound_core.specs.State.{with_stage}
 use Rattle.exchange.specs.State.{new_sound, params_of, life_of, with_core}
 use Rattle.exchange.specs.Tables.{look_of, pending_look, moved, sound_after}
 use Rattle.exchange.specs.Exchange.{step_of, call_of, feed_of, fail_of}
-use Rattle.exchange.specs.Xfer.{start_of, xfer_of}
-use Rattle.exchange.specs.Feed.{Feed, paged, failed, page_of, plan_of, fed_of, verdict_of}
-use Rattle.exchange.specs.Kept.{Kept, Playable}
+use Rattle.exchange.specs.Feed.{Feed, paged, failed, page_of, plan_of, fed_of}
+use Rattle.exchange.specs.Kept.{Playable}
 use Rattle.exchange.specs.KeptLaws.{zero-life}
 use Rattle.exchange.specs.ConsistentLaws.{facts_at, full, ready-tables}
 use Rattle.exchange.specs.OwnLaws.{Own, sets, commands, remaps, lists, tells, refuses}

@@ -12,7 +12,6 @@ use Rattle.turns.specs.Capture.{capture_start, capture_call}
 use Rattle.turns.specs.declared.capture.Catch.{Catch}
 use Rattle.exchange.specs.CaptureLaws.{capture-start-keeps, capture-keeps}
 use Rattle.turns.specs.Script.{transfer_of}
-use Rattle.turns.specs.Consistent as ring
 use Rattle.turns.specs.Consistent.{placed_of, paced_of}
 use Rattle.turns.specs.ConsistentLaws.{Consistent, consistent-facts, consistent-true}
 use Rattle.turns.specs.StaysConsistentLaws.{traced-keeps, drain-keeps, start-keeps, traced-start-keeps, new-passes}

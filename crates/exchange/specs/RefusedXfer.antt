@@ -3,7 +3,7 @@
 use Rattle.std.specs.Prelude.{◌≡◌, ℕ, zero, suc, List, refl}
 use Rattle.std.proofs.Common.{sym, ap, ◌∙◌, subst}
 use Rattle.codes.specs.SaysLaws.{guarded-by}
-use Rattle.turns.specs.Calls.{start_call, start_traced, started_of}
+use Rattle.turns.specs.Calls.{start_call, started_of}
 use Rattle.turns.specs.Rules.{comes_to, played_of}
 use Rattle.turns.specs.Log.{Ran, loop_of, first_of, rest_of, played, ruled, run}
 use Rattle.turns.specs.Script.{script_of, transfer_by, transfer_of}

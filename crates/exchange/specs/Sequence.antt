@@ -1,6 +1,6 @@
 -- "Over any sequence, what is pending is what was submitted and not finished." And what is pending keeps its bytes in the lent store.
 -- Assumes nothing.
-use Rattle.std.specs.Prelude.{◌≡◌, ℕ, ◌+◌, ◌<◌, ◌≤◌, Bool, true, false, not, List, [], ◌∷◌, length, ◌==◌}
+use Rattle.std.specs.Prelude.{◌≡◌, ℕ, ◌+◌, ◌<◌, ◌≤◌, Bool, true, false, not, List, [], length, ◌==◌}
 use Rattle.std.proofs.Math.Path.{refl, ap}
 use Rattle.std.proofs.Common.{sym, ◌∙◌, subst, arith, eqb-true}
 use Rattle.std.proofs.lemmas.Bool.{false≢true, eqb-false}
@@ -14,7 +14,7 @@ use Rattle.pending.specs.CallLaws.{mark-by, finish-by}
 use Rattle.pending.specs.Places.{size_of, start_of as place_of, message_of, placed_in}
 use Rattle.pending.specs.Apart.{places-apart, placed-there, placed-length, length-message}
 use Rattle.pending.specs.Count.{none_then}
-use Rattle.pending.specs.Ledger.{Entry, took, freed, neither, ends_entry, noted, completes-notes, finishes-notes}
+use Rattle.pending.specs.Ledger.{Entry, took, neither, ends_entry, noted, completes-notes, finishes-notes}
 use Rattle.tables.specs.Tables.{judged}
 use Rattle.turns.specs.Ring.{direct, new_ring}
 use Rattle.turns.specs.Consistent.{placed_of, paced_of}

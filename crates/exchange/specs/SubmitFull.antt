@@ -1,6 +1,6 @@
 -- "15 Full, exactly if 16 are pending", or "Full at 32 pending" where descriptors are indirect: of a submission that passed every test before it.
 -- Assumes nothing.
-use Rattle.std.specs.Prelude.{◌≡◌, ℕ, ◌+◌, ◌<◌, ◌≤◌, Bool, true, false, not, ◌&&◌, ltb, ◌==◌, nat_lt, refl}
+use Rattle.std.specs.Prelude.{◌≡◌, ℕ, ◌+◌, ◌<◌, ◌≤◌, true, false, not, ◌&&◌, ltb, ◌==◌, nat_lt, refl}
 use Rattle.std.proofs.Common.{subst, arith}
 use borrow.Author.Tests.{eq-eqb, eqb-true, le-leb, leb-true, ltb-false}
 use Rattle.layout.specs.Lent.{message_size}
@@ -17,7 +17,7 @@ use Rattle.turns.specs.Consistent as ring
 use Rattle.sound_core.specs.Consistent.{consistent_of, stream_ok, held_to}
 use Rattle.sound_core.specs.Plan.{is_idle}
 use Rattle.exchange.specs.State.{params_of, life_of}
-use Rattle.exchange.specs.Submit.{places_of, refused_nb, set_up_nb, submit_of, nb_of, says_nb}
+use Rattle.exchange.specs.Submit.{places_of, refused_nb, nb_of, says_nb}
 use Rattle.exchange.specs.SubmitLaws.{few-places}
 use Rattle.exchange.specs.Types.{Ring, Pending, Sound, NbStep}
 

@@ -1,16 +1,13 @@
 -- Theorems of a submission that does not wait: what it writes, what a refusal leaves, what is Busy, when it is Full; and that set-up submits nothing.
 -- Assumes nothing.
-use Rattle.std.specs.Prelude.{◌≡◌, ℕ, ◌+◌, ◌%◌, ◌<◌, ◌≤◌, Bool, true, false, not, ◌&&◌, List, [], ◌∷◌, length, ◌==◌, nat_le, refl}
-use Rattle.std.proofs.Common.{sym, ap, ◌∙◌, subst, arith, le-leb, lt-ltb, leb-true, eqb-true, eq-eqb, ltb-true, ltb-false}
+use Rattle.std.specs.Prelude.{◌≡◌, ℕ, ◌+◌, ◌%◌, ◌<◌, ◌≤◌, Bool, true, false, ◌&&◌, List, length, ◌==◌, nat_le, refl}
+use Rattle.std.proofs.Common.{sym, ap, ◌∙◌, subst, arith, le-leb, lt-ltb, leb-true, eqb-true, ltb-true}
 use Rattle.std.proofs.lemmas.Bool.{false≢true}
 use Rattle.std.proofs.lemmas.List.Edits.{sets}
 use Rattle.layout.specs.Lent.{message_size}
-use Rattle.codes.specs.Says.{guard}
 use Rattle.codes.specs.SaysLaws.{guarded-by, passes, stops}
-use Rattle.codes.specs.declared.answers.Refusal.TheVariants.{Full}
-use Rattle.pending.specs.Table.{pending_at, none_in, lowest_in, mark_of, finish_of}
-use Rattle.pending.specs.Places.{size_of, start_of as place_of, message_of, placed_in, spot_by}
-use Rattle.pending.specs.Full.{lowest-below, full-if}
+use Rattle.pending.specs.Table.{pending_at, none_in, lowest_in}
+use Rattle.pending.specs.Places.{size_of, start_of as place_of, message_of, placed_in}
 use Rattle.pending.specs.Count.{none_then}
 use Rattle.pending.specs.Ledger.{mark-sized, finish-sized, put-sized}
 use Rattle.turns.specs.Calls.{idle_of, start_call, start_traced, started_of}
@@ -21,16 +18,15 @@ use Rattle.turns.specs.Consistent as ring
 use Rattle.turns.specs.declared.reading.Reading.TheVariants.{Quiet, Completed}
 use Rattle.sound_core.specs.Consistent.{consistent_of, stream_ok}
 use Rattle.sound_core.specs.Plan.{is_idle}
-use Rattle.sound_core.specs.State.{with_stage}
-use Rattle.exchange.specs.State.{params_of, life_of, with_core}
+use Rattle.exchange.specs.State.{params_of, with_core}
 use Rattle.exchange.specs.Tables.{sound_after}
 use Rattle.exchange.specs.Xfer.{xfer_as, waiting_as, refused_step, set_up_step_with, set_up_step, start_step, done_step, start_as, start_of, start_traced_of, xfer_of, capture_of, set_up_plan}
 use Rattle.exchange.specs.XferLaws.{xfer-by, set-up-kept}
 use Rattle.exchange.specs.Kept.{Kept}
 use Rattle.exchange.specs.Unrun as unrun
-use Rattle.exchange.specs.Submit.{with_pending, places_of, refused_nb, set_up_nb, token_nb, submit_of, nb_of, nb_store, nb_message, says_nb, mark_by, mark_step, finish_step, end_by, barred_end}
+use Rattle.exchange.specs.Submit.{with_pending, places_of, refused_nb, set_up_nb, token_nb, submit_of, nb_of, nb_store, nb_message, mark_by, mark_step, finish_step}
 use Rattle.exchange.specs.declared.nonblocking.NbReply.TheVariants.{Send, Token, Refused}
-use Rattle.exchange.specs.Types.{Refusal, InvalidParam, BadLength, Busy, Track, Ring, Reading, Pending, Core, Capture, Idle, Sound, Effect, Nothing, FillJacks, FillStreams, FillMaps, Store, Move, NbReply, NbStep, NbEnd}
+use Rattle.exchange.specs.Types.{Refusal, Busy, Track, Ring, Reading, Pending, Core, Idle, Sound, Effect, Nothing, FillJacks, FillStreams, FillMaps, Store, Move, NbReply, NbStep, NbEnd}
 
 -- ---- a submission, by its ends
 

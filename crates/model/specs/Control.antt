@@ -1,6 +1,6 @@
 -- One control request, one answer: as `fake.rs`; where it panics, 0x8001 and nothing changes.
 -- Assumes nothing.
-use Rattle.std.specs.Prelude.{◌≡◌, ℕ, ◌+◌, Bool, ◌&&◌, List, [], ◌∷◌, ◌++◌, length, take, drop, set, ◌==◌, nat_le, nat_lt, slice_index_or, slice_set}
+use Rattle.std.specs.Prelude.{◌≡◌, ℕ, ◌+◌, Bool, ◌&&◌, List, [], ◌∷◌, ◌++◌, length, take, drop, ◌==◌, nat_le, nat_lt, slice_index_or, slice_set}
 use Rattle.layout.specs.Lent.{page_size}
 use Rattle.layout.specs.Bytes.{le, num_at}
 use Rattle.layout.specs.Layout.{size, read}

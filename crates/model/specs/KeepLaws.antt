@@ -1,6 +1,6 @@
 -- What no request changes: the counts, the tables, and how many streams are kept count of. A control request plays nothing, and a transfer sets nothing.
 -- Assumes nothing.
-use Rattle.std.specs.Prelude.{◌≡◌, ℕ, ◌+◌, ◌-◌, ◌%◌, ◌^◌, Bool, true, false, ◌&&◌, List, length, set, ◌==◌, nat_le, nat_lt, slice_index, refl}
+use Rattle.std.specs.Prelude.{◌≡◌, ℕ, ◌+◌, ◌-◌, ◌%◌, ◌^◌, Bool, true, false, ◌&&◌, List, length, ◌==◌, nat_le, nat_lt, slice_index, refl}
 use Rattle.std.proofs.Common.{length-set}
 use Rattle.layout.specs.Bytes.{num_at}
 use Rattle.layout.specs.Layout.{size, read}

@@ -1,7 +1,7 @@
 -- What a driver gets from the model: its queries are answered with the tables and these read back, the parameters that it sets are held, and what it
 -- plays is counted and shown. Each `Fit` holds of every value of a Rattle struct: each field is a machine number of its width.
 -- Assumes nothing.
-use Rattle.std.specs.Prelude.{◌≡◌, ℕ, ◌+◌, ◌-◌, ◌*◌, ◌%◌, ◌^◌, ◌<◌, ◌≤◌, true, List, [], ◌∷◌, ◌++◌, length, take, set, ◌≢◌, nat_lt, slice_index, slice_index_or, refl}
+use Rattle.std.specs.Prelude.{◌≡◌, ℕ, ◌+◌, ◌-◌, ◌*◌, ◌%◌, ◌^◌, ◌<◌, ◌≤◌, true, List, [], ◌∷◌, ◌++◌, length, take, ◌≢◌, nat_lt, slice_index, slice_index_or, refl}
 use Rattle.std.proofs.Common.{sym, ap, ◌∙◌, append-nil, zero-add, arith, lit<, length-append, ext_get_or, get_or-take, get_or-set_same, get_or-set_other, length-take-le, drop_at, le-leb, lt-ltb, eq-eqb}
 use Rattle.layout.specs.Lent.{page_size}
 use Rattle.layout.specs.Bytes.{le}

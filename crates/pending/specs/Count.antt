@@ -1,14 +1,14 @@
 -- "15 Full, exactly if 16 are pending", by the count; and nothing is pending exactly if the count is 0.
 -- Assumes nothing.
 use Rattle.std.specs.Prelude.{ℕ, zero, suc, ◌+◌, ◌≤◌, ◌<◌, ◌≡◌, refl, Bool, true, false, not, List, [], ◌∷◌, ltb, eqb, length, get_or, take, drop}
-use Rattle.std.proofs.Common.{arith, ap, sym, ◌∙◌, length-take, get_or-take, get_or-drop, length-take-le}
+use Rattle.std.proofs.Common.{arith, ap, sym, ◌∙◌, get_or-take, get_or-drop, length-take-le}
 use Rattle.std.proofs.lemmas.Bool.{false≢true}
-use borrow.Author.Tests.{eq-eqb, eqb-true, ltb-true, ltb-false, le-ltb}
+use borrow.Author.Tests.{eq-eqb, eqb-true, ltb-true, ltb-false}
 use Rattle.codes.specs.Says.{pick}
 use Rattle.codes.specs.SaysLaws.{guarded-by}
 use Rattle.pending.specs.Types.{Token, Pending, Judged}
-use Rattle.pending.specs.Table.{free_token, waits, marked, token_at, pending_at, put, weight_of, count_of, count_in, none_in, bound_of, lowest_in, mark_of, finish_of}
-use Rattle.pending.specs.TableLaws.{few, put_other, pending-in, waits-pending}
+use Rattle.pending.specs.Table.{free_token, waits, marked, pending_at, put, weight_of, count_of, count_in, none_in, bound_of, lowest_in, mark_of, finish_of}
+use Rattle.pending.specs.TableLaws.{few, put_other, waits-pending}
 use Rattle.pending.specs.CallLaws.{mark-by, finish-by}
 use Rattle.pending.specs.Full.{NoRoom, full-then, full-if}
 use Rattle.pending.specs.Ledger.{Op, submits, completes, finishes, After, taken_after, does, table_after}

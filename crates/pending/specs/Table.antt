@@ -1,6 +1,6 @@
 -- The pending table: a submission takes the lowest free place, a completion marks its token, finishing frees it.
 -- Assumes nothing.
-use Rattle.std.specs.Prelude.{Bool, true, false, not, List, [], ◌∷◌, ℕ, zero, suc, ◌+◌, ltb, eqb, get_or, set, take, replicate}
+use Rattle.std.specs.Prelude.{Bool, not, List, [], ◌∷◌, ℕ, suc, ◌+◌, ltb, eqb, get_or, set, take, replicate}
 use Rattle.codes.specs.Says.{Says, says, pick, guard}
 use Rattle.codes.specs.Answers.{says_refusal}
 use Rattle.pending.specs.Types.{Status, IoError, WrongToken, NotYet, Token, Pending, Seen, Outcome, Done, Refused, Told, Judged}

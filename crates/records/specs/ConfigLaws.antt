@@ -1,6 +1,6 @@
 -- The configuration: each return of its reader and its writer, and both round trips, in both modes.
 -- Assumes nothing.
-use Rattle.std.specs.Prelude.{◌≡◌, refl, Bool, true, false, List, [], ◌∷◌, ◌++◌, ℕ, length, drop}
+use Rattle.std.specs.Prelude.{◌≡◌, refl, Bool, true, false, List, [], ◌++◌, ℕ, length, drop}
 use Rattle.std.proofs.Common.{sym, ap, ◌∙◌, append-nil, arith, eq-eqb, ne_eqb}
 use Rattle.std.proofs.lemmas.List.Edits.{sets}
 use Rattle.std.proofs.Math.Seq.{length-sets, drop-length}
@@ -15,7 +15,6 @@ use Rattle.codes.specs.Says.{says}
 use Rattle.codes.specs.SaysLaws.{picks, skips}
 use Rattle.records.specs.Config.{config_row, fits, config_says, config_of, read_of, config_values, config_write_says, config_written}
 use Rattle.records.specs.declared.config.Config.{Config}
-use Rattle.records.specs.declared.config.ReadConfig.{ReadConfig}
 use Rattle.records.specs.declared.config.ReadConfig.TheVariants as read_config
 
 -- ---- the length is the row's, or another

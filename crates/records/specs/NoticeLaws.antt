@@ -4,7 +4,7 @@ use Rattle.std.specs.Prelude.{◌≡◌, refl, Bool, false, ◌&&◌, List, [], 
 use Rattle.std.proofs.Common.{sym, ap, ◌∙◌, eq-eqb}
 use Rattle.layout.specs.Bytes.{num_at}
 use Rattle.layout.specs.Layout.{read}
-use Rattle.codes.specs.Says.{Says, says, pick}
+use Rattle.codes.specs.Says.{says, pick}
 use Rattle.codes.specs.SaysLaws.{picks, skips, took, refused}
 use Rattle.codes.specs.Codes.{among, code_says}
 use Rattle.codes.specs.Events.{event_codes, event_codes_of}

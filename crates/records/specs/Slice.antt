@@ -1,7 +1,7 @@
 -- A record in a slice of bytes: what reading it and writing it say, for every record by its layout.
 -- "A slice shorter than the record read or written in it" is BadLength, 10, and leaves the slice unchanged.
 -- Assumes nothing.
-use Rattle.std.specs.Prelude.{List, [], ◌++◌, ℕ, ◌+◌, leb, length, drop}
+use Rattle.std.specs.Prelude.{List, [], ◌++◌, ℕ, leb, length, drop}
 use Rattle.layout.specs.Layout.{size, write, read}
 use Rattle.codes.specs.Says.{Says, says, pick}
 use Rattle.records.specs.declared.written.Written.{Written}

@@ -1,6 +1,6 @@
 -- Both round trips between a ring and its store.
 -- Assumes nothing.
-use Rattle.std.specs.Prelude.{◌≡◌, refl, Bool, true, false, not, ◌&&◌, ℕ, zero, suc, ◌+◌, ◌*◌, ◌≤◌, leb, eqb, get_or, drop}
+use Rattle.std.specs.Prelude.{◌≡◌, refl, Bool, true, false, not, ℕ, zero, suc, ◌+◌, ◌≤◌, leb, eqb, get_or, drop}
 use Rattle.std.proofs.Common.{sym, ◌∙◌, arith, leb-true, length-append}
 use Rattle.std.proofs.Math.Path.{ap}
 use mathlib.Core.List.{List, [], ◌∷◌, ◌++◌, append_assoc, append-nil}
@@ -13,7 +13,7 @@ use Rattle.layout.specs.Rows.{rows_at, rows_bytes}
 use Rattle.layout.specs.BytesLaws.{bytes_at-add, bytes_at-append}
 use Rattle.layout.specs.LayoutLaws.{length-write, read-write, write_read, read-own}
 use Rattle.layout.specs.StoreLaws.{sets_same}
-use Rattle.layout.specs.RowsLaws.{length-rows_bytes, rows_same, table-back}
+use Rattle.layout.specs.RowsLaws.{rows_same, table-back}
 use Rattle.layout.specs.All.{All}
 use Rattle.codes.specs.Says.{pick}
 use Rattle.codes.specs.SaysLaws.{picks}

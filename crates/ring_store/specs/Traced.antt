@@ -21,7 +21,7 @@ use Rattle.ring_store.specs.Types.{Ring, Said, Going, Done, Ended, Refused, Step
 use Rattle.ring_store.specs.Store.{ring_size, track_at, ring_of}
 use Rattle.ring_store.specs.Calls.{Caught, start_traced_in}
 use Rattle.ring_store.specs.Holds.{traced-start-holds}
-use Rattle.ring_store.specs.Run.{Words, reading_by, Lent, traces_in, HoldsTraced, traces-hold, traced-start-again, traced-start-answers}
+use Rattle.ring_store.specs.Run.{Words, reading_by, traces_in, HoldsTraced, traces-hold, traced-start-again, traced-start-answers}
 
 going-said : (said : Said) → said_word said ≡ going → said ≡ Going
 going-said Going e = refl

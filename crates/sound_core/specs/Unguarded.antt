@@ -5,7 +5,7 @@ use Rattle.std.specs.Prelude.{◌≡◌, ℕ, Bool, true, false, not, ◌==◌, 
 use Rattle.std.specs.Prelude.{refl}
 use Rattle.std.proofs.Common.{sym, ◌∙◌}
 use Rattle.std.proofs.Math.Path.{ap}
-use Rattle.codes.specs.Says.{pick, guard}
+use Rattle.codes.specs.Says.{guard}
 use Rattle.codes.specs.SaysLaws.{passes}
 use Rattle.sound_core.specs.Consistent.{held_to, period_ok, sent_ok}
 use Rattle.sound_core.specs.Plan.{send_of, kind_code, set_of, refusing, own_set, own_command, own_xfer}

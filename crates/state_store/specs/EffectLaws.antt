@@ -22,7 +22,7 @@ use Rattle.state_store.specs.Types.{Core, Params, Sound, Effect, Nothing, FillJa
 use Rattle.state_store.specs.Places.{head_size, params_place, lives_place, tokens_place, state_size}
 use Rattle.state_store.specs.Store.{head_row, head_values, head_of, params_row, params_bytes, params_at, life_bytes, life_at, sound_of, sound_bytes}
 use Rattle.state_store.specs.TableLaws.{Alike, alike-on, alike-after, kept, part-stored, table-set}
-use Rattle.state_store.specs.OverLaws.{head_bytes, head-alike, Sized, sized_of, tables-apart, params_in, lives_in, tokens_in, ends, params_same, life-same, params-sized, life-sized, tables-kept, params-kept, lives-kept, tokens-kept, kept-from-params, core-over}
+use Rattle.state_store.specs.OverLaws.{head_bytes, head-alike, Sized, sized_of, tables-apart, params_in, tokens_in, ends, params_same, life-same, params-sized, life-sized, tables-kept, params-kept, lives-kept, tokens-kept, kept-from-params, core-over}
 use Rattle.state_store.specs.Effect.{lived_in, effect_in}
 
 -- ---- parameters, stored field by field

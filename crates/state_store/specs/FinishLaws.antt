@@ -17,7 +17,7 @@ use Rattle.exchange.specs.Exchange.{call_of, feed_of, fail_of}
 use Rattle.sound_core.specs.declared.plan.Say.TheVariants.{Refused}
 use Rattle.state_store.specs.Types.{Written, BadLength, Track, Verdict, QueueFailed, Refused, Call, Core, Say, Effect, Look, Plan}
 use Rattle.state_store.specs.Places.{state_size}
-use Rattle.layout.specs.Lent.{result_size, message_size, page_size}
+use Rattle.layout.specs.Lent.{result_size, message_size}
 use Rattle.state_store.specs.Store.{head_at, core_of, whole, sound_of, sound_bytes}
 use Rattle.state_store.specs.Calls.{Told, left, told, too_short, lengths, call_in, feed_in, fail_in}
 use Rattle.state_store.specs.StoreLaws.{core_at}

@@ -1,6 +1,6 @@
 -- A submission on a store goes by what its checks come to: a refusal, set-up first, or a place.
 -- Assumes nothing.
-use Rattle.std.specs.Prelude.{◌≡◌, ℕ, ◌≤◌, Bool, true, false, ◌&&◌, List, [], length, nat_le}
+use Rattle.std.specs.Prelude.{◌≡◌, ℕ, ◌≤◌, Bool, true, false, ◌&&◌, List, length, nat_le}
 use Rattle.std.proofs.Math.Path.{refl}
 use Rattle.std.proofs.Common.{sym, ap, ◌∙◌, arith, leb-true}
 use Rattle.std.proofs.lemmas.List.Edits.{sets}
@@ -22,12 +22,11 @@ use Rattle.exchange.specs.Xfer.{xfer_by}
 use Rattle.exchange.specs.StepLaws.{xfer-ap, set-up-long}
 use Rattle.exchange.specs.Submit.{places_of, refused_nb, set_up_nb, submit_of}
 use Rattle.exchange.specs.SubmitLaws.{submit_by, submitted-by}
-use Rattle.state_store.specs.Types.{Refusal, Track, Xfer, Params, Core, Sound, Pending, Gate, Shut, SetUp, Spot, Opening, NbStep}
-use Rattle.state_store.specs.Places.{state_size}
+use Rattle.state_store.specs.Types.{Refusal, Track, Xfer, Params, Core, Pending, Gate, Shut, SetUp, Spot, Opening, NbStep}
 use Rattle.state_store.specs.Store.{whole, head_at, core_of, sound_of}
 use Rattle.state_store.specs.Calls.{lengths, Opened, opened}
-use Rattle.state_store.specs.Tokens.{Submitted, submitted, nb_left, nb_step, nb_in}
-use Rattle.state_store.specs.Steps.{setting_up_by, token_over, Held, held, held_by}
+use Rattle.state_store.specs.Tokens.{Submitted, submitted, nb_left, nb_in}
+use Rattle.state_store.specs.Steps.{setting_up_by, Held, held_by}
 use Rattle.state_store.specs.StoreLaws.{core_at}
 use Rattle.state_store.specs.TokenLaws.{unchanged, token-after}
 

@@ -1,7 +1,7 @@
 -- Submissions that do not wait, on a state that stands in a lent byte store: the call by value on the state that the store holds, and the state that it leaves, written over it. A store
 -- under 14,703 bytes, or a result slice under 512, gets 10 and nothing is looked at.
 -- Assumes nothing.
-use Rattle.std.specs.Prelude.{ℕ, ◌+◌, true, List, [], ◌∷◌, length, nat_le}
+use Rattle.std.specs.Prelude.{ℕ, ◌+◌, true, List, length, nat_le}
 use Rattle.std.proofs.lemmas.List.Edits.{sets}
 use Rattle.layout.specs.Bytes.{le}
 use Rattle.layout.specs.Rows.{rows_bytes}

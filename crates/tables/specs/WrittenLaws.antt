@@ -14,7 +14,7 @@ use Rattle.codes.specs.Says.{pick, guard}
 use Rattle.codes.specs.SaysLaws.{passes, stops}
 use Rattle.codes.specs.Answers.{says_refusal}
 use Rattle.codes.specs.declared.answers.Refusal.TheVariants.{TooMany, BadLength, Short}
-use Rattle.tables.specs.Tables.{covers, page_ok, judged, copied_in}
+use Rattle.tables.specs.Tables.{page_ok, judged, copied_in}
 use Rattle.tables.specs.declared.verdict.Verdict.{Verdict}
 use Rattle.tables.specs.declared.verdict.Verdict.TheVariants.{Good, Status, Refused}
 use Rattle.tables.specs.declared.verdict.Written.TheVariants.{InFull, Bytes}

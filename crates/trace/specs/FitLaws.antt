@@ -1,6 +1,6 @@
 -- What turns write fits its fields, for frames under 2^32 bytes and readings that the queue can say.
 -- Assumes nothing.
-use Rattle.std.specs.Prelude.{List, [], ◌∷◌, ◌≡◌, true, ℕ, zero, suc, ◌-◌, ◌<◌, ◌^◌}
+use Rattle.std.specs.Prelude.{List, [], ◌∷◌, ◌≡◌, true, ℕ, zero, suc, ◌<◌, ◌^◌}
 use Rattle.std.proofs.Common.{sym, subst, arith, lit<}
 use Rattle.codes.specs.Answers.{says_refusal}
 use Rattle.turns.specs.Rules.{choose_of, next_span, sent_of, submit, comes_to, judge_of, played_of, release, accept, ticked, settle, hear, act, turn_of}

@@ -1,6 +1,6 @@
 -- What the private functions take and promise, where the public definitions have no name for it.
 -- Assumes nothing.
-use Rattle.std.specs.Prelude.{List, [], ◌∷◌, ◌≡◌, ℕ, ◌+◌, ◌*◌, ◌≤◌, ◌<◌, ◌-◌, length}
+use Rattle.std.specs.Prelude.{List, [], ◌≡◌, ℕ, ◌+◌, ◌*◌, ◌≤◌, ◌<◌, length}
 use Rattle.trace.specs.Judge.{walk_of, judged_by}
 use Rattle.trace.specs.Fields.{fields_from}
 use Rattle.trace.specs.Trace.{sent_then, heard_then, said_then}

@@ -1,31 +1,30 @@
 -- RECEIVE TURNS: DEMAND 3 of a capture, both halves, and what the recording holds however it ends (2026-09).
 -- The time law and the account are playback's own, `run-in-time` and `run-through`, by another judgement of a completion.
 -- Assumes nothing.
-use Rattle.std.specs.Prelude.{ℕ, zero, suc, ◌+◌, ◌-◌, ◌*◌, ◌%◌, ◌≤◌, ◌<◌, ◌≡◌, refl, Bool, true, false, not, ◌&&◌, List, [], ◌∷◌, ◌++◌, leb, ltb, eqb, length, get_or, take, drop}
+use Rattle.std.specs.Prelude.{ℕ, zero, suc, ◌+◌, ◌-◌, ◌*◌, ◌%◌, ◌≤◌, ◌<◌, ◌≡◌, refl, Bool, true, false, not, ◌&&◌, List, ◌++◌, eqb, length, take, drop}
 use Rattle.std.proofs.Common.{arith, zero-add, ap, sym, ◌∙◌, subst, inl, inr, ltb-true, leb-true, le-leb, lt-ltb, eq-eqb}
 use Rattle.std.proofs.lemmas.Bool.{false≢true}
 use Rattle.std.proofs.lemmas.List.Edits.{sets, sets-eq}
-use Rattle.codes.specs.SaysLaws.{guarded-by, passes, stops}
+use Rattle.codes.specs.SaysLaws.{guarded-by, passes}
 use Rattle.codes.specs.declared.answers.Refusal.{Refusal}
-use Rattle.codes.specs.declared.answers.Refusal.TheVariants.{InvalidParam}
 use Rattle.layout.specs.All.{All}
 use Rattle.turns.specs.Cut.{join, span_of}
 use Rattle.turns.specs.CutLaws.{spans, plan, spans-more, spans-done, plan-at}
 use Rattle.turns.specs.Ring.{after, says_said}
-use Rattle.turns.specs.Calls.{refused_of, traced_call, turn_call, runs_as, begun_as, ring_after, turned_of, started_of}
-use Rattle.turns.specs.Log.{Line, Ran, run, sends, frees}
+use Rattle.turns.specs.Calls.{refused_of, traced_call, turn_call, begun_as, turned_of}
+use Rattle.turns.specs.Log.{Ran, run}
 use Rattle.turns.specs.Asked.{NoFault, CompletesWithin, Idle}
-use Rattle.turns.specs.ConsistentLaws.{both, Consistent, consistent-facts, mode_small}
+use Rattle.turns.specs.ConsistentLaws.{both, consistent-facts, mode_small}
 use Rattle.turns.specs.CaseLaws.{plain}
 use Rattle.turns.specs.StaysConsistentLaws.{begun-keeps}
 use Rattle.turns.specs.HostLaws.{RunsAs, run_ends, never}
 use Rattle.turns.specs.DemandLaws.{loop-length}
 use Rattle.turns.specs.RefusalLaws.{Untouched, refuses, turn-answers, ring-untouched}
 use Rattle.turns.specs.RunLaws.{InTime, Through, run-in-time, run-through}
-use Rattle.turns.specs.Capture.{catch_of, caught_of, capture_call, recording_after, capture_start}
-use Rattle.turns.specs.Captured.{Came, nothing_came, catch_in, captured, Taken, taking, capture_starts, captures, Lends, LengthGood, taken, Joined, Recorded}
+use Rattle.turns.specs.Capture.{capture_call, recording_after, capture_start}
+use Rattle.turns.specs.Captured.{Came, nothing_came, captured, Taken, taking, capture_starts, captures, Lends, LengthGood, taken, Joined, Recorded}
 use Rattle.turns.specs.TakenLaws.{TwoOrSeventeen, captured-just, bare, Taking, seen_as, takes_run, judges-status, status-just, run-alike, Roomy, Filled, takes-filled}
-use Rattle.turns.specs.Types.{Track, Ring, Nothing, Period, Silent, Freed, Said, Going, Done, Refused, Step, Reading, Catch}
+use Rattle.turns.specs.Types.{Track, Ring, Period, Said, Going, Done, Refused, Step, Reading, Catch}
 
 -- ---- n whole periods are n submissions
 

@@ -6,7 +6,7 @@ use Rattle.turns.specs.Rules.{choose_of, comes_to}
 use Rattle.turns.specs.Calls.{turned_of, started_of}
 use Rattle.turns.specs.Capture.{catch_of, captured_of, capture_call, recording_after, capture_start}
 use Rattle.turns.specs.Log.{Line, Ran, Told, waiting_by, next_of, rest_of, loop_of, Judge, sends, frees}
-use Rattle.turns.specs.Types.{Ring, Nothing, Period, Heard, Silent, Freed, Turned, Reading, Outcome, Fine, Fails, Catch}
+use Rattle.turns.specs.Types.{Ring, Nothing, Period, Heard, Silent, Freed, Turned, Outcome, Fine, Fails, Catch}
 
 -- what the queue says in one turn, with the bytes that the host lends of its buffer
 pub record Came : Type 0 where

@@ -1,6 +1,6 @@
 -- What calls leave never fails the consistency test: a new ring, a turn, a drain turn, the start of a transfer, each with its refusals.
 -- Assumes nothing.
-use Rattle.std.specs.Prelude.{ℕ, ◌<◌, ◌≡◌, refl, Bool, true, false, not}
+use Rattle.std.specs.Prelude.{ℕ, ◌<◌, ◌≡◌, Bool, true, false, not}
 use Rattle.std.proofs.Common.{arith, ltb-true}
 use Rattle.std.proofs.lemmas.Bool.{false≢true}
 use Rattle.codes.specs.SaysLaws.{guarded-by}

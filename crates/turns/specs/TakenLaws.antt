@@ -1,31 +1,29 @@
 -- A capture's loop is the run of the rules by a capture's judgement, and what it leaves in the recording is what was accepted, joined.
 -- Assumes nothing.
-use Rattle.std.specs.Prelude.{ℕ, zero, suc, ◌+◌, ◌-◌, ◌*◌, ◌%◌, ◌≤◌, ◌<◌, min, ◌≡◌, refl, ◌⊎◌, Bool, true, false, ◌||◌, not, List, [], ◌∷◌, ◌++◌, leb, eqb, length, take}
-use Rattle.std.proofs.Common.{arith, sym, ap, ◌∙◌, subst, inl, inr, ⊎_elim, append-nil, append_assoc, length-append, length-take-le, le-leb, leb-true, eq-eqb}
+use Rattle.std.specs.Prelude.{ℕ, zero, suc, ◌+◌, ◌-◌, ◌*◌, ◌≤◌, ◌<◌, min, ◌≡◌, refl, ◌⊎◌, Bool, true, false, ◌||◌, not, List, [], ◌∷◌, ◌++◌, leb, eqb, length, take}
+use Rattle.std.proofs.Common.{arith, sym, ap, ◌∙◌, subst, inl, inr, ⊎_elim, append-nil, length-append, length-take-le, le-leb, leb-true, eq-eqb}
 use Rattle.std.proofs.lemmas.List.Edits.{sets}
 use Rattle.std.proofs.Math.Seq.{length-sets}
 use Rattle.codes.specs.Says.{pick}
-use Rattle.codes.specs.SaysLaws.{picks, skips, passes}
-use Rattle.codes.specs.Answers.{says_refusal}
+use Rattle.codes.specs.SaysLaws.{picks, passes}
 use Rattle.codes.specs.declared.answers.Refusal.TheVariants.{BadCapture}
 use Rattle.layout.specs.All.{All}
 use Rattle.layout.specs.StoreLaws.{sets-append}
 use Rattle.turns.specs.Cut.{join}
-use Rattle.turns.specs.CutLaws.{spans, plan, spans-more, spans-done}
 use Rattle.turns.specs.Ring.{direct, new_track, says_said}
-use Rattle.turns.specs.Rules.{choose_of, submit, sent_of, release, comes_to, played_of, is_oldest, judge_of, settle, hear, act, turn_of, ticked, counted_by, counted_of}
+use Rattle.turns.specs.Rules.{choose_of, submit, sent_of, comes_to, played_of, is_oldest, judge_of, settle, hear, act, turn_of, counted_by, counted_of}
 use Rattle.turns.specs.RuleLaws.{Chosen, chosen, Judged, judged}
-use Rattle.turns.specs.ConsistentLaws.{both, Consistent}
+use Rattle.turns.specs.ConsistentLaws.{both}
 use Rattle.turns.specs.Calls.{refused_of, turned_of}
 use Rattle.turns.specs.CaseLaws.{hear-cases, counted-cases, onward-cases}
 use Rattle.turns.specs.KeepLaws.{turn-plain, turn-after}
 use Rattle.turns.specs.HostLaws.{RunsAs, admits, runs_on}
 use Rattle.turns.specs.AccountLaws.{Fair, FairOf, fair-of, Just, played-just, Two, more-frees}
-use Rattle.turns.specs.Log.{Line, Ran, Told, onward, waiting_by, line_of, next_of, rest_of, loop_of, Judge, judged_of, ruled, run, frees_more, frees}
-use Rattle.turns.specs.Capture.{catch_of, length_good, captured_of, caught_of, reaches, lends_all, accepts, payload_for, kept_more, keep_of, caught_turn, capture_call, recording_after}
-use Rattle.turns.specs.CaptureLaws.{accepts-most, keeps-room}
+use Rattle.turns.specs.Log.{Line, Ran, onward, waiting_by, line_of, next_of, rest_of, loop_of, Judge, judged_of, ruled, run, frees_more, frees}
+use Rattle.turns.specs.Capture.{catch_of, length_good, captured_of, caught_of, reaches, accepts, payload_for, kept_more, keep_of, caught_turn, capture_call, recording_after}
+use Rattle.turns.specs.CaptureLaws.{keeps-room}
 use Rattle.turns.specs.Captured.{Came, nothing_came, catch_in, payload_of, captured, Taken, taking, takes, Lends, LengthGood, taken_more, taken}
-use Rattle.turns.specs.Types.{Track, Ring, Sent, Nothing, Period, Heard, Silent, Freed, Said, Going, Done, Ended, Refused, Step, Reading, Quiet, Completed, Choice, Submit, Finish, Wait, Outcome, Fine, Fails, Verdict, WrongSlot, Good, Bad, Catch}
+use Rattle.turns.specs.Types.{Track, Sent, Nothing, Heard, Silent, Freed, Said, Going, Done, Ended, Refused, Step, Reading, Quiet, Completed, Choice, Submit, Finish, Wait, Outcome, Fine, Fails, Verdict, WrongSlot, Good, Bad}
 
 -- ---- A CAPTURE'S JUDGEMENT
 

@@ -20,7 +20,7 @@ use Rattle.wav.specs.Chunks.{riff_tag, wave_tag, fmt_tag, data_tag, padded, ende
 use Rattle.wav.specs.ChunksLaws.{next}
 use Rattle.wav.specs.Wave.{format_of_bits, block_of, sound_of, sound_at, wave_by, wave_at, wave_in, wave_of, shown_by, wave_formats, wrote_of, written_by, header, header_values, header_of, file_of}
 use Rattle.wav.specs.WaveLaws.{small_product}
-use Rattle.wav.specs.WriteLaws.{by_code, never, held-bits, hz-below, Fits, done, length-header, length-zeros}
+use Rattle.wav.specs.WriteLaws.{by_code, never, held-bits, hz-below, done, length-header, length-zeros}
 use Rattle.wav.specs.Types.{FoundSound, ReadWave, Is, WroteWave, Done}
 use Rattle.wav.specs.declared.sound.FoundSound.TheVariants as found
 

@@ -1,6 +1,6 @@
 -- THE DRIVER MEETS THE DEVICE: what the driver's calls come to where the model device answers them. `Talk` defines the conversation.
 -- Assumes nothing.
-use Rattle.std.specs.Prelude.{◌≡◌, ℕ, ◌+◌, ◌%◌, ◌^◌, ◌<◌, ◌≤◌, Bool, true, false, List, [], ◌∷◌, length, take, set, replicate, slice_index, slice_set, refl}
+use Rattle.std.specs.Prelude.{◌≡◌, ℕ, ◌+◌, ◌%◌, ◌^◌, ◌<◌, ◌≤◌, Bool, true, false, List, [], ◌∷◌, length, take, replicate, slice_index, slice_set, refl}
 use Rattle.std.proofs.Common.{sym, ap, ◌∙◌, subst, arith, get_or-set_same, ltb-true, lt-ltb}
 use Rattle.layout.specs.Layout.{write, Fit}
 use Rattle.layout.specs.LayoutLaws.{length-write}

@@ -1,9 +1,8 @@
 -- `exchange::listing::ids_of` meets its contract, by the law of a list that grows. Assumes nothing.
-use Rattle.std.proofs.Common.{◌≡◌, ◌-◌, [], length, take, arith, length-take-le}
+use Rattle.std.proofs.Common.{◌≡◌, [], length, take, arith, length-take-le}
 use Rattle.layout.specs.RowsLaws.{length-rows}
 use Rattle.records.specs.Records.{pcm_info_of}
 use Rattle.tables.specs.Tables.{pcm_at, pcms_place, pcms_in}
-use Rattle.exchange.specs.Exchange.{listed}
 use Rattle.exchange.specs.ListLaws.{length_ids, listed_more}
 use Rattle.exchange.proofs.listing.ids_of.Goals as goal
 

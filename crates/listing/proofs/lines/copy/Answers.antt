@@ -1,8 +1,6 @@
 -- `listing::lines::copy` meets its contract: the bytes passed are stored. Assumes nothing.
 use mathlib.Core.Path.{refl, ap, ◌∙◌}
-use Prim.Native.Nat.{◌-◌}
 use native.Mathlib.Omega.{arith}
-use lib.ListN.{length, take}
 use lib.Seq.{sets, length-sets, take_all}
 use Rattle.listing.specs.TextLaws.{copy_more}
 use Rattle.listing.proofs.lines.copy.Goals as goal

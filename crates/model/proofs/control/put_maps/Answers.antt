@@ -1,5 +1,5 @@
 -- `model::control::put_maps` meets its contract: each turn writes one record more. Assumes nothing.
-use Rattle.std.proofs.Common.{◌≡◌, ℕ, ◌-◌, length, take, drop, refl, ap, ◌∙◌, arith, rules}
+use Rattle.std.proofs.Common.{◌≡◌, ℕ, length, take, drop, refl, ap, ◌∙◌, arith, rules}
 use lib.Seq.{sets}
 use Rattle.layout.specs.Rows.{rows_bytes}
 use Rattle.records.specs.Records.{channel_map, channel_map_values, map_bytes}

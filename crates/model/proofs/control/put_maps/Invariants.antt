@@ -1,5 +1,5 @@
 -- `model::control::put_maps` meets its contract: each turn writes one record more. Assumes nothing.
-use Rattle.std.proofs.Common.{◌≡◌, ◌-◌, ◌≤◌, length, take, drop, ap}
+use Rattle.std.proofs.Common.{◌≡◌, ◌-◌, ◌≤◌, length, take, drop}
 use lib.Seq.{sets}
 use Rattle.layout.specs.Rows.{rows_bytes}
 use Rattle.records.specs.Records.{map_bytes}

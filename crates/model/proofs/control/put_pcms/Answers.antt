@@ -1,5 +1,5 @@
 -- `model::control::put_pcms` meets its contract: each turn writes one record more. Assumes nothing.
-use Rattle.std.proofs.Common.{◌≡◌, ℕ, ◌-◌, length, take, drop, refl, ap, ◌∙◌, arith, rules}
+use Rattle.std.proofs.Common.{◌≡◌, ℕ, length, take, drop, refl, ap, ◌∙◌, arith, rules}
 use lib.Seq.{sets}
 use Rattle.layout.specs.Rows.{rows_bytes}
 use Rattle.records.specs.Records.{pcm_info, pcm_info_values, pcm_bytes}

@@ -1,5 +1,5 @@
 -- `model_store::made::clear` meets its contract: each turn clears one byte more. Assumes nothing.
-use Rattle.std.proofs.Common.{◌≡◌, ℕ, ◌+◌, ◌-◌, length, refl, ap, ◌∙◌, arith, length-set}
+use Rattle.std.proofs.Common.{◌≡◌, ℕ, ◌+◌, refl, ap, ◌∙◌, arith, length-set}
 use lib.Seq.{sets}
 use Rattle.layout.specs.Bytes.{zeros}
 use Rattle.model_store.specs.NewLaws.{clear-more}

@@ -1,5 +1,5 @@
 -- `model_store::place::copy` meets its contract: each turn stores one byte more. Assumes nothing.
-use Rattle.std.proofs.Common.{◌≡◌, ℕ, ◌+◌, ◌-◌, length, get_or, refl, ap, ◌∙◌, arith, length-set}
+use Rattle.std.proofs.Common.{◌≡◌, ℕ, ◌+◌, get_or, refl, ap, ◌∙◌, arith, length-set}
 use lib.Seq.{sets}
 use Rattle.layout.specs.Bytes.{bytes_at}
 use Rattle.layout.specs.StoreLaws.{copy_more}

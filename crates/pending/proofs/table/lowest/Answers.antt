@@ -1,7 +1,6 @@
 -- `pending::table::lowest` meets its contract: the loop stands where the definition stands. Assumes nothing.
 use borrow.Author.Rules.{rules}
 use native.Mathlib.Omega.{arith}
-use Prim.Native.Nat.{◌-◌}
 use Rattle.pending.specs.TableLaws.{few}
 use Rattle.pending.specs.LowestLaws.{stands-first, stands-next, stands-found, stands-out}
 use Rattle.pending.proofs.table.lowest.Goals as goal

@@ -1,5 +1,4 @@
 -- After i turns i slots are blank. Assumes nothing.
-use Prim.Native.Nat.{◌-◌}
 use native.Mathlib.Omega.{arith}
 use mathlib.Core.Path.{refl}
 use Rattle.ring_store.specs.StoreLaws.{blank_none, blank-more, blank-all}

@@ -1,5 +1,5 @@
 -- `state_store::config::clear` meets its contract: the bytes passed are 0. Assumes nothing.
-use Rattle.std.proofs.Common.{◌≡◌, ℕ, ◌-◌, ap, ◌∙◌, arith}
+use Rattle.std.proofs.Common.{◌≡◌, ℕ, ap, ◌∙◌, arith}
 use lib.Seq.{sets, length-sets}
 use Rattle.state_store.specs.Places.{head_size, tables_size}
 use Rattle.state_store.specs.NewLaws.{zeros-none, zeros-more}

@@ -1,5 +1,5 @@
 -- `state_store::result::put_ids` meets its contract, by the law of a list that grows. Assumes nothing.
-use Rattle.std.proofs.Common.{◌≡◌, ℕ, ◌-◌, eqb, length, ap, ◌∙◌, arith}
+use Rattle.std.proofs.Common.{◌≡◌, ℕ, eqb, length, ap, ◌∙◌, arith}
 use lib.Seq.{length-sets}
 use Rattle.state_store.specs.ListedLaws.{none-listed, ids_short, turn-listed}
 use Rattle.state_store.proofs.result.put_ids.Goals as goal

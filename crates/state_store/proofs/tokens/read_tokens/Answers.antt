@@ -1,5 +1,5 @@
 -- `state_store::tokens::read_tokens` meets its contract: a token at a time. Assumes nothing.
-use Rattle.std.proofs.Common.{◌≡◌, ◌-◌, ◌<◌, length, ◌∙◌, arith, length-set, rules}
+use Rattle.std.proofs.Common.{◌≡◌, ◌<◌, length, ◌∙◌, arith, length-set, rules}
 use Rattle.state_store.specs.TokenLaws.{first-none, first_next, first-all}
 use Rattle.state_store.proofs.tokens.read_tokens.Goals as goal
 

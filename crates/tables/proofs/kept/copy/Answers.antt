@@ -1,7 +1,7 @@
 -- `tables::kept::copy` meets its contract, a byte at a time. Assumes nothing.
 use mathlib.Core.Path.{◌≡◌, refl, ap, ◌∙◌}
-use Prim.Native.Nat.{ℕ, ◌+◌, ◌-◌}
-use lib.ListN.{length, get_or, length-set}
+use Prim.Native.Nat.{ℕ, ◌+◌}
+use lib.ListN.{get_or, length-set}
 use lib.Seq.{sets}
 use Rattle.layout.specs.Bytes.{bytes_at}
 use Rattle.layout.specs.StoreLaws.{copy_more}

@@ -1,5 +1,4 @@
 -- The loop stands where the definition's walk stands; what is left of the trace falls. Assumes nothing.
-use Prim.Native.Nat.{◌-◌}
 use native.Mathlib.Omega.{arith}
 use borrow.Author.Rules.{rules}
 use Rattle.trace.specs.ScanLaws.{size-told}

@@ -1,5 +1,4 @@
 -- The loop stands where the definition's walk of both traces stands; what is left of both falls. Assumes nothing.
-use Prim.Native.Nat.{◌-◌}
 use borrow.Author.Rules.{rules}
 use Rattle.trace.specs.ListedLaws.{filled-first, filled-all, filled-meet, filled-room, filled_next, meet-less, bounds}
 use Rattle.trace.proofs.diff.fill.Goals as goal

@@ -1,5 +1,4 @@
 -- The loop stands where the definition's loop stands; what is left of the budget falls. Assumes nothing.
-use Prim.Native.Nat.{◌-◌}
 use native.Mathlib.Omega.{arith}
 use Rattle.turns.specs.ScriptLaws.{stands-first, stands-out, hosts-next, hosts-ended}
 use Rattle.turns.proofs.Tags.{stops}
