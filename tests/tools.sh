@@ -12,7 +12,9 @@ fault() {
 }
 
 for tool in tools/*; do
-    [ "$tool" != tools/README.md ] || continue
+    case $tool in
+    tools/README.md | tools/*.py | tools/__pycache__) continue ;; # a file that ends in .py is a part of tools, and none itself
+    esac
     [ -x "$tool" ] || fault "$tool cannot be run"
     said=$("$tool" -h 2>&1)
     status=$?
