@@ -1,6 +1,9 @@
 -- What demand 3 takes of a transfer and what it asks, as definitions over its log and its ring.
 -- Assumes nothing.
 use Rattle.std.specs.Prelude.{ℕ, suc, ◌+◌, ◌*◌, ◌%◌, ◌≤◌, ◌<◌, ◌≡◌, ◌⊎◌, true, false, List, [], ◌∷◌, ◌++◌, map, length, get_or, take, drop}
+use Rattle.codes.specs.declared.answers.Cause.{Cause}
+use Rattle.codes.specs.declared.answers.Cause.TheVariants.{Status}
+use Rattle.codes.specs.declared.answers.Refusal.TheVariants.{IoError}
 use Rattle.layout.specs.Bytes.{le}
 use Rattle.layout.specs.All.{All}
 use Rattle.turns.specs.Cut.{cut, join, span_of, payload, message}
@@ -8,7 +11,7 @@ use Rattle.turns.specs.Ring.{blank_slot, says_said}
 use Rattle.turns.specs.Consistent.{consistent_of}
 use Rattle.turns.specs.Calls.{start_call, started_of}
 use Rattle.turns.specs.Log.{Line, Ran, turn_by_turn, sends, frees}
-use Rattle.turns.specs.Types.{Track, Ring, Nothing, Period, Heard, Silent, Freed, Said, Turned, Reading, Quiet, Completed}
+use Rattle.turns.specs.Types.{Track, Ring, Nothing, Period, Heard, Silent, Freed, Said, Ended, Turned, Reading, Quiet, Completed}
 
 -- the start of a transfer on a ring, and the turns after it
 abbrev pub starts : Ring → ℕ → ℕ → ℕ → List ℕ → Turned
@@ -52,6 +55,26 @@ Reports line = Completes line.reading
 -- "among any g turns running, each with something in flight at its reading, one reports a completion"
 abbrev pub CompletesWithin : ℕ → List Line → Type 0
 CompletesWithin g log = (i : ℕ) → i + g ≤ length log → All InFlight (take g (drop i log)) → Any Reports (take g (drop i log))
+
+-- nothing was freed, or what a reading names
+abbrev pub NamedBy : Heard → Reading → Type 0
+NamedBy Silent reading = Unit {0}
+NamedBy (Freed slot status) reading = reading ≡ Completed slot status
+
+abbrev pub FreesWhatWasRead : Line → Type 0
+FreesWhatWasRead line = NamedBy line.heard line.reading
+
+-- a cause is the status of a completion, which is not 0x8000 and whose slot was freed
+abbrev pub Explains : Reading → Heard → Cause → Type 0
+Explains Quiet heard c = ⊥
+Explains (Completed slot status) heard c = (heard ≡ Freed slot status) × (c ≡ Status status) × (status ≡ 0x8000 → ⊥)
+
+-- a 2 carries it
+abbrev pub CarriesStatus : Said → Reading → Heard → Type 0
+CarriesStatus said reading heard = (c : Cause) → said ≡ Ended (IoError c) → Explains reading heard c
+
+abbrev pub LineCarries : Line → Type 0
+LineCarries line = CarriesStatus line.said line.reading line.heard
 
 -- ---- what it asks
 

@@ -10,21 +10,23 @@ use Rattle.codes.specs.declared.answers.Refusal.{Refusal}
 use Rattle.layout.specs.All.{All}
 use Rattle.turns.specs.Cut.{join, span_of}
 use Rattle.turns.specs.CutLaws.{spans, plan, spans-more, spans-done, plan-at}
-use Rattle.turns.specs.Ring.{after, says_said}
+use Rattle.turns.specs.Ring.{after, most_of, is_refused, says_said}
 use Rattle.turns.specs.Calls.{refused_of, traced_call, turn_call, begun_as, turned_of}
 use Rattle.turns.specs.Log.{Ran, run}
-use Rattle.turns.specs.Asked.{NoFault, CompletesWithin, Idle}
+use Rattle.turns.specs.Asked.{NoFault, CompletesWithin, Idle, AtMost}
 use Rattle.turns.specs.ConsistentLaws.{both, consistent-facts, mode_small}
 use Rattle.turns.specs.CaseLaws.{plain}
 use Rattle.turns.specs.StaysConsistentLaws.{begun-keeps}
-use Rattle.turns.specs.HostLaws.{RunsAs, run_ends, never}
-use Rattle.turns.specs.DemandLaws.{loop-length}
-use Rattle.turns.specs.RefusalLaws.{Untouched, refuses, turn-answers, ring-untouched}
+use Rattle.turns.specs.HostLaws.{RunsAs, Ends, run_ends, never}
+use Rattle.turns.specs.DemandLaws.{loop-length, run-most}
+use Rattle.turns.specs.RefusalLaws.{Untouched, refuses, turn-answers, ring-untouched, capture-offers}
 use Rattle.turns.specs.RunLaws.{InTime, Through, run-in-time, run-through}
-use Rattle.turns.specs.Capture.{capture_call, recording_after, capture_start}
+use Rattle.turns.specs.Capture.{lends_all, capture_call, recording_after, capture_start, capture_offer}
 use Rattle.turns.specs.Captured.{Came, nothing_came, captured, Taken, taking, capture_starts, captures, Lends, LengthGood, taken, Joined, Recorded}
 use Rattle.turns.specs.TakenLaws.{TwoOrSeventeen, captured-just, bare, Taking, seen_as, takes_run, judges-status, status-just, run-alike, Roomy, Filled, takes-filled}
-use Rattle.turns.specs.Types.{Track, Ring, Period, Said, Going, Done, Refused, Step, Reading, Catch}
+use Rattle.turns.specs.LoopLaws.{loop-prefix}
+use Rattle.turns.specs.declared.calls.Offer.TheVariants as offer
+use Rattle.turns.specs.Types.{Track, Ring, Sent, Period, Said, Going, Done, Refused, Step, Reading, Catch}
 
 -- ---- n whole periods are n submissions
 
@@ -142,6 +144,23 @@ module _ (r : Ring) (stream periods period budget : ℕ) (recording : List ℕ) 
     loop-length nothing_came taking budget first script,
   )
 
+  ended : Ends budget begin (seen_as (captures r stream periods period budget recording script))
+  ended = subst (Ends budget begin) (sym as-run) (run_ends captured r.track.descriptors (length recording) budget begin script (omega arith) from.runs)
+
+  -- "the count reported is the number of turns of this definition that were run"
+  pub capture-turns-counted : let h = captures r stream periods period budget recording script in h.at.ring.track.turns ≡ length h.log
+  capture-turns-counted = ended.after.1 ∙ omega arith
+
+  -- "a submission carries the stream id": the one that the ring tells
+  pub capture-stream-told : (captures r stream periods period budget recording script).at.ring.track.stream ≡ stream
+  capture-stream-told = ap (λ (z : ℕ × ℕ × ℕ × ℕ × ℕ). z.1) ended.after.0
+
+  -- "At most 10 are in flight", or 32
+  pub capture-most-in-flight : All (AtMost (most_of r.track.descriptors)) (captures r stream periods period budget recording script).log
+  capture-most-in-flight =
+      subst (λ (o : Ran Track). All (AtMost (most_of r.track.descriptors)) o.log) (sym as-run)
+      (run-most captured r.track.descriptors (length recording) budget begin script (omega arith) from.runs)
+
   -- Ok only if all periods were submitted in order, whole ones, and each completed with 0x8000
   pub capture-only-if : (captures r stream periods period budget recording script).said ≡ Done → Recorded periods period script (captures r stream periods period budget recording script).log
   capture-only-if ok =
@@ -178,6 +197,28 @@ capture-in-time r stream periods period budget g recording script idle some pos 
     let same = as-run r stream periods period budget recording script began lends ∙ run-alike least budget begin script good in
     let bound = run-in-time judges-status status-just (λ e. omega arith) true (length recording) least stream period (periods * period) budget r.track script some g (omega (arith, (mode_small least o.runs.consistent.placed.mode).1)) pos (rw n enough) in
     (began, subst (λ (x : Ran Track). InTime periods g x) (sym same) (subst (λ (k : ℕ). InTime k g (run judges-status least budget begin script)) n bound))
+
+-- the same, asked of the turns that were run alone: what a script holds behind them plays no part
+pub capture-in-time-of-turns : (r : Ring) (stream periods period budget g : ℕ) (recording : List ℕ) (script : List Came) → Idle r → 0 < period → 0 < g
+    → periods * g + 1 ≤ budget → periods * period ≤ length recording
+    → let h = captures r stream periods period budget recording script in
+    let heard = take (length h.log) script in
+    All (Lends period) heard → All (LengthGood period) heard → All NoFault h.log → CompletesWithin g h.log → (h.said ≡ Done) × (length h.log ≤ periods * g + 1)
+capture-in-time-of-turns r stream periods period budget g recording script idle some pos enough holds lends good =
+    let h = captures r stream periods period budget recording script in
+    let heard = take (length h.log) script in
+    let first : Taken = record { ring = (capture_starts r stream periods period budget recording).ring; recording = recording } in
+    subst (λ (x : Ran Taken). InTime periods g x) (loop-prefix nothing_came taking budget first script (length h.log) (omega arith))
+    (capture-in-time r stream periods period budget g recording heard idle some pos enough holds lends good).1
+
+-- ---- a capture's turn submits just what was offered, whatever it reads, if it is run; and it is refused, changing nothing, where the offer is and enough bytes are lent
+
+pub capture-offered-is-sent : (t : Track) (len : ℕ) (sent : Sent) → capture_offer t len ≡ offer.Is sent → (c : Catch) → is_refused (capture_call t len c).said ≡ false
+    → (capture_call t len c).sent ≡ sent
+capture-offered-is-sent t len sent e c = (capture-offers t len c).is sent e
+
+pub capture-offered-refused : (t : Track) (len : ℕ) (x : Refusal) → capture_offer t len ≡ offer.Refused x → (c : Catch) → lends_all t c ≡ true → capture_call t len c ≡ refused_of x t
+capture-offered-refused t len x e c = (capture-offers t len c).refused x e
 
 -- ---- a refusal changes neither the ring nor the recording
 

@@ -1,7 +1,7 @@
 -- WHAT WAS HEARD BEFORE A FAILURE (2026-13): of a start that goes on and the turns after it, where the transfer ended or ran on.
 -- k is the number of its good completions, which the ring tells (`Ring::accepted`); it is still told after draining.
 -- Assumes nothing.
-use Rattle.std.specs.Prelude.{ℕ, ◌+◌, ◌*◌, ◌%◌, ◌≤◌, ◌<◌, ◌≡◌, refl, false, List, [], ◌∷◌, map, eqb, length, get_or, take, drop}
+use Rattle.std.specs.Prelude.{ℕ, ◌+◌, ◌*◌, ◌%◌, ◌≤◌, ◌<◌, ◌≡◌, refl, Bool, false, ◌&&◌, List, [], ◌∷◌, map, eqb, length, get_or, take, drop}
 use Rattle.std.proofs.Common.{arith, ap, sym, ◌∙◌, eq-eqb, ne_eqb}
 use Rattle.codes.specs.Says.{says, pick, guard}
 use Rattle.codes.specs.SaysLaws.{passes}
@@ -21,7 +21,7 @@ use Rattle.turns.specs.Demand.{accounted-so-far, ok-only-if, start-refusal}
 use Rattle.turns.specs.DemandLaws.{some, plays-ends, plays-carried, script-plays}
 use Rattle.turns.specs.Drained.{drain_oldest, drains, drains-to-idle}
 use Rattle.turns.specs.HeardLaws.{goods, heard_all, accepted-good, failing-next, payload-at, payloads-first, within, plays-counts, drain-keeps-count}
-use Rattle.turns.specs.Types.{Slot, Ring, Nothing, Period, Silent, Freed, Said, Going, Done, Refused, Reading, Quiet, Completed, Transferred}
+use Rattle.turns.specs.Types.{Slot, Ring, Sent, Nothing, Period, Heard, Silent, Freed, Said, Going, Done, Refused, Reading, Quiet, Completed, Transferred}
 
 -- k, "after k good completions"
 abbrev pub spoken : Ran Ring → ℕ
@@ -37,6 +37,18 @@ span_at period frames i = record { offset = i * period; len = span_of period (le
 
 abbrev pub shows : List ℕ → Slot → List ℕ
 shows frames s = take s.len (drop s.offset frames)
+
+-- read off the log: a submission was accepted where the completion at its place names its slot with 0x8000
+abbrev pub completes_good : Sent → Heard → Bool
+completes_good (Period slot offset len) (Freed s status) = eqb s slot && eqb status 0x8000
+completes_good (Period slot offset len) Silent = false
+completes_good Nothing h = false
+
+-- the payloads that were accepted, submission by submission and completion by completion
+abbrev pub accepted_payloads : List ℕ → List Sent → List Heard → List (List ℕ)
+accepted_payloads frames [] hs = []
+accepted_payloads frames (s ∷ ss) [] = []
+accepted_payloads frames (s ∷ ss) (h ∷ hs) = pick (completes_good s h) (payload frames s ∷ accepted_payloads frames ss hs) (accepted_payloads frames ss hs)
 
 pub record HeardOut (period : ℕ) (frames : List ℕ) (h : Ran Ring) : Type 0 where
   -- k is what the ring tells

@@ -13,17 +13,25 @@ pub mod Capture
 pub mod Captured
 pub mod Private
 pub mod Asked
+pub mod Paper
 -- theorems
+pub mod PaperTransfer
 pub mod Demand
 pub mod CaptureDemand
 pub mod Modes
 pub mod Joining
 pub mod Drained
 pub mod Heard
+pub mod HeardExactly
+pub mod RefusedTurns
 pub mod AnyHost
+pub mod FreedIsRead
+pub mod StatusCarried
+pub mod Instances
 pub mod Worked
 -- laws
 pub mod CutLaws
+pub mod PaperLaws
 pub mod RuleLaws
 pub mod DecisionLaws
 pub mod ConsistentLaws
@@ -43,3 +51,7 @@ pub mod HeardLaws
 pub mod PremiseLaws
 pub mod CaptureLaws
 pub mod TakenLaws
+pub mod FreedLaws
+pub mod LoopLaws
+pub mod StatusLaws
+pub mod AcceptedLaws

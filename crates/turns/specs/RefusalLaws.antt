@@ -1,14 +1,18 @@
 -- Calls: a refusal changes nothing, and what is offered is what the turn submits.
 -- Assumes nothing.
 use Rattle.std.specs.Prelude.{ℕ, ◌≡◌, refl, Bool, true, false, ◌||◌, not, eqb}
-use Rattle.std.proofs.Common.{arith, ap, ◌∙◌, subst, eq-eqb}
+use Rattle.std.proofs.Common.{arith, ap, sym, ◌∙◌, subst, eq-eqb}
+use Rattle.std.proofs.lemmas.Bool.{false≢true}
 use Rattle.codes.specs.Says.{guard}
 use Rattle.codes.specs.SaysLaws.{guarded-by, passes}
 use Rattle.codes.specs.declared.answers.Refusal.{Refusal}
+use Rattle.turns.specs.Ring.{is_refused}
 use Rattle.turns.specs.Rules.{choose_of, submit, sent_of, comes_to, played_of, hear, act, turn_of, counted_of}
 use Rattle.turns.specs.CaseLaws.{Plain, plain, over_plain, hear-cases, counted-cases}
 use Rattle.turns.specs.KeepLaws.{turn-plain}
 use Rattle.turns.specs.Calls.{refused_of, traced_call, turn_call, drained, drain_call, start_call, start_traced, ring_after, offer_by, offer_as, offer_call}
+use Rattle.turns.specs.Capture.{caught_of, lends_all, caught_turn, capture_call, capture_offer}
+use Rattle.turns.specs.Types.{Catch}
 use Rattle.turns.specs.Types.{Track, Ring, Sent, Nothing, Going, Refused, Step, Reading, Quiet, Completed, Choice, Submit, Finish, Wait, Outcome, Offer}
 use Rattle.turns.specs.declared.calls.Offer.TheVariants as offer
 
@@ -122,3 +126,22 @@ offered t len reading =
     } in
     subst (Offered t (offer_call t len)) (passes _ _ _ (own_room t t.running) refl)
     (guarded-both P _ _ _ _ _ (guarded-both P _ _ _ _ _ (guarded-both P _ _ _ _ _ shows (bars t _)) (bars t _)) (bars t _))
+
+-- of a capture: the same, but for a turn that is lent too few bytes of its completion
+pub record OfferedIfLent (t : Track) (c : Catch) (o : Offer) (s : Step) : Type 0 where
+  pub is : (sent : Sent) → o ≡ offer.Is sent → is_refused s.said ≡ false → s.sent ≡ sent
+  pub refused : (x : Refusal) → o ≡ offer.Refused x → lends_all t c ≡ true → s ≡ refused_of x t
+
+pub capture-offers : (t : Track) (len : ℕ) (c : Catch) → OfferedIfLent t c (capture_offer t len) (capture_call t len c)
+unfolding offer_as capture_call
+capture-offers t len c =
+    let P : Offer → Step → Type 0 = OfferedIfLent t c in
+    let bar : (r : Refusal) → P (offer.Refused r) (refused_of r t) = λ r. let b = bars t r in record { is = λ sent e _. b.is sent e; refused = λ x e _. b.refused x e } in
+    let shows : P (offer.Is (offer_by (choose_of t.descriptors t) t)) (caught_turn t.descriptors t c) =
+    record {
+      is = λ sent e _. let same : offer_by (choose_of t.descriptors t) t ≡ sent = cc in turn-sent t.descriptors t (caught_of t c) c.reading ∙ same;
+      refused = λ x e _. let z : ◌≡◌ {A = ℕ} 0 1 = cc in absurd (omega arith);
+    } in
+    guarded-by (P (capture_offer t len)) _ _ _
+    (λ _. guarded-both P _ _ _ _ _ (guarded-both P _ _ _ _ _ (guarded-both P _ _ _ _ _ shows (bar _)) (bar _)) (bar _))
+    (λ l. record { is = λ sent e not. absurd (false≢true (sym not)); refused = λ x e k. absurd (false≢true (sym l ∙ k)) })
