@@ -1,9 +1,9 @@
 -- 2026-11: 18 "for an empty trace, an unknown tag, a wrong length or a cut field", with the offset of "the first such field's (0 if empty)".
 -- Assumes nothing.
-use Rattle.std.specs.Prelude.{Bool, true, false, ◌≡◌, refl, ◌⊎◌, ℕ, zero, suc, ◌+◌, ◌-◌, ◌≤◌, eqb, ltb}
+use Rattle.std.specs.Prelude.{Bool, true, false, ◌⊎◌, ℕ, zero, suc, ◌+◌, ◌-◌, ◌≤◌, ◌<◌, eqb, ltb}
 use mathlib.Core.List.{List, [], ◌∷◌, ◌++◌}
+use Rattle.std.proofs.Math.Path.{◌≡◌, refl, ap, ap₂, subst}
 use Rattle.std.proofs.Common.{sym, ◌∙◌, inl, inr}
-use Rattle.std.proofs.Math.Path.{ap, ap₂, subst}
 use native.Mathlib.Omega.{arith}
 use Rattle.std.proofs.Math.ListN.{length}
 use Rattle.std.proofs.lemmas.Bool.{eqb-false}
@@ -11,13 +11,14 @@ use Rattle.layout.specs.Bytes.{bytes_at, Bytes}
 use Rattle.layout.specs.BytesLaws.{bytes_at-add, bytes_at-all}
 use Rattle.layout.specs.Rows.{rows_bytes}
 use Rattle.codes.specs.Says.{pick, guard}
-use Rattle.trace.specs.Field.{size_of, trace_bytes}
-use Rattle.trace.specs.Judge.{place_of, move_of, rest_by, on_by, walk_of, judged_by, judges, begun}
+use Rattle.trace.specs.Field.{size_of, trace_bytes, AllFit}
+use Rattle.trace.specs.Judge.{place_of, move_of, rest_by, on_by, walk_of, start_by, judged_by, judges, begun}
 use Rattle.trace.specs.Fields.{field_at, scan_by, scan_from, fields_from}
 use Rattle.trace.specs.FieldLaws.{field-stands}
-use Rattle.trace.specs.ScanLaws.{size-some, scan-fields}
+use Rattle.trace.specs.ScanLaws.{size-some, scan-fields, fields-scan}
 use Rattle.trace.specs.AcceptLaws.{number_of}
-use Rattle.trace.specs.Runs.{Breaks}
+use Rattle.trace.specs.Runs.{WholeFields, Breaks}
+use Rattle.trace.specs.NotARunLaws.{scan-never}
 use Rattle.trace.specs.declared.field.Field.TheVariants as field
 use Rattle.trace.specs.Types.{Field, Found, Is, NoField, Track, Stage, Opening, Out, Back, Failed, Over, Moved, On, Off, Judgement, Accepted, BadTrace, NotARun}
 
@@ -80,6 +81,14 @@ start-never per least a c d at fs e = by (ltb 0 d) e
     by true q = walk-never least fs Opening (begun per a c d 0) 15 at q
     by false q = let z : ◌≡◌ {A = ℕ} 19 18 = ap number_of q in omega arith
 
+-- nor does a trace's start
+starts-never : (per least at : ℕ) (f : Field) (fs : List Field) → start_by per least f fs ≡ BadTrace at → ⊥
+unfolding guard
+starts-never per least at (field.Start a c d) fs e = start-never per least a c d at fs e
+starts-never per least at (field.Submitted a c d) fs e = let z : ◌≡◌ {A = ℕ} 19 18 = ap number_of e in omega arith
+starts-never per least at (field.Completed a c) fs e = let z : ◌≡◌ {A = ℕ} 19 18 = ap number_of e in omega arith
+starts-never per least at (field.End a) fs e = let z : ◌≡◌ {A = ℕ} 19 18 = ap number_of e in omega arith
+
 -- nothing there, or whole fields up to that place and none there
 pub breaks-at : (per least : ℕ) (s : List ℕ) (at : ℕ) → Bytes s → judges per least s ≡ BadTrace at → ((s ≡ []) × (at ≡ 0)) ⊎ Breaks s 0 at
 unfolding judges guard rows_bytes
@@ -96,3 +105,51 @@ breaks-at per least s at b e = by (scan_from (length s) 0 s) refl (fields_from (
     by Accepted p (field.Submitted a c d ∷ fs) q r = let z : ◌≡◌ {A = ℕ} 19 18 = ap number_of r in absurd (omega arith)
     by Accepted p (field.Completed a c ∷ fs) q r = let z : ◌≡◌ {A = ℕ} 19 18 = ap number_of r in absurd (omega arith)
     by Accepted p (field.End a ∷ fs) q r = let z : ◌≡◌ {A = ℕ} 19 18 = ap number_of r in absurd (omega arith)
+
+-- ---- the order: 18 where the fields are not whole, and then 19
+
+-- a trace that scans is whole fields, if it has any
+scanned-whole : (s : List ℕ) (f : Field) (fs : List Field) → Bytes s → scan_from (length s) 0 s ≡ Accepted → fields_from (length s) 0 s ≡ f ∷ fs → WholeFields s
+scanned-whole s f fs b p q =
+    let k = scan-fields (length s) 0 (length s) s b (omega arith) (omega arith) p in
+    record {
+      fields = f ∷ fs;
+      some = omega arith;
+      fit = subst AllFit q k.fit;
+      bytes = sym (k.bytes ∙ ap trace_bytes q) ∙ bytes_at-all s (length s) refl;
+    }
+
+module _ (per least : ℕ) (s : List ℕ) (b : Bytes s) where
+  pub whole_by : (at : ℕ) → judges per least s ≡ NotARun at → WholeFields s
+  unfolding judges
+  whole_by at e = by (scan_from (length s) 0 s) refl (fields_from (length s) 0 s) refl e
+    where
+      by : (j : Judgement) → scan_from (length s) 0 s ≡ j → (fs : List Field) → fields_from (length s) 0 s ≡ fs → judged_by j per least fs ≡ NotARun at → WholeFields s
+      by (BadTrace x) p fs q r = let z : ◌≡◌ {A = ℕ} 18 19 = ap number_of r in absurd (omega arith)
+      by (NotARun x) p fs q r = absurd (scan-never (length s) 0 x s p)
+      by Accepted p [] q r = let z : ◌≡◌ {A = ℕ} 18 19 = ap number_of r in absurd (omega arith)
+      by Accepted p (f ∷ fs) q r = scanned-whole s f fs b p q
+
+  -- what is not whole is 18, at some offset
+  pub broken-by : (WholeFields s → ⊥) → (at : ℕ) × (judges per least s ≡ BadTrace at)
+  unfolding judges
+  broken-by not = by (scan_from (length s) 0 s) refl (fields_from (length s) 0 s) refl
+    where
+      by : (j : Judgement) → scan_from (length s) 0 s ≡ j → (fs : List Field) → fields_from (length s) 0 s ≡ fs → (at : ℕ) × (judged_by j per least fs ≡ BadTrace at)
+      by (BadTrace x) p fs q = (x, refl)
+      by (NotARun x) p fs q = absurd (scan-never (length s) 0 x s p)
+      by Accepted p [] q = (0, refl)
+      by Accepted p (f ∷ fs) q = absurd (not (scanned-whole s f fs b p q))
+
+-- whole fields scan to themselves, so they are never 18
+pub whole-never : (per least : ℕ) (s : List ℕ) → WholeFields s → (at : ℕ) → judges per least s ≡ BadTrace at → ⊥
+unfolding judges
+whole-never per least s w at e = by w.fields w.some w.fit w.bytes
+  where
+    by : (fs : List Field) → 0 < length fs → AllFit fs → trace_bytes fs ≡ s → ⊥
+    by [] some fit same = omega arith
+    by (f ∷ fs) some fit same =
+        let r = fields-scan (length s) [] (f ∷ fs) fit (omega (arith, ap length same)) in
+        let scan : scan_from (length s) 0 s ≡ Accepted = ap (scan_from (length s) 0) (sym same) ∙ r.scan in
+        let read : fields_from (length s) 0 s ≡ f ∷ fs = ap (fields_from (length s) 0) (sym same) ∙ r.fields in
+        starts-never per least at f fs (sym (ap₂ (λ (j : Judgement) (xs : List Field). judged_by j per least xs) scan read) ∙ e)

@@ -9,10 +9,10 @@ use Rattle.turns.specs.HostLaws.{Runs, link, begins}
 use Rattle.trace.specs.Field.{Fits, trace_bytes}
 use Rattle.trace.specs.Trace.{trace_of}
 use Rattle.trace.specs.Judge.{begun, judges}
-use Rattle.trace.specs.Runs.{AllReal, RunOf, Breaks, Told}
+use Rattle.trace.specs.Runs.{AllReal, RunOf, WholeFields, Breaks, Told}
 use Rattle.trace.specs.AcceptLaws.{only_if, if}
 use Rattle.trace.specs.NotARunLaws.{stops_at}
-use Rattle.trace.specs.BadTraceLaws.{breaks-at}
+use Rattle.trace.specs.BadTraceLaws.{breaks-at, whole_by, broken-by, whole-never}
 use Rattle.trace.specs.declared.field.Field.TheVariants as field
 use Rattle.trace.specs.Types.{Track, Ring, Going, Reading, Accepted, BadTrace, NotARun}
 
@@ -62,3 +62,13 @@ bad-trace per least s at b e = breaks-at per least s at b e
 -- 19's offset is "the first byte through which no run's trace agrees, or the length where the trace only ends early"
 pub not-a-run : (per least : ℕ) → least ≤ 32 → (s : List ℕ) (at : ℕ) → Bytes s → judges per least s ≡ NotARun at → Told per least s at
 not-a-run per least few s at b e = stops_at per least few s at b e
+
+-- "18 BadTrace .., then 19 NotARun": 18 exactly where the trace is not whole fields, and 19 only of whole ones. So a judge that says 19 to a damaged trace is none
+pub eighteen-if-broken : (per least : ℕ) (s : List ℕ) → Bytes s → (WholeFields s → ⊥) → (at : ℕ) × (judges per least s ≡ BadTrace at)
+eighteen-if-broken per least s b broken = broken-by per least s b broken
+
+pub whole-never-eighteen : (per least : ℕ) (s : List ℕ) → WholeFields s → (at : ℕ) → judges per least s ≡ BadTrace at → ⊥
+whole-never-eighteen per least s w at e = whole-never per least s w at e
+
+pub whole-at : (per least : ℕ) (s : List ℕ) (at : ℕ) → Bytes s → judges per least s ≡ NotARun at → WholeFields s
+whole-at per least s at b e = whole_by per least s b at e

@@ -14,6 +14,7 @@ pub mod Writer
 pub mod Judged
 pub mod Compared
 pub mod Written
+pub mod TracedDemand
 -- laws
 pub mod ListLaws
 pub mod AgreeLaws

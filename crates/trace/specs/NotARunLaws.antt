@@ -175,7 +175,7 @@ module _ (per least : ℕ) (few : least ≤ 32) where
   judged-fields (field.End a ∷ fs) at fit e = subst (λ (n : ℕ). Told per least (trace_bytes (field.End a ∷ fs)) n) (ap place_in e) (no_start (field.End a) fs (λ z. omega arith))
 
 -- a scan never says 19
-scan-never : (fuel o x : ℕ) (s : List ℕ) → scan_from fuel o s ≡ NotARun x → ⊥
+pub scan-never : (fuel o x : ℕ) (s : List ℕ) → scan_from fuel o s ≡ NotARun x → ⊥
 unfolding scan_from
 scan-never zero o x s e = let z : ◌≡◌ {A = ℕ} 0 19 = ap number_of e in omega arith
 scan-never (suc fuel) o x s e = by (eqb o (length s)) (field_at o s) (λ p q. scan-never fuel p x s q) e

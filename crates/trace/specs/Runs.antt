@@ -38,6 +38,13 @@ pub record RunOf (per least : ℕ) (s : List ℕ) : Type 0 where
   pub run : IsRun per least trace
   pub bytes : trace_bytes trace ≡ s
 
+-- the trace is whole fields, one at least: nothing of it is what 18 is for
+pub record WholeFields (s : List ℕ) : Type 0 where
+  pub fields : List Field
+  pub some : 0 < length fields
+  pub fit : AllFit fields
+  pub bytes : trace_bytes fields ≡ s
+
 -- from o on: k bytes of whole fields, and then no field
 pub record Breaks (s : List ℕ) (o at : ℕ) : Type 0 where
   pub k : ℕ

@@ -43,7 +43,7 @@ covers total period some = ceil-by (total / period) period (total % period) tota
 
 -- ---- a traced start that goes on is a start that goes on
 
-goes-too : (t : Track) (stream total period budget room : ℕ) → (start_traced t stream total period budget room).said ≡ Going → Going ≡ (start_call t stream total period budget).said
+pub goes-too : (t : Track) (stream total period budget room : ℕ) → (start_traced t stream total period budget room).said ≡ Going → Going ≡ (start_call t stream total period budget).said
 unfolding start_traced start_call
 goes-too t stream total period budget room =
     let P : Step → Type 0 = λ s. s.said ≡ Going → Going ≡ (start_call t stream total period budget).said in
