@@ -1,21 +1,23 @@
 -- The calls on a store, by what their code does.
 -- Assumes nothing.
-use Rattle.std.specs.Prelude.{◌≡◌, Bool, true, false, not, ◌||◌, List, ℕ, ◌≤◌, ◌<◌, leb, eqb, length}
+use Rattle.std.specs.Prelude.{◌≡◌, Bool, true, false, not, ◌&&◌, ◌||◌, List, ℕ, ◌≤◌, ◌<◌, leb, eqb, length}
 use Rattle.std.proofs.Math.Path.{refl, ap}
-use Rattle.std.proofs.Common.{sym, ◌∙◌, le-leb}
+use Rattle.std.proofs.Common.{sym, ◌∙◌, le-leb, eq-eqb, ne_eqb}
 use Rattle.std.proofs.lemmas.Bool.{lt-leb}
 use Rattle.layout.specs.Bytes.{Bytes}
 use Rattle.layout.specs.Lent.{Made, made}
 use Rattle.codes.specs.Says.{pick, guard}
 use Rattle.codes.specs.SaysLaws.{picks, skips, passes, stops}
 use Rattle.turns.specs.Ring.{new_ring, said_word, is_refused}
-use Rattle.turns.specs.Calls.{refused_of, traced_call, turn_call, turned_of}
-use Rattle.turns.specs.CallLaws.{no-transfer}
+use Rattle.turns.specs.Calls.{refused_of, runs_as, traced_call, turn_call, turned_of, offer_as}
+use Rattle.turns.specs.CallLaws.{no-transfer, offer-unsound, offer-other}
+use Rattle.turns.specs.Consistent.{consistent_of}
+use Rattle.turns.specs.declared.calls.Offer.TheVariants as offer
 use Rattle.turns.specs.Capture.{catch_of, capture_call, recording_after}
 use Rattle.turns.specs.Script.{reading_of}
 use Rattle.trace.specs.Writer.{writing_call, room_after}
 use Rattle.ring_store.specs.Types.{Track, Ring, Step, Reading}
-use Rattle.codes.specs.declared.answers.Refusal.TheVariants.{InvalidParam}
+use Rattle.codes.specs.declared.answers.Refusal.TheVariants.{InvalidParam, BadLength}
 use Rattle.ring_store.specs.Store.{ring_size, track_at, ring_of}
 use Rattle.ring_store.specs.Calls.{left_by, changed, new_in, caught, caught_by, caught_in, capture_in, turn_traced_in}
 use Rattle.ring_store.specs.StoreLaws.{sent-over, new-over}
@@ -51,6 +53,36 @@ stepped s x y b h e p = p ∙ step-over s x b ∙ ap (λ (z : Step). left_by s (
 pub turn-idle : (t : Track) (len : ℕ) (reading : Reading) → t.running ≡ false → refused_of InvalidParam t ≡ turn_call t len reading
 unfolding traced_call
 turn-idle t len reading e = passes _ _ _ (ap (λ (b : Bool). not b || eqb 0 t.room) e) (no-transfer false t len _ _ _ e)
+
+-- the other tests of a turn that runs
+module _ (t : Track) (len : ℕ) (reading : Reading) (e : t.running ≡ true) where
+  pub turn-room : (t.room ≡ 0 → ⊥) → refused_of BadLength t ≡ turn_call t len reading
+  unfolding traced_call
+  turn-room n = stops _ _ _ (ap (λ (b : Bool). not b || eqb 0 t.room) e ∙ ne_eqb 0 t.room (λ z. n (sym z))) refl
+
+  module _ (z : t.room ≡ 0) where
+    agrees : (not t.running || eqb 0 t.room) ≡ true
+    agrees = ap (λ (b : Bool). not b || eqb 0 t.room) e ∙ eq-eqb 0 t.room (sym z)
+
+    pub turn-lent : (len ≡ t.lent → ⊥) → refused_of BadLength t ≡ turn_call t len reading
+    unfolding traced_call
+    turn-lent n = passes _ _ _ agrees (stops _ _ _ (ap (λ (b : Bool). not b || eqb len t.lent) e ∙ ne_eqb len t.lent n) refl)
+
+    pub turn-unfit : len ≡ t.lent → (consistent_of t && runs_as false t) ≡ false → refused_of InvalidParam t ≡ turn_call t len reading
+    unfolding traced_call
+    turn-unfit l f = passes _ _ _ agrees (passes _ _ _ (ap (λ (b : Bool). not b || eqb len t.lent) e ∙ eq-eqb len t.lent l) (ends (consistent_of t) (runs_as false t) _ _ f))
+      where
+        ends : {A : Type 0} (b c : Bool) (x r : A) → (b && c) ≡ false → r ≡ guard b r (guard c r x)
+        ends true c x r h = passes true _ _ refl (stops c r x h refl)
+        ends false c x r h = stops false _ _ refl refl
+
+-- and of an offer
+pub offer-unfit : (capture : Bool) (t : Track) (len : ℕ) → t.running ≡ true → len ≡ t.lent → (consistent_of t && runs_as capture t) ≡ false → offer.Refused InvalidParam ≡ offer_as capture t len
+offer-unfit capture t len e l f = by (consistent_of t) refl f
+  where
+    by : (b : Bool) → consistent_of t ≡ b → (b && runs_as capture t) ≡ false → offer.Refused InvalidParam ≡ offer_as capture t len
+    by true c h = offer-other capture t len e l c h
+    by false c h = offer-unsound capture t len e l c
 
 pub made-blank : (s : List ℕ) (t : Track) (l : List ℕ) → Bytes s → ring_size ≤ length s → l ≡ blank_over (track_over s t) → made 0 l ≡ blank_in s t
 made-blank s t l b h p = ap (made 0) (p ∙ new-over s t b) ∙ long s _ h

@@ -1,5 +1,5 @@
 -- A HOST'S RUN on a store, turn after turn: the store holds the ring where the same run by value ended, and the last answer is the number of what that run said. Where it writes a
--- trace, so does the room.
+-- trace, so does the room; where it captures, so does the recording.
 -- Assumes nothing.
 use Rattle.std.specs.Prelude.{◌≡◌, refl, Bool, true, false, leb, eqb, length}
 use Rattle.std.proofs.Common.{sym, ap, ◌∙◌, subst, arith, eq-eqb, ne_eqb, le-leb}
@@ -20,13 +20,14 @@ use Rattle.turns.specs.Calls.{start_traced, turned_of}
 use Rattle.turns.specs.Capture.{catch_of, capture_call}
 use Rattle.turns.specs.InPlace.{turn_words}
 use Rattle.turns.specs.Script.{reading_of}
-use Rattle.turns.specs.Log.{Line, Ran, Told, onward, loop_of, loop, called, turn_by_turn}
+use Rattle.turns.specs.Log.{Line, Ran, Told, onward, next_of, rest_of, loop_of, loop, called, turn_by_turn}
+use Rattle.turns.specs.Captured.{Came, nothing_came, Taken, taking, takes}
 use Rattle.trace.specs.Writer.{writing_call, Penned, tracing, traces}
 use Rattle.ring_store.specs.Types.{Ring, Said, Going, Done, Ended, Refused, Step, Reading}
 use Rattle.ring_store.specs.Store.{ring_size, track_row, track_values, side_row, side_values, slot_row, slot_bytes, ring_of, ring_bytes, side_bytes}
 use Rattle.ring_store.specs.Calls.{new_in, turn_in, drain_in, start_in, Caught, caught, capture_step, capture_in, capture_start_in, writing_step, turn_traced_in, start_traced_in}
 use Rattle.ring_store.specs.KeepLaws.{turn_step, drain_step, start_step, capture_start_step, traced_start_step, leaves, turn-leaves, drain-leaves, start-leaves, capture-leaves, capture-start-leaves, traced-leaves, traced-start-leaves}
-use Rattle.ring_store.specs.Holds.{turn_holds, traced-holds, room-holds}
+use Rattle.ring_store.specs.Holds.{turn_holds, traced-holds, room-holds, capture-holds, recording-holds}
 
 -- ---- THE RUN
 
@@ -38,6 +39,9 @@ pub record Words : Type 0 where
 
 abbrev pub reading_by : Words → Reading
 reading_by w = reading_of w.kind w.slot w.status
+
+abbrev pub quiet_words : Words
+quiet_words = record { kind = 0; slot = 0; status = 0 }
 
 -- "Readings past the end of the script are quiet."
 abbrev pub first_words : List Words → Words
@@ -85,6 +89,28 @@ traced_by len a w = turn_traced_in a.ring len a.room w.kind w.slot w.status
 
 abbrev pub traces_in : ℕ → ℕ → Lent → List Words → Caught
 traces_in len = loop_in traced_host (traced_by len)
+
+-- the same by readings of any kind, with the quiet one
+unfoldable pub loop_over : {A L W : Type 0} → Host A L → W → (A → W → L) → ℕ → A → List W → L
+loop_over o quiet turn zero a script = o.still a
+loop_over o quiet turn (suc fuel) a script =
+    let l = turn a (next_of quiet script) in
+    guard (eqb (o.answer l) going) l
+    (loop_over o quiet turn fuel (o.left l) (rest_of script))
+
+-- turns of a capture (2026-09): they are lent the ring's store and the recording
+pub record LentRecording : Type 0 where
+  pub ring : List ℕ
+  pub recording : List ℕ
+
+abbrev capture_host : Host LentRecording Caught
+capture_host = record { still = λ a. caught going a.ring a.recording; answer = λ l. l.answer; left = λ l. record { ring = l.ring; recording = l.lent } }
+
+abbrev pub captures_by : LentRecording → Came → Caught
+captures_by a x = capture_in a.ring a.recording x.kind x.slot x.written x.bytes
+
+abbrev pub captures_in : ℕ → LentRecording → List Came → Caught
+captures_in = loop_over capture_host nothing_came captures_by
 
 -- ---- what a call leaves is a store again
 
@@ -200,6 +226,41 @@ module _ {A B L : Type 0} (o : Host A L) (turn : A → Words → L) (view : A �
   loop-holds (suc fuel) a [] i = turn-then fuel a (first_words []) [] i (λ n j. loop-holds fuel n [] j)
   loop-holds (suc fuel) a (w ∷ script) i = turn-then fuel a w script i (λ n j. loop-holds fuel n script j)
 
+-- THE SAME LAW for every kind of reading: what was read is seen as a reading too
+module _ {A B L W R : Type 0} (o : Host A L) (quiet : W) (turn : A → W → L) (reads : W → R) (view : A → B) (told : B → R → Told B) (Inv : A → Type 0)
+    (rests : (a : A) → (o.answer (o.still a) ≡ going) × (o.left (o.still a) ≡ a))
+    (step : (a : A) (w : W) → Inv a → let l = turn a w in let t = told (view a) (reads w) in
+    (view (o.left l) ≡ t.left) × (o.answer l ≡ said_word t.line.said) × Inv (o.left l)) where
+  abbrev HoldsOver : L → Ran B → Type 0
+  HoldsOver l h = (view (o.left l) ≡ h.at) × (o.answer l ≡ said_word h.said)
+
+  abbrev by_value : ℕ → B → List W → Ran B
+  by_value fuel b script = loop_of (reads quiet) told fuel b (map reads script)
+
+  onward-over : (said : Said) (line : Line) (b : B) (l rest : L) (h : Ran B) → view (o.left l) ≡ b → o.answer l ≡ said_word said → HoldsOver rest h
+      → HoldsOver (guard (eqb (o.answer l) going) l rest) (onward said line b h)
+  onward-over said line b l rest h p q k =
+      onward-cases (HoldsOver (guard (eqb (o.answer l) going) l rest)) said line b h
+      (λ e. subst (λ (x : L). HoldsOver x h) (passes _ _ _ (eq-eqb _ _ (q ∙ ap said_word e)) refl) k)
+      (λ e. subst (λ (x : L). HoldsOver x (record { said = said; at = b; log = line ∷ [] })) (stops _ _ _ (ne_eqb (o.answer l) going (λ z. never-going said e (sym q ∙ z))) refl) (p, q))
+
+  -- one turn, and then the rest of the run from what it left
+  over-then : (fuel : ℕ) (a : A) (w : W) (script : List W) → Inv a → ((n : A) → Inv n → HoldsOver (loop_over o quiet turn fuel n script) (by_value fuel (view n) script))
+      → let l = turn a w in let t = told (view a) (reads w) in
+      HoldsOver (guard (eqb (o.answer l) going) l (loop_over o quiet turn fuel (o.left l) script)) (onward t.line.said t.line t.left (by_value fuel t.left script))
+  over-then fuel a w script i rest =
+      let l = turn a w in
+      let t = told (view a) (reads w) in
+      let s = step a w i in
+      onward-over t.line.said t.line t.left l (loop_over o quiet turn fuel (o.left l) script) _ s.0 s.1
+      (subst (λ (b : B). HoldsOver (loop_over o quiet turn fuel (o.left l) script) (by_value fuel b script)) s.0 (rest (o.left l) s.2))
+
+  over-holds : (fuel : ℕ) (a : A) (script : List W) → Inv a → HoldsOver (loop_over o quiet turn fuel a script) (by_value fuel (view a) script)
+  unfolding loop_over loop_of
+  over-holds zero a script i = (ap view (rests a).1, (rests a).0)
+  over-holds (suc fuel) a [] i = over-then fuel a quiet [] i (λ n j. over-holds fuel n [] j)
+  over-holds (suc fuel) a (w ∷ script) i = over-then fuel a w script i (λ n j. over-holds fuel n script j)
+
 -- a store that can hold a ring
 abbrev Long : List ℕ → Type 0
 Long s = Bytes s × (ring_size ≤ length s)
@@ -240,6 +301,31 @@ traces-hold s room b h len fuel script =
     ))
     fuel (record { ring = s; room = room }) script (b, h)
 
+-- AND OF A CAPTURE: ring and recording are where the loop by value ended
+abbrev pub HoldsCaptured : Caught → Ran Taken → Type 0
+HoldsCaptured l h = (record { ring = ring_of l.ring; recording = l.lent } ≡ h.at) × (l.answer ≡ said_word h.said)
+
+same-script : (script : List Came) → map (λ (x : Came). x) script ≡ script
+same-script [] = refl
+same-script (x ∷ xs) = ap (λ (l : List Came). x ∷ l) (same-script xs)
+
+pub captures-hold : (s recording : List ℕ) → Bytes s → ring_size ≤ length s → (fuel : ℕ) (script : List Came)
+    → HoldsCaptured (captures_in fuel (record { ring = s; recording = recording }) script) (takes fuel (record { ring = ring_of s; recording = recording }) script)
+captures-hold s recording b h fuel script =
+    let left = captures_in fuel (record { ring = s; recording = recording }) script in
+    let view : LentRecording → Taken = λ a. record { ring = ring_of a.ring; recording = a.recording } in
+    subst (λ (xs : List Came). HoldsCaptured left (takes fuel (record { ring = ring_of s; recording = recording }) xs)) (same-script script)
+    (over-holds capture_host nothing_came captures_by (λ x. x) view taking (λ a. Long a.ring) (λ _. (refl, refl))
+    (λ a x k. (
+      λ i. record {
+        ring = capture-holds a.ring a.recording x.kind x.slot x.written x.bytes k.0 k.1 i;
+        recording = recording-holds a.ring a.recording x.kind x.slot x.written x.bytes k.0 k.1 i;
+      },
+      capture-answers a.ring a.recording x.kind x.slot x.written x.bytes k.1,
+      long-again a.ring (captures_by a x).ring k (capture-again a.ring a.recording x.kind x.slot x.written x.bytes k.0),
+    ))
+    fuel (record { ring = s; recording = recording }) script (b, h))
+
 -- and it is a store again
 guard-again : {L : Type 0} (answer : L → ℕ) (store : L → List ℕ) (s : List ℕ) (l rest : L) → Again s (store l) → Again (store l) (store rest) → Again s (store (guard (eqb (answer l) going) l rest))
 guard-again answer store s l rest p q = guarded-by (λ (x : _). Again s (store x)) (eqb (answer l) going) l rest (λ _. (q.0, q.1 ∙ p.1)) (λ _. p)
@@ -260,3 +346,13 @@ traces-again s room b len (suc fuel) script =
     let l = traced_by len (record { ring = s; room = room }) w in
     let p = traced-again s len room w.kind w.slot w.status b in
     guard-again (λ (x : Caught). x.answer) (λ (x : Caught). x.ring) s l (traces_in len fuel (record { ring = l.ring; room = l.lent }) (rest_words script)) p (traces-again l.ring l.lent p.0 len fuel (rest_words script))
+
+pub captures-again : (s recording : List ℕ) → Bytes s → (fuel : ℕ) (script : List Came) → Again s (captures_in fuel (record { ring = s; recording = recording }) script).ring
+unfolding loop_over
+captures-again s recording b zero script = (b, refl)
+captures-again s recording b (suc fuel) script =
+    let x = next_of nothing_came script in
+    let l = captures_by (record { ring = s; recording = recording }) x in
+    let p = capture-again s recording x.kind x.slot x.written x.bytes b in
+    guard-again (λ (y : Caught). y.answer) (λ (y : Caught). y.ring) s l (captures_in fuel (record { ring = l.ring; recording = l.lent }) (rest_of script)) p
+    (captures-again l.ring l.lent p.0 fuel (rest_of script))

@@ -1,7 +1,7 @@
 -- 2026-11 ON THE BYTES: a start in a ring's store that goes on, and the host's turns after it, leave their trace at the front of the room. What stands behind it is as it was, the store tells how
 -- long the trace is, and the judge accepts it.
 -- Assumes nothing.
-use Rattle.std.specs.Prelude.{◌≡◌, refl, List, ◌++◌, map, ℕ, ◌≤◌, ◌<◌, ◌^◌, length, take, drop}
+use Rattle.std.specs.Prelude.{◌≡◌, refl, List, ◌++◌, map, ℕ, ◌+◌, ◌*◌, ◌≤◌, ◌<◌, ◌^◌, length, take, drop}
 use Rattle.std.proofs.Common.{sym, ◌∙◌, arith}
 use Rattle.std.proofs.Math.Path.{ap, subst}
 use Rattle.layout.specs.Bytes.{Bytes}
@@ -16,6 +16,11 @@ use Rattle.trace.specs.Judge.{judges}
 use Rattle.trace.specs.Runs.{AllReal}
 use Rattle.trace.specs.Writer.{Penned, traces}
 use Rattle.trace.specs.Written.{trace-written, written-accepted}
+use Rattle.trace.specs.TracedDemand.{traced-in-time, traced-only-if}
+use Rattle.turns.specs.Cut.{cut}
+use Rattle.turns.specs.Asked.{NoFault, CompletesWithin, Idle, Whole}
+use Rattle.layout.specs.All.{All}
+use Rattle.ring_store.specs.Captures.{zero-done}
 use Rattle.trace.specs.declared.field.Judgement.TheVariants.{Accepted}
 use Rattle.ring_store.specs.Types.{Ring, Said, Going, Done, Ended, Refused, Step, Reading}
 use Rattle.ring_store.specs.Store.{ring_size, track_at, ring_of}
@@ -81,3 +86,13 @@ module _ (s room frames : List ℕ) (stream period budget : ℕ) (script : List 
         let mode = (ring_of s).track.descriptors in
         ap (λ (a : Penned). judges mode mode (take a.ring.track.written a.room)) held.0
         ∙ written-accepted (ring_of s) stream period budget frames room readings goes low (omega (arith, m)) real
+
+    -- DEMAND 3 of it: the last turn answers 0 no later than turn n times g plus 1, and 0 is answered only if all n periods went out in order and came back good
+    pub traced-in-time-in : (g : ℕ) → Idle (ring_of s) → 0 < period → 0 < g → length (cut period frames) * g + 1 ≤ budget → All NoFault ran.log
+        → CompletesWithin g ran.log → (ends.answer ≡ 0) × (length ran.log ≤ length (cut period frames) * g + 1)
+    traced-in-time-in g idle some pos enough right every =
+        let a = traced-in-time (ring_of s) stream period budget frames room readings goes low g idle some pos enough right every in
+        (held.1 ∙ ap said_word a.0, a.1)
+
+    pub traced-only-if-in : ends.answer ≡ 0 → Whole stream period frames ran.log
+    traced-only-if-in z = traced-only-if (ring_of s) stream period budget frames room readings goes low (zero-done ran.said (sym held.1 ∙ z))
