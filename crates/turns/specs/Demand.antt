@@ -1,7 +1,7 @@
 -- DEMAND 3, both halves: of a start and then turns, and of a transfer over a script. Then what the auditor asks, however a transfer ends.
 -- The start is `starts`, the turns after it `plays`, the premises and `Whole`, `Accounted`, `Carried` stand in Asked.
 -- Assumes nothing.
-use Rattle.std.specs.Prelude.{ℕ, ◌+◌, ◌*◌, ◌%◌, ◌≤◌, ◌<◌, ◌≡◌, List, length}
+use Rattle.std.specs.Prelude.{ℕ, ◌+◌, ◌*◌, ◌%◌, ◌≤◌, ◌<◌, ◌≡◌, List, length, take}
 use Rattle.std.proofs.Common.{arith, ap, sym, ◌∙◌, subst}
 use Rattle.turns.specs.Ring.{direct, indirect, most_of}
 use Rattle.turns.specs.Rules.{choose_of}
@@ -16,7 +16,7 @@ use Rattle.turns.specs.Asked.{starts, plays, NoFault, CompletesWithin, Idle, Who
 use Rattle.turns.specs.ConsistentLaws.{consistent-facts}
 use Rattle.turns.specs.HostLaws.{goes}
 use Rattle.turns.specs.RefusalLaws.{turn-refused, drain-refused, start-refused, ring-untouched, offered}
-use Rattle.turns.specs.DemandLaws.{loop-length, plays-in-time, plays-only-if, plays-accounted, plays-ends, plays-most, plays-carried, script-plays, script-ok, script-within, script-answers}
+use Rattle.turns.specs.DemandLaws.{loop-length, plays-in-time, plays-only-if, plays-accounted, plays-timely, plays-ends, plays-most, plays-carried, script-plays, script-ok, script-within, script-answers}
 use Rattle.turns.specs.Types.{Track, Ring, Sent, Going, Done, Refused, Reading, Quiet, Wait, Transferred}
 use Rattle.turns.specs.declared.calls.Offer.TheVariants as offer
 
@@ -86,6 +86,10 @@ module _ (r : Ring) (stream period budget : ℕ) (frames : List ℕ) (script : L
   -- and so of a transfer however it ended
   pub accounted : let h = plays r stream period budget frames script in Accounted period frames h.said h.at.track h.log
   accounted = accounted-so-far budget
+
+  -- and no completion came earlier than its submission
+  pub timely-so-far : (k i : ℕ) → let h = turn_by_turn (length frames) k (starts r stream period budget frames).ring script in length (frees (take i h.log)) ≤ length (sends (take i h.log))
+  timely-so-far = plays-timely r stream period budget frames script began
 
   -- in flight is what was submitted and not completed, and their slots carry just these periods
   pub owed-exactly : length r.slots ≡ 32

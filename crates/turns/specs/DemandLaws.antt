@@ -1,6 +1,6 @@
 -- Demand 3 and the auditor's questions, of a start and then turns, with as much room as a submission takes.
 -- Assumes nothing.
-use Rattle.std.specs.Prelude.{ℕ, zero, suc, ◌+◌, ◌*◌, ◌%◌, ◌≤◌, ◌<◌, ◌≡◌, refl, List, length, get_or, Bool, false}
+use Rattle.std.specs.Prelude.{ℕ, zero, suc, ◌+◌, ◌*◌, ◌%◌, ◌≤◌, ◌<◌, ◌≡◌, refl, List, length, get_or, take, Bool, false}
 use Rattle.std.proofs.Common.{arith, zero-add, ap, ◌∙◌, subst, eq-eqb}
 use Rattle.std.proofs.Math.Path.{sym}
 use Rattle.codes.specs.SaysLaws.{passes, guarded-by}
@@ -16,14 +16,14 @@ use Rattle.turns.specs.RuleLaws.{Chosen, chosen}
 use Rattle.turns.specs.ConsistentLaws.{Consistent, mode_small, few, few-slots}
 use Rattle.turns.specs.Calls.{begun, start_call, carry, ring_after}
 use Rattle.turns.specs.Script.{script_of, transferred_of, transfer_by, transfer_of}
-use Rattle.turns.specs.Log.{Line, Ran, onward, waiting_by, next_of, rest_of, loop_of, Told, Judge, played, judged_of, ruled, run, called, turn_by_turn, sends}
+use Rattle.turns.specs.Log.{Line, Ran, onward, waiting_by, next_of, rest_of, loop_of, Told, Judge, played, judged_of, ruled, run, called, turn_by_turn, sends, frees}
 use Rattle.turns.specs.Asked.{starts, plays, Accounted, Carried, AtMost}
 use Rattle.turns.specs.CaseLaws.{goes_by, onward-cases, stays}
 use Rattle.turns.specs.KeepLaws.{Fit, fit_of, fit-submit, turn-after}
 use Rattle.turns.specs.StaysConsistentLaws.{start-keeps}
 use Rattle.turns.specs.HostLaws.{seen, RunsAs, Runs, runs_on, link, Ends, run_ends, Begins, begins, never}
 use Rattle.turns.specs.OwedLaws.{host-carries, carries-at}
-use Rattle.turns.specs.RunLaws.{InTime, OnlyIf, run-in-time, run-only-if, run-accounted}
+use Rattle.turns.specs.RunLaws.{InTime, OnlyIf, run-in-time, run-only-if, run-accounted, run-timely}
 use Rattle.turns.specs.Types.{Track, Ring, Sent, Said, Going, Done, Refused, Step, Reading, Quiet, Choice, Submit, Finish, Wait, Transferred}
 
 -- ---- a loop has as many lines as fuel at most
@@ -86,6 +86,9 @@ module _ (r : Ring) (stream period budget : ℕ) (frames : List ℕ) (script : L
 
   pub plays-accounted : (k : ℕ) → let h = turn_by_turn (length frames) k (starts r stream period budget frames).ring script in Accounted period frames h.said h.at.track h.log
   plays-accounted k = subst (λ (o : Ran Track). Accounted period frames o.said o.at o.log) (sym (as-run k)) (run-accounted least stream period budget frames r.track script some k)
+
+  pub plays-timely : (k i : ℕ) → let h = turn_by_turn (length frames) k (starts r stream period budget frames).ring script in length (frees (take i h.log)) ≤ length (sends (take i h.log))
+  plays-timely k i = subst (λ (o : Ran Track). length (frees (take i o.log)) ≤ length (sends (take i o.log))) (sym (as-run k)) (run-timely least stream period budget frames r.track script some k i)
 
   pub plays-ends : (k : ℕ) → Ends k (begun r.track stream (length frames) period budget) (seen (λ (x : Ring). x.track) (turn_by_turn (length frames) k (starts r stream period budget frames).ring script))
   plays-ends k = subst (Ends k (begun r.track stream (length frames) period budget)) (sym (as-run k)) (run_ends played least (length frames) k _ script (omega arith) from.runs)

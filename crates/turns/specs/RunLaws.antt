@@ -111,6 +111,10 @@ module _ (least stream period budget : ℕ) (frames : List ℕ) (t : Track) (scr
         oldest = simp zero-add at (k.oldest (omega arith));
       }
 
+  -- and no completion comes earlier than its submission
+  pub run-timely : (n i : ℕ) → let o = run played least n (begun t stream (length frames) period budget) script in length (frees (take i o.log)) ≤ length (sends (take i o.log))
+  run-timely n i = let k = account played played-just least n (length frames) (begun t stream (length frames) period budget) script (omega arith, some) in omega (arith, k.timely i)
+
   pub run-only-if : OnlyIf stream period frames (run played least budget (begun t stream (length frames) period budget) script)
   run-only-if ok =
       let o = run played least budget (begun t stream (length frames) period budget) script in
