@@ -18,7 +18,7 @@ use Rattle.codes.specs.declared.rates.PcmRate.{PcmRate}
 use Rattle.wav.specs.Chunks.{padded}
 use Rattle.wav.specs.WaveLaws.{opened}
 use Rattle.wav.specs.Wave.{wave_formats, block_of, wrote_of, header, header_values, header_of, file_of}
-use Rattle.wav.specs.Types.{Done, BadLength}
+use Rattle.wav.specs.Types.{WroteWave, Done, BadLength}
 use Rattle.wav.specs.declared.writer.WroteWave.TheVariants.{BadSound}
 
 -- ---- one of the four formats
@@ -49,6 +49,19 @@ is_held n v e = let t = took (among n wave_formats) 0 (n ∷ []) (v ∷ []) e in
 pub not-held : (n : ℕ) → says 1 [] ≡ code_says wave_formats 1 n → among n wave_formats ≡ false
 not-held n e = refused (among n wave_formats) 0 (n ∷ []) e
 
+-- no code from 25 on is one of them
+pub none_above : (k : ℕ) → 25 ≤ k → among k wave_formats ≡ false
+none_above k h = of (among k wave_formats) refl
+  where
+    below : among k wave_formats ≡ true → k < 25
+    below = by_code (λ i. i < 25) k 4 (5 ∷ 11 ∷ 17 ∷ []) (lit< tt)
+        (by_code (λ i. i < 25) k 5 (11 ∷ 17 ∷ []) (lit< tt)
+        (by_code (λ i. i < 25) k 11 (17 ∷ []) (lit< tt) (by_code (λ i. i < 25) k 17 [] (lit< tt) (λ e. absurd (never e)))))
+
+    of : (t : Bool) → among k wave_formats ≡ t → t ≡ false
+    of true e = absurd (omega (arith, h, below e))
+    of false e = refl
+
 pub some_block : (channels k : ℕ) → among k wave_formats ≡ true → 0 < channels → 0 < block_of channels k
 some_block channels k e h = mul-pos h (held-bits k e).0
 
@@ -63,6 +76,13 @@ byte-rate r hz b e h =
     let q : hz ≤ 384000 = omega arith in
     let p : hz * b ≤ 384000 * 7905 = mul-le-mul q h in
     omega arith
+
+-- ---- a test before another, both of which refuse alike
+
+pub refuses-all-the-same : (t : Bool) (x : WroteWave) → BadSound ≡ x → BadSound ≡ guard t BadSound x
+unfolding guard
+refuses-all-the-same true x e = e
+refuses-all-the-same false x e = refl
 
 -- ---- a file that is written: what was tested
 
