@@ -8,8 +8,9 @@ import re
 import subprocess
 
 # Words of an error that says only that a proof no longer fits the text.
-SHAPE = re.compile(r'that can be named|has no field|is not in scope|is not defined|does not exist|no constructor|has no `')
+SHAPE = re.compile(r'that can be named|this is applied to an argument|has no field|is not in scope|is not defined|does not exist|no constructor|has no `')
 WAITS = 'was not admitted'
+FALSE = 'false at some values'
 
 
 class Body:
@@ -87,7 +88,7 @@ def judge(crate, function, log):
     if search:
         goals = re.findall(r'`([^`]+)`', search.group(1))
         false = [it for it in goals if re.search(rf'\(`{re.escape(it)}`\); the facts known there allow values at which', log)]
-        return REFUSED, f'{false[0]}, false at some values' if false else ', '.join(goals)
+        return REFUSED, f'{false[0]}, {FALSE}' if false else ', '.join(goals)
     folder = re.escape('proofs/' + function.replace('::', '/') + '/')
     # an error goes on over the lines that are set in
     errors = re.findall(rf'^(?:\./)?{folder}([^/\s]+: error: .*(?:\n[ \t].*)*)', log, re.M)
@@ -102,9 +103,10 @@ def judge(crate, function, log):
 
 
 def sum_of(crate):
-    """A sum of the crate's texts and edits, and of the kit."""
+    """A sum of the crate's code, definitions and edits, and of the kit: that a wrong body breaks its
+    contract doesn't rest on the right one's proof."""
     sum = hashlib.sha256(subprocess.run(['rt', 'version'], stdout=subprocess.PIPE, check=True).stdout)
-    for part in ('src', 'specs', 'proofs', 'must-fail'):
+    for part in ('src', 'specs', 'must-fail'):
         for at, folders, files in os.walk(f'crates/{crate}/{part}'):
             folders.sort()
             for name in sorted(files):
