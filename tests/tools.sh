@@ -1,6 +1,6 @@
-# Each tool of tools/ tells how it is used and stands in tools/README.md; those that cost little are run: repeats, wrap and rests on the tree, rests on a crate
-# of three small files, skel and paths on a crate of one function. staticlib, the gate and the host's build script, which prove for minutes, are run over a
-# stand-in for rt that proves nothing and writes down what it was asked.
+# Each tool of tools/ tells how it is used and stands in tools/README.md; those that cost little are run: repeats and rests on the tree, rests on a crate
+# of three small files, skel, paths and wrap on a crate of five functions, wrap on the tree's wrappers too. staticlib, the gate and the host's build script,
+# which prove for minutes, are run over a stand-in for rt that proves nothing and writes down what it was asked.
 cd "$(dirname "$0")/.." || exit 2
 made=$(mktemp -d) || exit 2
 trap 'rm -rf "$made"' EXIT
@@ -11,10 +11,9 @@ fault() {
     faults=$((faults + 1))
 }
 
+# (a module that several of them read is no tool)
 for tool in tools/*; do
-    case $tool in
-    tools/README.md | tools/*.py | tools/__pycache__) continue ;; # a file that ends in .py is a part of tools, and none itself
-    esac
+    [ -f "$tool" ] && [[ $tool != tools/README.md && $tool != *.py ]] || continue
     [ -x "$tool" ] || fault "$tool cannot be run"
     said=$("$tool" -h 2>&1)
     status=$?
@@ -30,15 +29,6 @@ rows=$(tools/repeats --rows 3 | grep -cE '^ *[0-9]+ lines (the same|alike) +crat
 [ "$rows" -eq 3 ] || fault "tools/repeats --rows 3 prints $rows rows"
 [ "$(tools/repeats --lines 9999)" = "no 9999 lines alike" ] || fault "tools/repeats finds 9999 lines alike"
 tools/repeats no_such_crate >/dev/null 2>&1 && fault "tools/repeats takes a crate that is not there"
-
-# A walk in the tree is what wrap writes.
-walk() { # FUNCTION CALLEE SPEC PARAMS
-    tools/wrap turns "in_place.$1" "in_place.$2" ring.Ring ring.Turned "InPlace.$3" "$4" struct:in_place.Report:reportOf:1,2,3,4 |
-        cmp -s - "crates/turns/proofs/in_place/$1/Proof.antt" || fault "tools/wrap does not write the walk of $1 as it stands"
-}
-walk drain_in_place drain_words drainWords kind:32,slot:32,status:32
-walk turn_in_place turn_words turnWords frames:slice,kind:32,slot:32,status:32
-tools/wrap turns a b c d E.f kind:33 unit >/dev/null 2>&1 && fault "tools/wrap takes a number of 33 bits"
 
 # What a theorem rests on: 4 lines of a type, 4 of two definitions, and a record of 2 in a file of laws. A comment, a proof and what only the proof mentions
 # do not count, nor does a field or a variable that has a definition's name; a type that another file hands on counts where it stands. A contract rests on
@@ -113,7 +103,7 @@ for path in $(tools/rests --demand | grep -oE 'crates/\w+/specs/\w+\.antt' | sor
     grep -q "$(basename "$path")" README.md || fault "README.md, an hour's reading, does not name $path, on which demand 3 rests"
 done
 
-for tool in skel paths; do
+for tool in skel paths wrap; do
     tools/$tool no_such_crate f >/dev/null 2>&1 && fault "tools/$tool takes a crate that is not there"
 done
 
@@ -137,7 +127,7 @@ cat >"$stand/kit/bin/rt" <<'RT'
 [ "$1" = version ] && cat "$STAND/kit/KIT-ID" && exit
 name=$(basename "$PWD")
 kit=$(dirname "$(dirname "$(readlink -f "$0")")")
-echo "$1 $name" >>"$STAND/asked"
+echo "$1 $name${2:+ ${*:2}}" >>"$STAND/asked"
 case $1 in
 check) echo "rt: chose --jobs 2 for base" && exit "$(cat "$STAND/check")" ;;
 lib) mkdir -p out && printf '!<arch>\nsnd_new\0' >"out/lib$name.a" && "$kit/toolchain/bin/clang" -x ir module.bc && echo "fn f: proved" ;;
@@ -159,7 +149,11 @@ chmod +x "$stand/kit/bin/rt"
 # staticlib tells what it is about to do, then has the crate proved that it is for, with those below, then makes the archive.
 afresh
 said=$(beside "$stand/repo/tools/staticlib") || fault "tools/staticlib fails over a stand-in for rt: $said"
-[ "$(cat "$stand/asked")" = $'check console\nlib console' ] || fault "tools/staticlib asks rt for other than the proof, then the archive: $(cat "$stand/asked")"
+case $machine in
+x86_64) lib="lib console --cpu x86-64" ;;
+*) lib="lib console --target aarch64-unknown-linux-gnu" ;;
+esac
+[ "$(cat "$stand/asked")" = "check console"$'\n'"$lib" ] || fault "tools/staticlib asks rt for other than the proof, then the archive: $(cat "$stand/asked")"
 [ "$(head -n 1 <<<"$said")" = "tools/staticlib: proves 4 crates, console last; one that has not changed since it was proved here is not proved again" ] ||
     fault "tools/staticlib does not say first how many crates it proves: $said"
 takes=$(sed -nE 's/^tools\/staticlib: from nothing that takes (about [0-9]+ minutes on two cores) .*/\1/p' <<<"$said")
@@ -175,7 +169,7 @@ if [ "$machine" = x86_64 ]; then
 fi
 afresh
 said=$(beside "$stand/repo/tools/staticlib" alone) || fault "tools/staticlib fails of a crate with none below it: $said"
-[ "$(cat "$stand/asked")" = $'check alone\nlib alone' ] && [ "$(head -n 1 <<<"$said" | cut -d, -f1)" = "tools/staticlib: proves 1 crates" ] ||
+[ "$(cat "$stand/asked")" = "check alone"$'\n'"${lib/console/alone}" ] && [ "$(head -n 1 <<<"$said" | cut -d, -f1)" = "tools/staticlib: proves 1 crates" ] ||
     fault "tools/staticlib proves other crates than the one that has none below it: $(cat "$stand/asked") $said"
 afresh
 echo 3 >"$stand/check"
@@ -278,21 +272,92 @@ if command -v rustc >/dev/null; then
     beside setsid -w "${build[@]}" >/dev/null && [ -e "$stand/asked" ] || fault "the build script makes no archive where a proved source is newer"
 fi
 
+# A sum that may wrap, two thin wrappers over a record behind `&mut`, and a third that answers another number than it promises.
 if command -v rt >/dev/null; then
-    mkdir -p "$made/tools" "$made/crates/small/src"
-    cp tools/skel tools/paths "$made/tools"
+    mkdir -p "$made/tools" "$made/crates/small/src" "$made/.git"
+    cp tools/skel tools/paths tools/wrap "$made/tools"
     echo "small:" >"$made/crates.txt"
-    printf 'pub fn sum(a: u64, b: u64) -> u64 {\n    if a < b {\n        return b;\n    }\n    a + b\n}\n' >"$made/crates/small/src/lib.rt"
+    cat >"$made/crates/small/src/lib.rt" <<'RT'
+#![tactic(auto)]
+
+ghost use Rattle.std.specs.Prelude.{◌≡◌};
+
+pub fn sum(a: u64, b: u64) -> u64 {
+    if a < b {
+        return b;
+    }
+    a + b
+}
+
+#[derive(Clone, Copy)]
+pub struct Ring {
+    pub last: u32,
+}
+
+#[derive(Clone, Copy)]
+pub struct Turned {
+    pub ring: Ring,
+    pub said: u32,
+}
+
+fn turn(r: Ring, n: u32) -> Turned
+    ensures last { result.ring.last ≡ n }
+    ensures said { result.said ≡ r.last }
+{
+    Turned {
+        ring: Ring { last: n },
+        said: r.last,
+    }
+}
+
+pub fn turn_in_place(ring: &mut Ring, n: u32) -> u32
+    ensures last { ring.new.last ≡ n }
+    ensures said { result ≡ ring.old.last }
+{
+    let t = turn(*ring, n);
+    *ring = t.ring;
+    t.said
+}
+
+impl Ring {
+    pub fn advance(&mut self, n: u32) -> Turned
+        ensures last { self.new.last ≡ n }
+        ensures said { result.said ≡ self.old.last }
+    {
+        let t = turn(*self, n);
+        *self = t.ring;
+        t
+    }
+}
+
+pub fn wrong_in_place(ring: &mut Ring, n: u32) -> u32
+    ensures { result ≡ ring.old.last }
+{
+    let t = turn(*ring, n);
+    *ring = t.ring;
+    t.ring.last
+}
+RT
+    said=$(tools/wrap turns in_place.turn_in_place in_place.drain_in_place in_place.turn_lent 2>&1) || fault "tools/wrap: a wrapper of the tree is not walked: $said"
+    said=$("$made/tools/wrap" small turn_in_place Ring.advance 2>&1) || fault "tools/wrap: Rattle does not walk a thin wrapper: $said"
+    [ "$said" = "small: turn_in_place, Ring.advance: walked by Rattle, and proved" ] || fault "tools/wrap says otherwise of two wrappers: $said"
+    "$made/tools/wrap" small wrong_in_place >/dev/null 2>&1 && fault "tools/wrap takes a wrapper that does not keep its promise"
+    mkdir -p "$made/crates/small/proofs/turn_in_place" && : >"$made/crates/small/proofs/turn_in_place/Proof.antt"
+    said=$("$made/tools/wrap" small turn_in_place 2>&1) && fault "tools/wrap takes a walk by hand"
+    grep -q 'crates/small/proofs/turn_in_place/Proof.antt is a walk by hand' <<<"$said" || fault "tools/wrap does not say where a walk by hand stands: $said"
+    rm -r "$made/crates/small/proofs"
     said=$("$made/tools/skel" small 2>&1) && fault "tools/skel: a sum that may wrap is proved"
-    grep -q '^wrote: crates/small/proofs/sum/Proof.antt$' <<<"$said" || fault "tools/skel wrote no skeleton: $said"
-    grep -q '= ?$' "$made/crates/small/proofs/sum/Proof.antt" || fault "the skeleton that tools/skel wrote has no hole"
+    grep -q '^wrote: crates/small/proofs/sum/Answers.antt$' <<<"$said" || fault "tools/skel wrote no skeleton: $said"
+    grep -q '= ?$' "$made/crates/small/proofs/sum/Answers.antt" || fault "the skeleton that tools/skel wrote has no hole"
+    [ ! -e "$made/crates/small/proofs/turn" ] || fault "tools/skel writes a file where Rattle makes the proof"
     said=$("$made/tools/paths" small sum)
-    grep -qE '^Need-add\S* 0:if1\(left\) .*Start$' <<<"$said" || fault "tools/paths does not show the branch before the sum: $said"
+    grep -A 9 '^overflow_add' <<<"$said" | grep -q '^  c\.if-a-b: \.false$' || fault "tools/paths does not show the branch before the sum: $said"
+    grep -A 9 '^returns-then' <<<"$said" | grep -q '^  c\.if-a-b: \.true$' || fault "tools/paths does not show the branch before the first return: $said"
     "$made/tools/paths" small none >/dev/null 2>&1 && fault "tools/paths shows a function that is not there"
 fi
 
 [ $faults -eq 0 ] || exit 1
 if ! command -v rt >/dev/null; then
-    echo "rt is not on the PATH: skel and paths were not run"
+    echo "rt is not on the PATH: skel, paths and wrap were not run"
     exit 77
 fi
