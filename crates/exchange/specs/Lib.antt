@@ -43,3 +43,4 @@ pub mod XferLaws
 pub mod ListLaws
 pub mod StepLaws
 pub mod SubmitLaws
+pub mod CaptureMet

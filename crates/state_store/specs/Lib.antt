@@ -27,3 +27,4 @@ pub mod RefusedLaws
 pub mod FinishLaws
 pub mod TokenLaws
 pub mod SubmitLaws
+pub mod WrittenOnly
