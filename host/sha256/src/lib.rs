@@ -1,7 +1,13 @@
-//! SHA-256 (FIPS 180-4), so that a run can say which bytes it had before it. Without the feature `alloc` it needs no allocator.
+//! SHA-256 (FIPS 180-4), so that a run can say which bytes it had before it. With the feature `std` it uses the processor's own instructions for it, where
+//! they are there; without `alloc` it needs no allocator.
 #![no_std]
-#![forbid(unsafe_code)]
+#![deny(unsafe_code)]
 #![deny(clippy::unwrap_used, clippy::expect_used, clippy::panic, clippy::indexing_slicing)]
+
+#[cfg(feature = "std")]
+extern crate std;
+#[cfg(all(feature = "std", target_arch = "x86_64"))]
+mod instructions;
 
 #[cfg(feature = "alloc")]
 extern crate alloc;
@@ -65,12 +71,10 @@ impl Sha256 {
         let (filling, after) = bytes.split_at(bytes.len().min(64 - held));
         fill(self.rest.iter_mut().skip(held), filling);
         if held + filling.len() == 64 {
-            block(&mut self.state, &self.rest);
+            take(&mut self.state, &[self.rest]);
         }
         let (blocks, rest) = after.as_chunks();
-        for whole in blocks {
-            block(&mut self.state, whole);
-        }
+        take(&mut self.state, blocks);
         // there is none where the block before was not filled
         fill(self.rest.iter_mut(), rest);
     }
@@ -116,6 +120,21 @@ pub fn hex(bytes: &[u8]) -> String {
     sum(bytes).to_string()
 }
 
+/// Takes whole blocks: by the processor's instructions, or one round after the other.
+fn take(state: &mut [u32; 8], blocks: &[[u8; 64]]) {
+    #[cfg(all(feature = "std", target_arch = "x86_64"))]
+    if instructions::take(state, blocks) {
+        return;
+    }
+    take_plainly(state, blocks);
+}
+
+fn take_plainly(state: &mut [u32; 8], blocks: &[[u8; 64]]) {
+    for whole in blocks {
+        block(state, whole);
+    }
+}
+
 fn fill<'p>(places: impl Iterator<Item = &'p mut u8>, bytes: &[u8]) {
     for (place, byte) in places.zip(bytes) {
         *place = *byte;
@@ -150,4 +169,28 @@ fn round([a, b, c, d, e, f, g, h]: [u32; 8], k: u32, w: u32) -> [u32; 8] {
     let majority = (a & b) ^ (a & c) ^ (b & c);
     let t2 = s0.wrapping_add(majority);
     [t1.wrapping_add(t2), a, b, c, d.wrapping_add(t1), e, f, g]
+}
+
+#[cfg(all(test, feature = "std", target_arch = "x86_64"))]
+mod tests {
+    use super::{START, instructions, take_plainly};
+
+    /// Both ways come to the same, from any state and over any number of blocks.
+    #[test]
+    fn the_instructions_say_the_same() {
+        let (mut by_rounds, mut by_instructions) = (START, START);
+        for count in 0..40 {
+            let blocks = [
+                [count as u8; 64],
+                core::array::from_fn(|at| (at * at + count * 7) as u8),
+            ];
+            let blocks: std::vec::Vec<_> = blocks.into_iter().cycle().take(count).collect();
+            if !instructions::take(&mut by_instructions, &blocks) {
+                std::println!("this processor has no instructions for SHA-256: not tried");
+                return;
+            }
+            take_plainly(&mut by_rounds, &blocks);
+            assert_eq!(by_rounds, by_instructions);
+        }
+    }
 }
