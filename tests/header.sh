@@ -29,37 +29,10 @@ if [ ! -s "$made/theirs" ]; then
     echo "the header's program printed nothing"
     exit 1
 fi
-# what VirtIO 1.3 adds stands last
+# what VirtIO 1.3 adds stands last: the header is that of 1.2
 sed '/^VirtIO 1.3$/,$d' crates/numbers/stdout >"$made/ours"
 if ! diff -u "$made/theirs" "$made/ours"; then
     echo "the lines with - are linux/virtio_snd.h's, those with + ours"
     exit 1
 fi
 echo "$(wc -l <"$made/theirs") lines agree with linux/virtio_snd.h"
-
-# Where the system's header is older than Linux 6.12, a newer one of Debian's backports is taken, which is fetched only where CI=true and is not installed.
-folder=
-grep -q VIRTIO_SND_F_CTLS "$file" || {
-    [ "${CI:-}" = true ] && (
-        mkdir -p "$made/apt/lists" "$made/apt/cache/archives/partial" "$made/apt/new" && cd "$made/apt/new" || exit 1
-        from=$(sed -n 's/^URIs: //p' /etc/apt/sources.list.d/debian.sources 2>/dev/null | head -n 1)
-        key=$(sed -n 's/^Signed-By: //p' /etc/apt/sources.list.d/debian.sources 2>/dev/null | head -n 1)
-        # shellcheck disable=SC1091
-        echo "deb [signed-by=$key] $from $(. /etc/os-release && echo "$VERSION_CODENAME")-backports main" >../sources.list
-        words=(-qq -o "Dir::Etc::sourcelist=$made/apt/sources.list" -o Dir::Etc::sourceparts=- -o "Dir::State::lists=$made/apt/lists" -o "Dir::Cache=$made/apt/cache")
-        apt-get "${words[@]}" update && apt-get "${words[@]}" download linux-libc-dev && dpkg -x ./*.deb .
-    ) >/dev/null 2>&1
-    folder=$made/apt/new/usr/include
-    file=$folder/linux/virtio_snd.h
-}
-if ! grep -qs VIRTIO_SND_F_CTLS "$file"; then
-    echo "no header of Linux 6.12 or later is at hand: the numbers of VirtIO 1.3 were not compared"
-    exit 0
-fi
-gcc -Wall -Werror ${folder:+-I"$folder"} -o "$made/header13" tests/header13.c && "$made/header13" >"$made/theirs" || exit 1
-sed -n '/^VirtIO 1.3$/,$p' crates/numbers/stdout >"$made/ours"
-if ! diff -u "$made/theirs" "$made/ours"; then
-    echo "the lines with - are those of $file, those with + ours"
-    exit 1
-fi
-echo "$(wc -l <"$made/theirs") lines of VirtIO 1.3 agree with the header of Linux 6.12 or later"
