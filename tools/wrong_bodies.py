@@ -102,6 +102,14 @@ def judge(crate, function, log):
     return UNFIT if unfit else EMPTY, ' '.join((unfit or errors or [said])[0].split())[:240]
 
 
+def said(path):
+    """A file but for its comments, and an .antt file but for its imports."""
+    with open(path, encoding='utf-8') as it:
+        lines = it.read().split('\n')
+    left_out = r'\s*--|use ' if path.endswith('.antt') else r'\s*//'
+    return '\n'.join(line for line in lines if not re.match(left_out, line))
+
+
 def sum_of(crate):
     """A sum of the crate's code, definitions and edits, and of the kit: that a wrong body breaks its
     contract doesn't rest on the right one's proof."""
@@ -110,8 +118,7 @@ def sum_of(crate):
         for at, folders, files in os.walk(f'crates/{crate}/{part}'):
             folders.sort()
             for name in sorted(files):
-                with open(f'{at}/{name}', 'rb') as it:
-                    sum.update(f'{at}/{name}\n'.encode() + hashlib.sha256(it.read()).digest())
+                sum.update(f'{at}/{name}\n{said(f"{at}/{name}")}\n'.encode())
     return sum.hexdigest()
 
 
