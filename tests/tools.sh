@@ -196,7 +196,7 @@ mv "$stand/clang" "$stand/kit/toolchain/bin/clang"
 chmod +x "$stand/kit/toolchain/bin/clang"
 printf '%s\n' '#!/bin/sh' 'echo Filesystem' 'echo x 9 9 20480 9 /' >"$stand/bin/df"
 chmod +x "$stand/bin/df"
-early "a full disk" "20 MB are free where crates/ stands: proving may take 4000 MB more"
+early "a full disk" "20 MB are free where crates/ stands: proving may take 3000 MB more"
 rm "$stand/bin/df"
 
 # The gate is of this tree and of this kit: no archive from elsewhere, and a kit of another name is one failure more.
