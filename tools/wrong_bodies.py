@@ -84,7 +84,7 @@ def judge(crate, function, log):
     said = verdict.group(1)
     if said == 'proved':
         return EMPTY, 'NOT REFUSED'
-    search = re.search(r'`search` did not prove (`.*)', said)
+    search = re.search(r'`search` did not prove (`[^;]*)', said)
     if search:
         goals = re.findall(r'`([^`]+)`', search.group(1))
         false = [it for it in goals if re.search(rf'\(`{re.escape(it)}`\); the facts known there allow values at which', log)]
