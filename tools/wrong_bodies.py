@@ -110,12 +110,27 @@ def said(path):
     return '\n'.join(line for line in lines if not re.match(left_out, line))
 
 
+def below(crate):
+    """The crates of the repository that a crate stands on, by crates.txt."""
+    with open('crates.txt', encoding='utf-8') as it:
+        lines = [line.split('#')[0].split(':') for line in it]
+    needs = {line[0].split()[0]: line[1].split() for line in lines if len(line) == 2}
+    found, left = set(), [crate]
+    while left:
+        for name in needs.get(left.pop(), []):
+            if name in needs and name not in found:
+                found.add(name)
+                left.append(name)
+    return sorted(found)
+
+
 def sum_of(crate):
-    """A sum of the crate's code, definitions and edits, and of the kit: that a wrong body breaks its
-    contract doesn't rest on the right one's proof."""
+    """A sum of the code and definitions of the crate and of those below it, of its edits and of the kit:
+    that a wrong body breaks its contract doesn't rest on the right one's proof."""
     sum = hashlib.sha256(subprocess.run(['rt', 'version'], stdout=subprocess.PIPE, check=True).stdout)
-    for part in ('src', 'specs', 'must-fail'):
-        for at, folders, files in os.walk(f'crates/{crate}/{part}'):
+    parts = [f'{name}/{part}' for name in below(crate) for part in ('src', 'specs')]
+    for part in parts + [f'{crate}/{part}' for part in ('src', 'specs', 'must-fail')]:
+        for at, folders, files in os.walk(f'crates/{part}'):
             folders.sort()
             for name in sorted(files):
                 sum.update(f'{at}/{name}\n{said(f"{at}/{name}")}\n'.encode())
