@@ -7,89 +7,74 @@ use mathlib.Core.List.{[], ◌∷◌}
 use Prim.Native.Nat.{ℕ}
 use lib.Dec.{eqb}
 use lib.ListN.{get_or}
+use Rattle.std.specs.Prelude.{Result, Ok, Err}
 use Rattle.codes.specs.Says.{Says, pick}
 use Rattle.codes.specs.SaysLaws.{same, one}
-use Rattle.codes.specs.Formats.{format_number, says_format}
-use Rattle.codes.specs.Rates.{rate_number, says_rate, place_of}
-use Rattle.codes.specs.Flags.{says_bit}
-use Rattle.codes.specs.Events.{event_codes_of, event_code, says_kind}
-use Rattle.codes.specs.Requests.{request_codes, request_code, says_request}
+use Rattle.codes.specs.ResultLaws.{one-result}
+use Rattle.codes.specs.Formats.{format_number}
+use Rattle.codes.specs.Rates.{rate_number, place_of}
+use Rattle.codes.specs.Events.{event_codes_of, event_code}
+use Rattle.codes.specs.Requests.{request_codes, request_code}
 use Rattle.codes.specs.Statuses.{status_codes, status_code, says_status}
-use Rattle.codes.specs.Versions.{version_number, says_version}
+use Rattle.codes.specs.Versions.{version_number}
 use Rattle.codes.specs.declared.formats.PcmFormat.{PcmFormat}
 use Rattle.codes.specs.declared.formats.PcmFormat.TheVariants.{ImaAdpcm, MuLaw, ALaw, S8, U8, S16, U16, S18_3, U18_3, S20_3, U20_3, S24_3, U24_3, S20, U20, S24, U24, S32, U32, FLOAT, FLOAT64, DsdU8, DsdU16, DsdU32, Iec958Subframe}
-use Rattle.codes.specs.declared.formats.FoundFormat.{FoundFormat}
-use Rattle.codes.specs.declared.formats.FoundFormat.TheVariants as found_format
 use Rattle.codes.specs.declared.rates.PcmRate.{PcmRate}
 use Rattle.codes.specs.declared.rates.PcmRate.TheVariants.{Rate5512, Rate8000, Rate11025, Rate16000, Rate22050, Rate32000, Rate44100, Rate48000, Rate64000, Rate88200, Rate96000, Rate176400, Rate192000, Rate384000}
-use Rattle.codes.specs.declared.rates.FoundRate.{FoundRate}
-use Rattle.codes.specs.declared.rates.FoundRate.TheVariants as found_rate
 use Rattle.codes.specs.declared.events.NotificationType.{NotificationType}
 use Rattle.codes.specs.declared.events.NotificationType.TheVariants.{JackConnected, JackDisconnected, PcmPeriodElapsed, PcmXrun, CtlNotify}
-use Rattle.codes.specs.declared.events.FoundNotification.{FoundNotification}
-use Rattle.codes.specs.declared.events.FoundNotification.TheVariants as found_kind
 use Rattle.codes.specs.declared.requests.RequestCode.{RequestCode}
 use Rattle.codes.specs.declared.requests.RequestCode.TheVariants.{RJackInfo, RJackRemap, RPcmInfo, RPcmSetParams, RPcmPrepare, RPcmRelease, RPcmStart, RPcmStop, RChmapInfo}
-use Rattle.codes.specs.declared.requests.FoundRequest.{FoundRequest}
-use Rattle.codes.specs.declared.requests.FoundRequest.TheVariants as found_request
 use Rattle.codes.specs.declared.statuses.StatusCode.{StatusCode}
 use Rattle.codes.specs.declared.statuses.StatusCode.TheVariants.{SOk, SBadMsg, SNotSupp, SIoErr}
-use Rattle.codes.specs.declared.statuses.FoundStatus.{FoundStatus}
-use Rattle.codes.specs.declared.statuses.FoundStatus.TheVariants as found_status
+use Rattle.codes.specs.declared.statuses.UnknownStatus.{UnknownStatus}
 use Rattle.codes.specs.declared.versions.Version.{Version}
 use Rattle.codes.specs.declared.versions.Version.TheVariants.{V12, V13}
-use Rattle.codes.specs.declared.versions.FoundVersion.{FoundVersion}
-use Rattle.codes.specs.declared.versions.FoundVersion.TheVariants as found_version
-use Rattle.codes.specs.declared.flags.FoundBit.{FoundBit}
-use Rattle.codes.specs.declared.flags.FoundBit.TheVariants as found_bit
 use Rattle.codes.specs.declared.flags.JackFeatures.{JackFeatures}
 use Rattle.codes.specs.declared.flags.PcmFeatures.{PcmFeatures}
 use Rattle.codes.specs.declared.flags.PcmFormats.{PcmFormats}
 use Rattle.codes.specs.declared.flags.PcmRates.{PcmRates}
 use Rattle.codes.proofs.formats.PcmFormat.number.Reads as format-number
-use Rattle.codes.proofs.formats.PcmFormat.from_number.Reads as format-from-number
+use Rattle.codes.proofs.formats.PcmFormatTryFromU8.try_from.Reads as format-from-number
 use Rattle.codes.proofs.rates.PcmRate.number.Reads as rate-number
-use Rattle.codes.proofs.rates.PcmRate.from_number.Reads as rate-from-number
+use Rattle.codes.proofs.rates.PcmRateTryFromU8.try_from.Reads as rate-from-number
 use Rattle.codes.proofs.formats.PcmFormat.sample_bits.Reads as sample-bits
 use Rattle.codes.proofs.formats.PcmFormat.storage_bits.Reads as storage-bits
 use Rattle.codes.proofs.rates.PcmRate.hz.Reads as rate-hz
 use Rattle.codes.proofs.rates.PcmRate.from_hz.Reads as rate-from-hz
 use Rattle.codes.proofs.events.NotificationType.code.Reads as kind-code
-use Rattle.codes.proofs.events.NotificationType.from_code.Reads as kind-from-code
+use Rattle.codes.proofs.events.NotificationTypeTryFromU32.try_from.Reads as kind-from-code
 use Rattle.codes.proofs.events.NotificationType.from_code_in.Reads as kind-from-code-in
 use Rattle.codes.proofs.requests.RequestCode.code.Reads as request-code
-use Rattle.codes.proofs.requests.RequestCode.from_code.Reads as request-from-code
+use Rattle.codes.proofs.requests.RequestCodeTryFromU32.try_from.Reads as request-from-code
 use Rattle.codes.proofs.statuses.StatusCode.code.Reads as status-code
-use Rattle.codes.proofs.statuses.StatusCode.from_code.Reads as status-from-code
-use Rattle.codes.proofs.statuses.FoundStatus.is_ok.Reads as status-is-ok
+use Rattle.codes.proofs.statuses.StatusCodeTryFromU32.try_from.Reads as status-from-code
+use Rattle.codes.proofs.statuses.status_is_ok.Reads as status-is-ok
 use Rattle.codes.proofs.life.permits.Reads as permits
 use Rattle.codes.proofs.life.takes.Reads as takes
 use Rattle.codes.proofs.tests.both.Reads as both
 use Rattle.codes.proofs.versions.Version.number.Reads as version-number
-use Rattle.codes.proofs.versions.Version.from_number.Reads as version-from-number
+use Rattle.codes.proofs.versions.VersionTryFromU32.try_from.Reads as version-from-number
 use Rattle.codes.proofs.versions.has_controls.Reads as has-controls
 use Rattle.codes.proofs.flags.DeviceFeatures.has_ctls.Reads as device-features-has-ctls
 use Rattle.codes.proofs.flags.JackFeatures.from_bits_retain.Reads as jack-features-from-bits-retain
 use Rattle.codes.proofs.flags.JackFeatures.has_remap.Reads as jack-features-has-remap
 use Rattle.codes.proofs.flags.PcmFeatures.from_bits_retain.Reads as features-from-bits-retain
-use Rattle.codes.proofs.flags.PcmFeatures.from_feature.Reads as features-from-feature
+use Rattle.codes.proofs.flags.PcmFeaturesFromPcmFeature.from.Reads as features-from-feature
 use Rattle.codes.proofs.flags.PcmFeatures.contains.Reads as features-contains
 use Rattle.codes.proofs.flags.PcmFormats.from_bits_retain.Reads as formats-from-bits-retain
-use Rattle.codes.proofs.flags.PcmFormats.from_format.Reads as formats-from-format
+use Rattle.codes.proofs.flags.PcmFormatsFromPcmFormat.from.Reads as formats-from-format
 use Rattle.codes.proofs.flags.PcmFormats.from_number.Reads as formats-from-number
 use Rattle.codes.proofs.flags.PcmFormats.contains.Reads as formats-contains
 use Rattle.codes.proofs.flags.PcmRates.from_bits_retain.Reads as rates-from-bits-retain
-use Rattle.codes.proofs.flags.PcmRates.from_rate.Reads as rates-from-rate
+use Rattle.codes.proofs.flags.PcmRatesFromPcmRate.from.Reads as rates-from-rate
 use Rattle.codes.proofs.flags.PcmRates.from_number.Reads as rates-from-number
 use Rattle.codes.proofs.flags.PcmRates.contains.Reads as rates-contains
 use Rattle.codes.proofs.answers.Refusal.number.Reads as refusal-number
 use Rattle.codes.proofs.answers.Refusal.word.Reads as refusal-word
 use Rattle.codes.proofs.answers.Cause.word.Reads as cause-word
 
--- ---- the way back from what is said to what was returned: number 0 is the case found by its value; any other is the refusal
-
-abbrev answer : {A B : Type 0} → (A → B) → B → (ℕ → A) → Says → B
-answer is refusal of s = pick (eqb s.number 0) (is (of (get_or s.values 0 0))) refusal
+-- ---- the way back from what is said to what was returned: the case is found by its value; refusals are the same law for all (`one-result`)
 
 format_of : ℕ → PcmFormat
 format_of n = get_or (ImaAdpcm ∷ MuLaw ∷ ALaw ∷ S8 ∷ U8 ∷ S16 ∷ U16 ∷ S18_3 ∷ U18_3 ∷ S20_3 ∷ U20_3 ∷ S24_3 ∷ U24_3 ∷ S20 ∷ U20 ∷ S24 ∷ U24 ∷ S32 ∷ U32 ∷ FLOAT ∷ FLOAT64 ∷ DsdU8 ∷ DsdU16 ∷ DsdU32 ∷ Iec958Subframe ∷ []) n ImaAdpcm
@@ -122,10 +107,6 @@ format-of DsdU16 = refl
 format-of DsdU32 = refl
 format-of Iec958Subframe = refl
 
-format-answer : (a : FoundFormat) → answer found_format.Is found_format.InvalidParam format_of (says_format a) ≡ a
-format-answer (found_format.Is c) = ap found_format.Is (format-of c)
-format-answer found_format.InvalidParam = refl
-
 rate_of : ℕ → PcmRate
 rate_of n = get_or (Rate5512 ∷ Rate8000 ∷ Rate11025 ∷ Rate16000 ∷ Rate22050 ∷ Rate32000 ∷ Rate44100 ∷ Rate48000 ∷ Rate64000 ∷ Rate88200 ∷ Rate96000 ∷ Rate176400 ∷ Rate192000 ∷ Rate384000 ∷ []) n Rate5512
 
@@ -146,10 +127,6 @@ rate-of Rate176400 = refl
 rate-of Rate192000 = refl
 rate-of Rate384000 = refl
 
-rate-answer : (a : FoundRate) → answer found_rate.Is found_rate.InvalidParam rate_of (says_rate a) ≡ a
-rate-answer (found_rate.Is c) = ap found_rate.Is (rate-of c)
-rate-answer found_rate.InvalidParam = refl
-
 pub kind_of : ℕ → NotificationType
 kind_of n = get_or (JackConnected ∷ JackDisconnected ∷ PcmPeriodElapsed ∷ PcmXrun ∷ CtlNotify ∷ []) (place_of n (event_codes_of true)) JackConnected
 
@@ -160,10 +137,6 @@ kind-of JackDisconnected = refl
 kind-of PcmPeriodElapsed = refl
 kind-of PcmXrun = refl
 kind-of CtlNotify = refl
-
-kind-answer : (a : FoundNotification) → answer found_kind.Is found_kind.IoError kind_of (says_kind a) ≡ a
-kind-answer (found_kind.Is c) = ap found_kind.Is (kind-of c)
-kind-answer found_kind.IoError = refl
 
 request_of : ℕ → RequestCode
 request_of n = get_or (RJackInfo ∷ RJackRemap ∷ RPcmInfo ∷ RPcmSetParams ∷ RPcmPrepare ∷ RPcmRelease ∷ RPcmStart ∷ RPcmStop ∷ RChmapInfo ∷ []) (place_of n request_codes) RJackInfo
@@ -180,10 +153,6 @@ request-of RPcmStart = refl
 request-of RPcmStop = refl
 request-of RChmapInfo = refl
 
-request-answer : (a : FoundRequest) → answer found_request.Is found_request.InvalidParam request_of (says_request a) ≡ a
-request-answer (found_request.Is c) = ap found_request.Is (request-of c)
-request-answer found_request.InvalidParam = refl
-
 status_of : ℕ → StatusCode
 status_of n = get_or (SOk ∷ SBadMsg ∷ SNotSupp ∷ SIoErr ∷ []) (place_of n status_codes) SOk
 
@@ -194,13 +163,13 @@ status-of SBadMsg = refl
 status-of SNotSupp = refl
 status-of SIoErr = refl
 
-found_of : Says → FoundStatus
-found_of s = pick (eqb s.number 0) (found_status.Is (status_of (get_or s.values 0 0))) (found_status.Unknown (get_or s.values 0 0))
+found_of : Says → Result StatusCode UnknownStatus
+found_of s = pick (eqb s.number 0) (Ok (status_of (get_or s.values 0 0))) (Err (record { word = get_or s.values 0 0 }))
 
-status-answer : (a : FoundStatus) → found_of (says_status a) ≡ a
+status-answer : (a : Result StatusCode UnknownStatus) → found_of (says_status a) ≡ a
 unfolding found_of
-status-answer (found_status.Is c) = ap found_status.Is (status-of c)
-status-answer (found_status.Unknown n) = refl
+status-answer (Ok c) = ap Ok (status-of c)
+status-answer (Err u) = refl
 
 version_of : ℕ → Version
 version_of n = pick (eqb n 0x0102) V12 V13
@@ -210,27 +179,19 @@ unfolding version_of
 version_of_lem V12 = refl
 version_of_lem V13 = refl
 
-version-answer : (a : FoundVersion) → answer found_version.Is found_version.InvalidParam version_of (says_version a) ≡ a
-version-answer (found_version.Is c) = ap found_version.Is (version_of_lem c)
-version-answer found_version.InvalidParam = refl
-
-bit-answer : (a : FoundBit) → answer found_bit.Is found_bit.InvalidParam (λ b. b) (says_bit a) ≡ a
-bit-answer (found_bit.Is b) = refl
-bit-answer found_bit.InvalidParam = refl
-
 -- ---- one outcome
 
 pub format-number-one : (κs : _) (a : _) (r₁ r₂ : _) (e₁ e₂ : _) → format-number.Post κs a r₁ e₁ → format-number.Post κs a r₂ e₂ → r₁ ≡ r₂
 format-number-one κs a r₁ r₂ e₁ e₂ p q = same p q
 
 pub format-from-number-one : (κs : _) (a : _) (r₁ r₂ : _) (e₁ e₂ : _) → format-from-number.Post κs a r₁ e₁ → format-from-number.Post κs a r₂ e₂ → r₁ ≡ r₂
-format-from-number-one κs a r₁ r₂ e₁ e₂ p q = one says_format (answer found_format.Is found_format.InvalidParam format_of) format-answer p q
+format-from-number-one κs a r₁ r₂ e₁ e₂ p q = one-result (λ c. format_number c ∷ []) (λ vs. format_of (get_or vs 0 0)) format-of p q
 
 pub rate-number-one : (κs : _) (a : _) (r₁ r₂ : _) (e₁ e₂ : _) → rate-number.Post κs a r₁ e₁ → rate-number.Post κs a r₂ e₂ → r₁ ≡ r₂
 rate-number-one κs a r₁ r₂ e₁ e₂ p q = same p q
 
 pub rate-from-number-one : (κs : _) (a : _) (r₁ r₂ : _) (e₁ e₂ : _) → rate-from-number.Post κs a r₁ e₁ → rate-from-number.Post κs a r₂ e₂ → r₁ ≡ r₂
-rate-from-number-one κs a r₁ r₂ e₁ e₂ p q = one says_rate (answer found_rate.Is found_rate.InvalidParam rate_of) rate-answer p q
+rate-from-number-one κs a r₁ r₂ e₁ e₂ p q = one-result (λ c. rate_number c ∷ []) (λ vs. rate_of (get_or vs 0 0)) rate-of p q
 
 pub sample-bits-one : (κs : _) (a : _) (r₁ r₂ : _) (e₁ e₂ : _) → sample-bits.Post κs a r₁ e₁ → sample-bits.Post κs a r₂ e₂ → r₁ ≡ r₂
 sample-bits-one κs a r₁ r₂ e₁ e₂ p q = same p q
@@ -242,22 +203,22 @@ pub rate-hz-one : (κs : _) (a : _) (r₁ r₂ : _) (e₁ e₂ : _) → rate-hz.
 rate-hz-one κs a r₁ r₂ e₁ e₂ p q = same p q
 
 pub rate-from-hz-one : (κs : _) (a : _) (r₁ r₂ : _) (e₁ e₂ : _) → rate-from-hz.Post κs a r₁ e₁ → rate-from-hz.Post κs a r₂ e₂ → r₁ ≡ r₂
-rate-from-hz-one κs a r₁ r₂ e₁ e₂ p q = one says_rate (answer found_rate.Is found_rate.InvalidParam rate_of) rate-answer p q
+rate-from-hz-one κs a r₁ r₂ e₁ e₂ p q = one-result (λ c. rate_number c ∷ []) (λ vs. rate_of (get_or vs 0 0)) rate-of p q
 
 pub kind-code-one : (κs : _) (a : _) (r₁ r₂ : _) (e₁ e₂ : _) → kind-code.Post κs a r₁ e₁ → kind-code.Post κs a r₂ e₂ → r₁ ≡ r₂
 kind-code-one κs a r₁ r₂ e₁ e₂ p q = same p q
 
 pub kind-from-code-one : (κs : _) (a : _) (r₁ r₂ : _) (e₁ e₂ : _) → kind-from-code.Post κs a r₁ e₁ → kind-from-code.Post κs a r₂ e₂ → r₁ ≡ r₂
-kind-from-code-one κs a r₁ r₂ e₁ e₂ p q = one says_kind (answer found_kind.Is found_kind.IoError kind_of) kind-answer p q
+kind-from-code-one κs a r₁ r₂ e₁ e₂ p q = one-result (λ c. event_code c ∷ []) (λ vs. kind_of (get_or vs 0 0)) kind-of p q
 
 pub kind-from-code-in-one : (κs : _) (a : _) (r₁ r₂ : _) (e₁ e₂ : _) → kind-from-code-in.Post κs a r₁ e₁ → kind-from-code-in.Post κs a r₂ e₂ → r₁ ≡ r₂
-kind-from-code-in-one κs a r₁ r₂ e₁ e₂ p q = one says_kind (answer found_kind.Is found_kind.IoError kind_of) kind-answer p q
+kind-from-code-in-one κs a r₁ r₂ e₁ e₂ p q = one-result (λ c. event_code c ∷ []) (λ vs. kind_of (get_or vs 0 0)) kind-of p q
 
 pub request-code-one : (κs : _) (a : _) (r₁ r₂ : _) (e₁ e₂ : _) → request-code.Post κs a r₁ e₁ → request-code.Post κs a r₂ e₂ → r₁ ≡ r₂
 request-code-one κs a r₁ r₂ e₁ e₂ p q = same p q
 
 pub request-from-code-one : (κs : _) (a : _) (r₁ r₂ : _) (e₁ e₂ : _) → request-from-code.Post κs a r₁ e₁ → request-from-code.Post κs a r₂ e₂ → r₁ ≡ r₂
-request-from-code-one κs a r₁ r₂ e₁ e₂ p q = one says_request (answer found_request.Is found_request.InvalidParam request_of) request-answer p q
+request-from-code-one κs a r₁ r₂ e₁ e₂ p q = one-result (λ c. request_code c ∷ []) (λ vs. request_of (get_or vs 0 0)) request-of p q
 
 pub status-code-one : (κs : _) (a : _) (r₁ r₂ : _) (e₁ e₂ : _) → status-code.Post κs a r₁ e₁ → status-code.Post κs a r₂ e₂ → r₁ ≡ r₂
 status-code-one κs a r₁ r₂ e₁ e₂ p q = same p q
@@ -287,7 +248,7 @@ pub formats-from-format-one : (κs : _) (a : _) (r₁ r₂ : _) (e₁ e₂ : _) 
 formats-from-format-one κs a r₁ r₂ e₁ e₂ p q = one (λ (x : PcmFormats). x.bits) (λ b. record { bits = b }) (λ x. refl) p q
 
 pub formats-from-number-one : (κs : _) (a : _) (r₁ r₂ : _) (e₁ e₂ : _) → formats-from-number.Post κs a r₁ e₁ → formats-from-number.Post κs a r₂ e₂ → r₁ ≡ r₂
-formats-from-number-one κs a r₁ r₂ e₁ e₂ p q = one says_bit (answer found_bit.Is found_bit.InvalidParam (λ b. b)) bit-answer p q
+formats-from-number-one κs a r₁ r₂ e₁ e₂ p q = one-result (λ b. b ∷ []) (λ vs. get_or vs 0 0) (λ b. refl) p q
 
 pub formats-contains-one : (κs : _) (a : _) (r₁ r₂ : _) (e₁ e₂ : _) → formats-contains.Post κs a r₁ e₁ → formats-contains.Post κs a r₂ e₂ → r₁ ≡ r₂
 formats-contains-one κs a r₁ r₂ e₁ e₂ p q = same p q
@@ -299,7 +260,7 @@ pub rates-from-rate-one : (κs : _) (a : _) (r₁ r₂ : _) (e₁ e₂ : _) → 
 rates-from-rate-one κs a r₁ r₂ e₁ e₂ p q = one (λ (x : PcmRates). x.bits) (λ b. record { bits = b }) (λ x. refl) p q
 
 pub rates-from-number-one : (κs : _) (a : _) (r₁ r₂ : _) (e₁ e₂ : _) → rates-from-number.Post κs a r₁ e₁ → rates-from-number.Post κs a r₂ e₂ → r₁ ≡ r₂
-rates-from-number-one κs a r₁ r₂ e₁ e₂ p q = one says_bit (answer found_bit.Is found_bit.InvalidParam (λ b. b)) bit-answer p q
+rates-from-number-one κs a r₁ r₂ e₁ e₂ p q = one-result (λ b. b ∷ []) (λ vs. get_or vs 0 0) (λ b. refl) p q
 
 pub rates-contains-one : (κs : _) (a : _) (r₁ r₂ : _) (e₁ e₂ : _) → rates-contains.Post κs a r₁ e₁ → rates-contains.Post κs a r₂ e₂ → r₁ ≡ r₂
 rates-contains-one κs a r₁ r₂ e₁ e₂ p q = same p q
@@ -329,7 +290,7 @@ pub version-number-one : (κs : _) (a : _) (r₁ r₂ : _) (e₁ e₂ : _) → v
 version-number-one κs a r₁ r₂ e₁ e₂ p q = same p q
 
 pub version-from-number-one : (κs : _) (a : _) (r₁ r₂ : _) (e₁ e₂ : _) → version-from-number.Post κs a r₁ e₁ → version-from-number.Post κs a r₂ e₂ → r₁ ≡ r₂
-version-from-number-one κs a r₁ r₂ e₁ e₂ p q = one says_version (answer found_version.Is found_version.InvalidParam version_of) version-answer p q
+version-from-number-one κs a r₁ r₂ e₁ e₂ p q = one-result (λ c. version_number c ∷ []) (λ vs. version_of (get_or vs 0 0)) version_of_lem p q
 
 pub has-controls-one : (κs : _) (a : _) (r₁ r₂ : _) (e₁ e₂ : _) → has-controls.Post κs a r₁ e₁ → has-controls.Post κs a r₂ e₂ → r₁ ≡ r₂
 has-controls-one κs a r₁ r₂ e₁ e₂ p q = same p q

@@ -1,6 +1,6 @@
 -- "What a call says": document 01's names and numbers. 0 is Ok, and is no refusal. Later requests add refusals and values; no promise depends on the list being closed.
 -- Assumes nothing.
-use Rattle.std.specs.Prelude.{List, [], ◌∷◌, ℕ, ◌+◌, ◌*◌}
+use Rattle.std.specs.Prelude.{List, [], ◌∷◌, ℕ, ◌+◌, ◌*◌, Result, Ok, Err}
 use Rattle.codes.specs.Says.{Says, says}
 use Rattle.codes.specs.declared.answers.Cause.{Cause}
 use Rattle.codes.specs.declared.answers.Cause.TheVariants as cause
@@ -29,6 +29,11 @@ says_refusal refusal.BadState = says 12 []
 says_refusal refusal.Full = says 15 []
 says_refusal refusal.NotYet = says 16 []
 says_refusal refusal.BadCapture = says 17 []
+
+-- what a call that may be refused says: 0 and its values, or its refusal
+abbrev pub says_result : {A : Type 0} → (A → List ℕ) → Result A Refusal → Says
+says_result values (Ok a) = says 0 (values a)
+says_result values (Err r) = says_refusal r
 
 -- ---- at the C boundary: of 2 and 3 the device's word stands in the high half, and 0x8000 where none caused it (0x8000 is ok and causes none, and 0 may);
 -- of every other refusal the high half is 0

@@ -1,12 +1,12 @@
 -- "An event of 8 bytes with code 0x1000, 0x1001, 0x1100 or 0x1101 gives its kind and data. Another code gives 2."
 -- Request 2026-08: "an event 0x1200 for a control change", in 1.3 with control elements; elsewhere "0x1200 stays IoError".
 -- Assumes nothing.
-use Rattle.std.specs.Prelude.{Bool, List, [], ◌∷◌, ◌++◌, ℕ}
-use Rattle.codes.specs.Says.{Says, says, pick}
+use Rattle.std.specs.Prelude.{Bool, List, [], ◌∷◌, ◌++◌, ℕ, Result}
+use Rattle.codes.specs.Says.{Says, pick}
+use Rattle.codes.specs.Answers.{says_result}
 use Rattle.codes.specs.declared.events.NotificationType.{NotificationType}
 use Rattle.codes.specs.declared.events.NotificationType.TheVariants.{JackConnected, JackDisconnected, PcmPeriodElapsed, PcmXrun, CtlNotify}
-use Rattle.codes.specs.declared.events.FoundNotification.{FoundNotification}
-use Rattle.codes.specs.declared.events.FoundNotification.TheVariants as found
+use Rattle.codes.specs.declared.answers.Refusal.{Refusal}
 
 abbrev pub event_codes : List ℕ
 event_codes = 0x1000 ∷ 0x1001 ∷ 0x1100 ∷ 0x1101 ∷ []
@@ -22,6 +22,5 @@ event_code PcmPeriodElapsed = 0x1100
 event_code PcmXrun = 0x1101
 event_code CtlNotify = 0x1200
 
-abbrev pub says_kind : FoundNotification → Says
-says_kind (found.Is k) = says 0 (event_code k ∷ [])
-says_kind found.IoError = says 2 []
+abbrev pub says_kind : Result NotificationType Refusal → Says
+says_kind = says_result (λ k. event_code k ∷ [])

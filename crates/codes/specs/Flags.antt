@@ -1,11 +1,11 @@
 -- Flag sets: "the stored bits, unknown bits kept". Flag n is bit n; VirtIO 1.2 names the bits, 1 << VIRTIO_SND_*.
 -- Assumes nothing.
-use Rattle.std.specs.Prelude.{Bool, [], ◌∷◌, ℕ, ◌/◌, ◌%◌, ◌^◌, eqb}
-use Rattle.codes.specs.Says.{Says, says}
+use Rattle.std.specs.Prelude.{Bool, [], ◌∷◌, ℕ, ◌/◌, ◌%◌, ◌^◌, eqb, Result}
+use Rattle.codes.specs.Says.{Says}
+use Rattle.codes.specs.Answers.{says_result}
 use Rattle.codes.specs.declared.flags.PcmFeature.{PcmFeature}
 use Rattle.codes.specs.declared.flags.PcmFeature.TheVariants.{ShmemHost, ShmemGuest, MsgPolling, EvtShmemPeriods, EvtXruns}
-use Rattle.codes.specs.declared.flags.FoundBit.{FoundBit}
-use Rattle.codes.specs.declared.flags.FoundBit.TheVariants as found
+use Rattle.codes.specs.declared.answers.Refusal.{Refusal}
 
 -- bit n of a set
 abbrev pub has_bit : ℕ → ℕ → Bool
@@ -27,6 +27,5 @@ feature_number MsgPolling = 2
 feature_number EvtShmemPeriods = 3
 feature_number EvtXruns = 4
 
-abbrev pub says_bit : FoundBit → Says
-says_bit (found.Is b) = says 0 (b ∷ [])
-says_bit found.InvalidParam = says 1 []
+abbrev pub says_bit : Result ℕ Refusal → Says
+says_bit = says_result (λ b. b ∷ [])

@@ -1,11 +1,11 @@
 -- The formats: VirtIO 1.2, 5.14.6.6.2.1, VIRTIO_SND_PCM_FMT_*. "Format numbers run 0 to 24."
 -- Assumes nothing.
-use Rattle.std.specs.Prelude.{List, [], ◌∷◌, ℕ, get_or}
-use Rattle.codes.specs.Says.{Says, says}
+use Rattle.std.specs.Prelude.{List, [], ◌∷◌, ℕ, get_or, Result}
+use Rattle.codes.specs.Says.{Says}
+use Rattle.codes.specs.Answers.{says_result}
 use Rattle.codes.specs.declared.formats.PcmFormat.{PcmFormat}
 use Rattle.codes.specs.declared.formats.PcmFormat.TheVariants.{ImaAdpcm, MuLaw, ALaw, S8, U8, S16, U16, S18_3, U18_3, S20_3, U20_3, S24_3, U24_3, S20, U20, S24, U24, S32, U32, FLOAT, FLOAT64, DsdU8, DsdU16, DsdU32, Iec958Subframe}
-use Rattle.codes.specs.declared.formats.FoundFormat.{FoundFormat}
-use Rattle.codes.specs.declared.formats.FoundFormat.TheVariants as found
+use Rattle.codes.specs.declared.answers.Refusal.{Refusal}
 
 abbrev pub format_number : PcmFormat → ℕ
 format_number ImaAdpcm = 0
@@ -34,9 +34,8 @@ format_number DsdU16 = 22
 format_number DsdU32 = 23
 format_number Iec958Subframe = 24
 
-abbrev pub says_format : FoundFormat → Says
-says_format (found.Is f) = says 0 (format_number f ∷ [])
-says_format found.InvalidParam = says 1 []
+abbrev pub says_format : Result PcmFormat Refusal → Says
+says_format = says_result (λ f. format_number f ∷ [])
 
 -- "A table of the 25 formats gives sample and storage width in bits", by format number; the same stand in the comments of linux/virtio_snd.h (tests/header.sh)
 abbrev pub sample_table : List ℕ

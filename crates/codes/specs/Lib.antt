@@ -20,5 +20,7 @@ pub mod TableLaws
 pub mod RatesLaws
 pub mod FormatsLaws
 pub mod AnswersLaws
+pub mod ResultLaws
 pub mod StatusesLaws
+pub mod RefusalLaws
 pub mod LifeLaws

@@ -1,11 +1,11 @@
 -- The rates: VirtIO 1.2, 5.14.6.6.2.1, VIRTIO_SND_PCM_RATE_*. "Rate numbers 0 to 13", and "Rates in Hz by number".
 -- Assumes nothing.
-use Rattle.std.specs.Prelude.{List, [], ◌∷◌, ℕ, suc, eqb, get_or}
-use Rattle.codes.specs.Says.{Says, says, pick}
+use Rattle.std.specs.Prelude.{List, [], ◌∷◌, ℕ, suc, eqb, get_or, Result}
+use Rattle.codes.specs.Says.{Says, pick}
+use Rattle.codes.specs.Answers.{says_result}
 use Rattle.codes.specs.declared.rates.PcmRate.{PcmRate}
 use Rattle.codes.specs.declared.rates.PcmRate.TheVariants.{Rate5512, Rate8000, Rate11025, Rate16000, Rate22050, Rate32000, Rate44100, Rate48000, Rate64000, Rate88200, Rate96000, Rate176400, Rate192000, Rate384000}
-use Rattle.codes.specs.declared.rates.FoundRate.{FoundRate}
-use Rattle.codes.specs.declared.rates.FoundRate.TheVariants as found
+use Rattle.codes.specs.declared.answers.Refusal.{Refusal}
 
 abbrev pub rate_number : PcmRate → ℕ
 rate_number Rate5512 = 0
@@ -23,9 +23,8 @@ rate_number Rate176400 = 11
 rate_number Rate192000 = 12
 rate_number Rate384000 = 13
 
-abbrev pub says_rate : FoundRate → Says
-says_rate (found.Is r) = says 0 (rate_number r ∷ [])
-says_rate found.InvalidParam = says 1 []
+abbrev pub says_rate : Result PcmRate Refusal → Says
+says_rate = says_result (λ r. rate_number r ∷ [])
 
 -- document 01's table
 abbrev pub hz_table : List ℕ

@@ -1,8 +1,11 @@
 -- The table of rates: its rule, and what a search in it comes to.
 -- Assumes nothing.
-use Rattle.std.specs.Prelude.{◌≡◌, refl, Bool, List, ℕ, suc, ◌+◌, ◌<◌, eqb, length, get_or, drop}
-use Rattle.std.proofs.Common.{add-one, arith, lit<, drop-cons, eq-eqb, ne_eqb, eqb-true}
-use Rattle.codes.specs.SaysLaws.{picks, skips}
+use Rattle.std.specs.Prelude.{◌≡◌, refl, Bool, true, false, cond, List, ℕ, suc, ◌+◌, ◌<◌, eqb, ltb, length, get_or, Some, None, unwrap_or, is_some}
+use Rattle.std.specs.List.{position, position_or_len}
+use Rattle.std.proofs.Common.{sym, ap, ◌∙◌, arith, lit<, eqb-true}
+use Rattle.std.proofs.lemmas.Bool.{false≢true}
+use Rattle.std.proofs.lemmas.List.Recursion.{is_position_or_len}
+use Rattle.codes.specs.Says.{pick}
 use Rattle.codes.specs.TableLaws.{rule}
 use Rattle.codes.specs.Rates.{rate_number, hz_table, hz_of, place_of}
 use Rattle.codes.specs.declared.rates.PcmRate.{PcmRate}
@@ -24,21 +27,33 @@ rate-below Rate176400 = lit< tt
 rate-below Rate192000 = lit< tt
 rate-below Rate384000 = lit< tt
 
--- ---- a search that came to place i: x stands nowhere before it
-abbrev pub Came : ℕ → List ℕ → ℕ → Type 0
-Came x l i = place_of x l ≡ i + place_of x (drop i l)
+-- ---- the first place of x in a table is std's `position`
 
-pub found_here : (x : ℕ) (l : List ℕ) (i : ℕ) → Came x l i → i < length l → get_or l i 0 ≡ x → place_of x l ≡ i
-unfolding place_of
-found_here x l i c h e =
-    let z : place_of x (drop i l) ≡ 0 = rw (drop-cons l i 0 h) (picks _ _ _ (eq-eqb (get_or l i 0) x e)) in
-    omega arith
+cond-is : {A : Type 0} (t : Bool) (a b : A) → pick t a b ≡ cond t a b
+cond-is true a b = refl
+cond-is false a b = refl
 
-pub goes-past : (x : ℕ) (l : List ℕ) (i : ℕ) → Came x l i → i < length l → (get_or l i 0 ≡ x → ⊥) → Came x l (i + 1)
+next : (n : ℕ) → suc n ≡ 1 + n
+next n = omega arith
+
+place-is : (x : ℕ) (l : List ℕ) → place_of x l ≡ position_or_len (λ y. eqb y x) l
 unfolding place_of
-goes-past x l i c h e =
-    let z : place_of x (drop i l) ≡ suc (place_of x (drop (suc i) l)) = rw (drop-cons l i 0 h) (skips _ _ _ (ne_eqb (get_or l i 0) x e)) in
-    rw add-one (omega arith)
+place-is x l = is_position_or_len (place_of x) (λ y. eqb y x) refl (λ y ys. cond-is (eqb y x) 0 (suc (place_of x ys)) ∙ ap (cond (eqb y x) 0) (next (place_of x ys))) l
+
+some-is : (t : Bool) (p i : ℕ) → cond t (Some p) None ≡ Some i → p ≡ i
+some-is true p i e = ap (λ o. unwrap_or o 0) e
+some-is false p i e = let z : ◌≡◌ {A = Bool} false true = ap is_some e in absurd (false≢true z)
+
+none-is : (t : Bool) (p : ℕ) → cond t (Some p) None ≡ None → t ≡ false
+none-is true p e = let z : ◌≡◌ {A = Bool} false true = sym (ap is_some e) in absurd (false≢true z)
+none-is false p e = refl
+
+pub place-found : (x : ℕ) (l : List ℕ) (i : ℕ) → position (λ y. eqb y x) l ≡ Some i → place_of x l ≡ i
+place-found x l i e = place-is x l ∙ some-is (ltb (position_or_len (λ y. eqb y x) l) (length l)) (position_or_len (λ y. eqb y x) l) i e
+
+pub place-missed : (x : ℕ) (l : List ℕ) → position (λ y. eqb y x) l ≡ None → ltb (place_of x l) (length l) ≡ false
+place-missed x l e =
+    ap (λ n. ltb n (length l)) (place-is x l) ∙ none-is (ltb (position_or_len (λ y. eqb y x) l) (length l)) (position_or_len (λ y. eqb y x) l) e
 
 -- ---- THE RULE OF THE TABLE, by one test over the whole of it: each rate is found at its own number
 

@@ -2,7 +2,8 @@
 ghost use Rattle.std.specs.Prelude.{◌≡◌};
 ghost use Rattle.codes.specs.Answers.{says_refusal, cause_word, high_half, refusal_word};
 
-// What caused 2 or 3: the device's own word, or no status at all.
+// What caused 2 or 3: the device's own word, or no status at all. No Option: a refusal that reads
+// `IoError(None)` would not say what is missing, and `word` is a method of it.
 #[derive(Clone, Copy)]
 pub enum Cause {
     NoStatus,
@@ -41,6 +42,7 @@ impl Cause {
 }
 
 impl Refusal {
+    // The number of a refusal. It is no discriminant, since two cases carry a cause.
     pub fn number(self) -> u32
         ensures { result ≡ (says_refusal self).number }
     {

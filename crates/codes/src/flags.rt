@@ -1,19 +1,14 @@
-// Flag sets. A set holds any bits: those that the standard does not name are kept.
+// Flag sets. A set holds any bits: those that the standard does not name are kept. Each is a type of
+// its own and not one generic set: they differ in their word and in the names of their bits.
 ghost use Rattle.std.specs.Prelude.{◌≡◌, ◌^◌, ◌<◌, ◌/◌, ◌%◌, eqb};
 ghost use Rattle.codes.specs.Codes.{number_says};
 ghost use Rattle.codes.specs.Formats.{format_number};
 ghost use Rattle.codes.specs.Rates.{rate_number};
 ghost use Rattle.codes.specs.Flags.{has_bit, ctls_feature, remap_feature, feature_number, says_bit};
 
+use crate::answers::Refusal;
 use crate::formats::PcmFormat;
-use crate::rates::{FoundRate, PcmRate};
-
-// The mask bit of a format's or a rate's number.
-#[derive(Clone, Copy)]
-pub enum FoundBit {
-    Is(u64),
-    InvalidParam,
-}
+use crate::rates::PcmRate;
 
 // The bit of a mask that is a power of 2.
 fn bit_of(bits: u64, mask: u64) -> bool
@@ -32,6 +27,7 @@ pub struct DeviceFeatures {
 impl DeviceFeatures {
     pub const CTLS: u64 = 1 << 0;
 
+    // Has the device control elements?
     pub fn has_ctls(self) -> bool
         ensures { result ≡ has_bit ctls_feature self.bits }
     {
@@ -48,12 +44,14 @@ pub struct JackFeatures {
 impl JackFeatures {
     pub const REMAP: u32 = 1 << 0;
 
+    // The set of these bits, unknown ones too.
     pub fn from_bits_retain(bits: u32) -> JackFeatures
         ensures { result.bits ≡ bits }
     {
         JackFeatures { bits }
     }
 
+    // Can the jack be remapped?
     pub fn has_remap(self) -> bool
         ensures { result ≡ has_bit remap_feature self.bits }
     {
@@ -88,39 +86,36 @@ impl PcmFeatures {
 
     pub const EVT_XRUNS: u32 = 1 << 4;
 
+    // The set of these bits, unknown ones too.
     pub fn from_bits_retain(bits: u32) -> PcmFeatures
         ensures { result.bits ≡ bits }
     {
         PcmFeatures { bits }
     }
 
-    pub fn from_feature(feature: PcmFeature) -> PcmFeatures
-        ensures { result.bits ≡ 2 ^ feature_number feature }
-    {
-        match feature {
-            PcmFeature::ShmemHost => PcmFeatures {
-                bits: PcmFeatures::SHMEM_HOST,
-            },
-            PcmFeature::ShmemGuest => PcmFeatures {
-                bits: PcmFeatures::SHMEM_GUEST,
-            },
-            PcmFeature::MsgPolling => PcmFeatures {
-                bits: PcmFeatures::MSG_POLLING,
-            },
-            PcmFeature::EvtShmemPeriods => PcmFeatures {
-                bits: PcmFeatures::EVT_SHMEM_PERIODS,
-            },
-            PcmFeature::EvtXruns => PcmFeatures {
-                bits: PcmFeatures::EVT_XRUNS,
-            },
-        }
-    }
-
+    // Is the feature in the set?
     pub fn contains(self, feature: PcmFeature) -> bool
         ensures { result ≡ has_bit (feature_number feature) self.bits }
     {
-        let mask = PcmFeatures::from_feature(feature);
+        let mask = PcmFeatures::from(feature);
         bit_of(self.bits as u64, mask.bits as u64)
+    }
+}
+
+// The set with just the bit of a feature.
+impl From<PcmFeature> for PcmFeatures {
+    ghost from_gives = { λ feature set. set.bits ≡ 2 ^ feature_number feature };
+
+    fn from(feature: PcmFeature) -> PcmFeatures {
+        PcmFeatures {
+            bits: match feature {
+                PcmFeature::ShmemHost => PcmFeatures::SHMEM_HOST,
+                PcmFeature::ShmemGuest => PcmFeatures::SHMEM_GUEST,
+                PcmFeature::MsgPolling => PcmFeatures::MSG_POLLING,
+                PcmFeature::EvtShmemPeriods => PcmFeatures::EVT_SHMEM_PERIODS,
+                PcmFeature::EvtXruns => PcmFeatures::EVT_XRUNS,
+            },
+        }
     }
 }
 
@@ -181,35 +176,40 @@ impl PcmFormats {
 
     pub const IEC958_SUBFRAME: u64 = 1 << 24;
 
+    // The set of these bits, unknown ones too.
     pub fn from_bits_retain(bits: u64) -> PcmFormats
         ensures { result.bits ≡ bits }
     {
         PcmFormats { bits }
     }
 
-    pub fn from_format(format: PcmFormat) -> PcmFormats
-        ensures { result.bits ≡ 2 ^ format_number format }
-    {
-        let n = format.number();
-        PcmFormats { bits: 1u64 << n }
-    }
-
     // The mask bit of a format number.
-    pub fn from_number(n: u8) -> FoundBit
+    pub fn from_number(n: u8) -> Result<u64, Refusal>
         ensures { says_bit result ≡ number_says 25 n (2 ^ n) }
     {
         if n < 25 {
-            FoundBit::Is(1u64 << n)
+            Ok(1u64 << n)
         } else {
-            FoundBit::InvalidParam
+            Err(Refusal::InvalidParam)
         }
     }
 
+    // Is the format in the set?
     pub fn contains(self, format: PcmFormat) -> bool
         ensures { result ≡ has_bit (format_number format) self.bits }
     {
-        let format_mask = PcmFormats::from_format(format);
+        let format_mask = PcmFormats::from(format);
         bit_of(self.bits, format_mask.bits)
+    }
+}
+
+// The set with just the bit of a format.
+impl From<PcmFormat> for PcmFormats {
+    ghost from_gives = { λ format set. set.bits ≡ 2 ^ format_number format };
+
+    fn from(format: PcmFormat) -> PcmFormats {
+        let n = format.number();
+        PcmFormats { bits: 1u64 << n }
     }
 }
 
@@ -248,76 +248,53 @@ impl PcmRates {
 
     pub const RATE_384000: u64 = 1 << 13;
 
+    // The set of these bits, unknown ones too.
     pub fn from_bits_retain(bits: u64) -> PcmRates
         ensures { result.bits ≡ bits }
     {
         PcmRates { bits }
     }
 
-    pub fn from_rate(rate: PcmRate) -> PcmRates
-        ensures { result.bits ≡ 2 ^ rate_number rate }
-    {
-        match rate {
-            PcmRate::Rate5512 => PcmRates {
-                bits: PcmRates::RATE_5512,
-            },
-            PcmRate::Rate8000 => PcmRates {
-                bits: PcmRates::RATE_8000,
-            },
-            PcmRate::Rate11025 => PcmRates {
-                bits: PcmRates::RATE_11025,
-            },
-            PcmRate::Rate16000 => PcmRates {
-                bits: PcmRates::RATE_16000,
-            },
-            PcmRate::Rate22050 => PcmRates {
-                bits: PcmRates::RATE_22050,
-            },
-            PcmRate::Rate32000 => PcmRates {
-                bits: PcmRates::RATE_32000,
-            },
-            PcmRate::Rate44100 => PcmRates {
-                bits: PcmRates::RATE_44100,
-            },
-            PcmRate::Rate48000 => PcmRates {
-                bits: PcmRates::RATE_48000,
-            },
-            PcmRate::Rate64000 => PcmRates {
-                bits: PcmRates::RATE_64000,
-            },
-            PcmRate::Rate88200 => PcmRates {
-                bits: PcmRates::RATE_88200,
-            },
-            PcmRate::Rate96000 => PcmRates {
-                bits: PcmRates::RATE_96000,
-            },
-            PcmRate::Rate176400 => PcmRates {
-                bits: PcmRates::RATE_176400,
-            },
-            PcmRate::Rate192000 => PcmRates {
-                bits: PcmRates::RATE_192000,
-            },
-            PcmRate::Rate384000 => PcmRates {
-                bits: PcmRates::RATE_384000,
-            },
-        }
-    }
-
     // The mask bit of a rate number.
-    pub fn from_number(n: u8) -> FoundBit
+    pub fn from_number(n: u8) -> Result<u64, Refusal>
         ensures { says_bit result ≡ number_says 14 n (2 ^ n) }
     {
-        let FoundRate::Is(rate) = PcmRate::from_number(n) else {
-            return FoundBit::InvalidParam;
-        };
-        let mask = PcmRates::from_rate(rate);
-        FoundBit::Is(mask.bits)
+        let rate = PcmRate::try_from(n)?;
+        let mask = PcmRates::from(rate);
+        Ok(mask.bits)
     }
 
+    // Is the rate in the set?
     pub fn contains(self, rate: PcmRate) -> bool
         ensures { result ≡ has_bit (rate_number rate) self.bits }
     {
-        let rate_mask = PcmRates::from_rate(rate);
+        let rate_mask = PcmRates::from(rate);
         bit_of(self.bits, rate_mask.bits)
+    }
+}
+
+// The set with just the bit of a rate.
+impl From<PcmRate> for PcmRates {
+    ghost from_gives = { λ rate set. set.bits ≡ 2 ^ rate_number rate };
+
+    fn from(rate: PcmRate) -> PcmRates {
+        PcmRates {
+            bits: match rate {
+                PcmRate::Rate5512 => PcmRates::RATE_5512,
+                PcmRate::Rate8000 => PcmRates::RATE_8000,
+                PcmRate::Rate11025 => PcmRates::RATE_11025,
+                PcmRate::Rate16000 => PcmRates::RATE_16000,
+                PcmRate::Rate22050 => PcmRates::RATE_22050,
+                PcmRate::Rate32000 => PcmRates::RATE_32000,
+                PcmRate::Rate44100 => PcmRates::RATE_44100,
+                PcmRate::Rate48000 => PcmRates::RATE_48000,
+                PcmRate::Rate64000 => PcmRates::RATE_64000,
+                PcmRate::Rate88200 => PcmRates::RATE_88200,
+                PcmRate::Rate96000 => PcmRates::RATE_96000,
+                PcmRate::Rate176400 => PcmRates::RATE_176400,
+                PcmRate::Rate192000 => PcmRates::RATE_192000,
+                PcmRate::Rate384000 => PcmRates::RATE_384000,
+            },
+        }
     }
 }

@@ -3,40 +3,35 @@ ghost use Rattle.std.specs.Prelude.{◌≡◌};
 ghost use Rattle.codes.specs.Codes.{number_says};
 ghost use Rattle.codes.specs.Formats.{format_number, says_format, sample_bits, storage_bits};
 
+use crate::answers::Refusal;
+
 #[derive(Clone, Copy)]
 pub enum PcmFormat {
-    ImaAdpcm,
-    MuLaw,
-    ALaw,
-    S8,
-    U8,
-    S16,
-    U16,
-    S18_3,
-    U18_3,
-    S20_3,
-    U20_3,
-    S24_3,
-    U24_3,
-    S20,
-    U20,
-    S24,
-    U24,
-    S32,
-    U32,
-    FLOAT,
-    FLOAT64,
-    DsdU8,
-    DsdU16,
-    DsdU32,
-    Iec958Subframe,
-}
-
-// What a format number is.
-#[derive(Clone, Copy)]
-pub enum FoundFormat {
-    Is(PcmFormat),
-    InvalidParam,
+    ImaAdpcm = 0,
+    MuLaw = 1,
+    ALaw = 2,
+    S8 = 3,
+    U8 = 4,
+    S16 = 5,
+    U16 = 6,
+    S18_3 = 7,
+    U18_3 = 8,
+    S20_3 = 9,
+    U20_3 = 10,
+    S24_3 = 11,
+    U24_3 = 12,
+    S20 = 13,
+    U20 = 14,
+    S24 = 15,
+    U24 = 16,
+    S32 = 17,
+    U32 = 18,
+    FLOAT = 19,
+    FLOAT64 = 20,
+    DsdU8 = 21,
+    DsdU16 = 22,
+    DsdU32 = 23,
+    Iec958Subframe = 24,
 }
 
 // By format number: the bits of a sample, and the bits that it takes.
@@ -49,69 +44,11 @@ const STORAGE: [u8; 25] = [
 ];
 
 impl PcmFormat {
+    // The number of a format.
     pub fn number(self) -> u8
         ensures { result ≡ format_number self }
     {
-        match self {
-            PcmFormat::ImaAdpcm => 0,
-            PcmFormat::MuLaw => 1,
-            PcmFormat::ALaw => 2,
-            PcmFormat::S8 => 3,
-            PcmFormat::U8 => 4,
-            PcmFormat::S16 => 5,
-            PcmFormat::U16 => 6,
-            PcmFormat::S18_3 => 7,
-            PcmFormat::U18_3 => 8,
-            PcmFormat::S20_3 => 9,
-            PcmFormat::U20_3 => 10,
-            PcmFormat::S24_3 => 11,
-            PcmFormat::U24_3 => 12,
-            PcmFormat::S20 => 13,
-            PcmFormat::U20 => 14,
-            PcmFormat::S24 => 15,
-            PcmFormat::U24 => 16,
-            PcmFormat::S32 => 17,
-            PcmFormat::U32 => 18,
-            PcmFormat::FLOAT => 19,
-            PcmFormat::FLOAT64 => 20,
-            PcmFormat::DsdU8 => 21,
-            PcmFormat::DsdU16 => 22,
-            PcmFormat::DsdU32 => 23,
-            PcmFormat::Iec958Subframe => 24,
-        }
-    }
-
-    pub fn from_number(n: u8) -> FoundFormat
-        ensures { says_format result ≡ number_says 25 n n }
-    {
-        match n {
-            0 => FoundFormat::Is(PcmFormat::ImaAdpcm),
-            1 => FoundFormat::Is(PcmFormat::MuLaw),
-            2 => FoundFormat::Is(PcmFormat::ALaw),
-            3 => FoundFormat::Is(PcmFormat::S8),
-            4 => FoundFormat::Is(PcmFormat::U8),
-            5 => FoundFormat::Is(PcmFormat::S16),
-            6 => FoundFormat::Is(PcmFormat::U16),
-            7 => FoundFormat::Is(PcmFormat::S18_3),
-            8 => FoundFormat::Is(PcmFormat::U18_3),
-            9 => FoundFormat::Is(PcmFormat::S20_3),
-            10 => FoundFormat::Is(PcmFormat::U20_3),
-            11 => FoundFormat::Is(PcmFormat::S24_3),
-            12 => FoundFormat::Is(PcmFormat::U24_3),
-            13 => FoundFormat::Is(PcmFormat::S20),
-            14 => FoundFormat::Is(PcmFormat::U20),
-            15 => FoundFormat::Is(PcmFormat::S24),
-            16 => FoundFormat::Is(PcmFormat::U24),
-            17 => FoundFormat::Is(PcmFormat::S32),
-            18 => FoundFormat::Is(PcmFormat::U32),
-            19 => FoundFormat::Is(PcmFormat::FLOAT),
-            20 => FoundFormat::Is(PcmFormat::FLOAT64),
-            21 => FoundFormat::Is(PcmFormat::DsdU8),
-            22 => FoundFormat::Is(PcmFormat::DsdU16),
-            23 => FoundFormat::Is(PcmFormat::DsdU32),
-            24 => FoundFormat::Is(PcmFormat::Iec958Subframe),
-            _ => FoundFormat::InvalidParam,
-        }
+        self as u8
     }
 
     // The bits of a sample.
@@ -128,5 +65,42 @@ impl PcmFormat {
     {
         let at = self.number() as usize;
         STORAGE[at]
+    }
+}
+
+impl TryFrom<u8> for PcmFormat {
+    type Error = Refusal;
+
+    ghost try_from_gives = { λ n result. says_format result ≡ number_says 25 n n };
+
+    fn try_from(n: u8) -> Result<PcmFormat, Refusal> {
+        match n {
+            0 => Ok(PcmFormat::ImaAdpcm),
+            1 => Ok(PcmFormat::MuLaw),
+            2 => Ok(PcmFormat::ALaw),
+            3 => Ok(PcmFormat::S8),
+            4 => Ok(PcmFormat::U8),
+            5 => Ok(PcmFormat::S16),
+            6 => Ok(PcmFormat::U16),
+            7 => Ok(PcmFormat::S18_3),
+            8 => Ok(PcmFormat::U18_3),
+            9 => Ok(PcmFormat::S20_3),
+            10 => Ok(PcmFormat::U20_3),
+            11 => Ok(PcmFormat::S24_3),
+            12 => Ok(PcmFormat::U24_3),
+            13 => Ok(PcmFormat::S20),
+            14 => Ok(PcmFormat::U20),
+            15 => Ok(PcmFormat::S24),
+            16 => Ok(PcmFormat::U24),
+            17 => Ok(PcmFormat::S32),
+            18 => Ok(PcmFormat::U32),
+            19 => Ok(PcmFormat::FLOAT),
+            20 => Ok(PcmFormat::FLOAT64),
+            21 => Ok(PcmFormat::DsdU8),
+            22 => Ok(PcmFormat::DsdU16),
+            23 => Ok(PcmFormat::DsdU32),
+            24 => Ok(PcmFormat::Iec958Subframe),
+            _ => Err(Refusal::InvalidParam),
+        }
     }
 }

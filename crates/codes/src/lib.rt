@@ -14,15 +14,14 @@ mod requests;
 mod statuses;
 mod tests;
 mod versions;
+pub mod words;
 
 pub use answers::{Cause, Refusal};
-pub use events::{FoundNotification, NotificationType};
-pub use flags::{
-    DeviceFeatures, FoundBit, JackFeatures, PcmFeature, PcmFeatures, PcmFormats, PcmRates,
-};
-pub use formats::{FoundFormat, PcmFormat};
-pub use rates::{FoundRate, PcmRate};
-pub use requests::{FoundRequest, RequestCode};
-pub use statuses::{FoundStatus, StatusCode};
+pub use events::NotificationType;
+pub use flags::{DeviceFeatures, JackFeatures, PcmFeature, PcmFeatures, PcmFormats, PcmRates};
+pub use formats::PcmFormat;
+pub use rates::PcmRate;
+pub use requests::RequestCode;
+pub use statuses::{StatusCode, UnknownStatus, status_is_ok};
 pub use tests::both;
-pub use versions::{FoundVersion, Version, has_controls};
+pub use versions::{Version, has_controls};

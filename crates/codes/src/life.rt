@@ -1,5 +1,6 @@
 // The standard's lifecycle of a stream: which command may follow which. A stream's state is the last
-// command that was ok, by its number here, and begins at "set parameters".
+// command that was ok, by its number here, and begins at "set parameters". A number and no enum: any
+// byte of a lent store stands for a state, which no command may follow if it is none of these.
 ghost use Rattle.std.specs.Prelude.{◌≡◌};
 ghost use Rattle.codes.specs.Life.{permits_of, takes_of};
 

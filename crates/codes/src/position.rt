@@ -1,4 +1,4 @@
-// Channel positions: VIRTIO_SND_CHMAP_*.
+// Channel positions: VIRTIO_SND_CHMAP_*. Numbers and no enum, since a record keeps any byte.
 
 // undefined
 pub const NONE: u8 = 0;

@@ -3,29 +3,24 @@ ghost use Rattle.std.specs.Prelude.{◌≡◌};
 ghost use Rattle.codes.specs.Codes.{number_says};
 ghost use Rattle.codes.specs.Rates.{rate_number, says_rate, hz_table, hz_of, place_of};
 
+use crate::answers::Refusal;
+
 #[derive(Clone, Copy)]
 pub enum PcmRate {
-    Rate5512,
-    Rate8000,
-    Rate11025,
-    Rate16000,
-    Rate22050,
-    Rate32000,
-    Rate44100,
-    Rate48000,
-    Rate64000,
-    Rate88200,
-    Rate96000,
-    Rate176400,
-    Rate192000,
-    Rate384000,
-}
-
-// What a rate number, or a number of Hz, is.
-#[derive(Clone, Copy)]
-pub enum FoundRate {
-    Is(PcmRate),
-    InvalidParam,
+    Rate5512 = 0,
+    Rate8000 = 1,
+    Rate11025 = 2,
+    Rate16000 = 3,
+    Rate22050 = 4,
+    Rate32000 = 5,
+    Rate44100 = 6,
+    Rate48000 = 7,
+    Rate64000 = 8,
+    Rate88200 = 9,
+    Rate96000 = 10,
+    Rate176400 = 11,
+    Rate192000 = 12,
+    Rate384000 = 13,
 }
 
 const HZ: [u32; 14] = [
@@ -34,49 +29,14 @@ const HZ: [u32; 14] = [
 ];
 
 impl PcmRate {
+    // The number of a rate.
     pub fn number(self) -> u8
         ensures { result ≡ rate_number self }
     {
-        match self {
-            PcmRate::Rate5512 => 0,
-            PcmRate::Rate8000 => 1,
-            PcmRate::Rate11025 => 2,
-            PcmRate::Rate16000 => 3,
-            PcmRate::Rate22050 => 4,
-            PcmRate::Rate32000 => 5,
-            PcmRate::Rate44100 => 6,
-            PcmRate::Rate48000 => 7,
-            PcmRate::Rate64000 => 8,
-            PcmRate::Rate88200 => 9,
-            PcmRate::Rate96000 => 10,
-            PcmRate::Rate176400 => 11,
-            PcmRate::Rate192000 => 12,
-            PcmRate::Rate384000 => 13,
-        }
+        self as u8
     }
 
-    pub fn from_number(n: u8) -> FoundRate
-        ensures { says_rate result ≡ number_says 14 n n }
-    {
-        match n {
-            0 => FoundRate::Is(PcmRate::Rate5512),
-            1 => FoundRate::Is(PcmRate::Rate8000),
-            2 => FoundRate::Is(PcmRate::Rate11025),
-            3 => FoundRate::Is(PcmRate::Rate16000),
-            4 => FoundRate::Is(PcmRate::Rate22050),
-            5 => FoundRate::Is(PcmRate::Rate32000),
-            6 => FoundRate::Is(PcmRate::Rate44100),
-            7 => FoundRate::Is(PcmRate::Rate48000),
-            8 => FoundRate::Is(PcmRate::Rate64000),
-            9 => FoundRate::Is(PcmRate::Rate88200),
-            10 => FoundRate::Is(PcmRate::Rate96000),
-            11 => FoundRate::Is(PcmRate::Rate176400),
-            12 => FoundRate::Is(PcmRate::Rate192000),
-            13 => FoundRate::Is(PcmRate::Rate384000),
-            _ => FoundRate::InvalidParam,
-        }
-    }
-
+    // The Hz of a rate.
     pub fn hz(self) -> u32
         ensures { result ≡ hz_of self }
     {
@@ -84,18 +44,40 @@ impl PcmRate {
         HZ[n]
     }
 
-    // The table is searched for the rate's number.
-    pub fn from_hz(hz: u32) -> FoundRate
+    // The rate of a number of Hz: the table is searched for its number. It is no TryFrom: a number of
+    // u32 could be one of Hz or of a rate.
+    pub fn from_hz(hz: u32) -> Result<PcmRate, Refusal>
         ensures { says_rate result ≡ number_says 14 (place_of hz hz_table) (place_of hz hz_table) }
     {
-        let mut i: u8 = 0;
-        while i < 14 {
-            let at = i as usize;
-            if HZ[at] == hz {
-                return PcmRate::from_number(i);
-            }
-            i += 1;
+        match HZ.iter().position(|&x| x == hz) {
+            Some(at) => PcmRate::try_from(at as u8),
+            None => Err(Refusal::InvalidParam),
         }
-        FoundRate::InvalidParam
+    }
+}
+
+impl TryFrom<u8> for PcmRate {
+    type Error = Refusal;
+
+    ghost try_from_gives = { λ n result. says_rate result ≡ number_says 14 n n };
+
+    fn try_from(n: u8) -> Result<PcmRate, Refusal> {
+        match n {
+            0 => Ok(PcmRate::Rate5512),
+            1 => Ok(PcmRate::Rate8000),
+            2 => Ok(PcmRate::Rate11025),
+            3 => Ok(PcmRate::Rate16000),
+            4 => Ok(PcmRate::Rate22050),
+            5 => Ok(PcmRate::Rate32000),
+            6 => Ok(PcmRate::Rate44100),
+            7 => Ok(PcmRate::Rate48000),
+            8 => Ok(PcmRate::Rate64000),
+            9 => Ok(PcmRate::Rate88200),
+            10 => Ok(PcmRate::Rate96000),
+            11 => Ok(PcmRate::Rate176400),
+            12 => Ok(PcmRate::Rate192000),
+            13 => Ok(PcmRate::Rate384000),
+            _ => Err(Refusal::InvalidParam),
+        }
     }
 }

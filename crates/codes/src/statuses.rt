@@ -1,20 +1,19 @@
 // Status codes of an answer.
-ghost use Rattle.std.specs.Prelude.{◌≡◌};
-ghost use Rattle.codes.specs.Statuses.{status_code, says_status, status_says, is_ok};
+ghost use Rattle.std.specs.Prelude.{◌≡◌, eqb};
+ghost use Rattle.codes.specs.Statuses.{status_code, says_status, status_says};
 
-#[derive(Clone, Copy)]
+#[derive(Clone, Copy, PartialEq, Eq)]
 pub enum StatusCode {
-    SOk,
-    SBadMsg,
-    SNotSupp,
-    SIoErr,
+    SOk = 0x8000,
+    SBadMsg = 0x8001,
+    SNotSupp = 0x8002,
+    SIoErr = 0x8003,
 }
 
-// What the status of an answer is: one of the four, or a number that the standard does not name.
-#[derive(Clone, Copy)]
-pub enum FoundStatus {
-    Is(StatusCode),
-    Unknown(u32),
+// The status of an answer where the standard does not name it.
+#[derive(Clone, Copy, PartialEq, Eq)]
+pub struct UnknownStatus {
+    pub word: u32,
 }
 
 impl StatusCode {
@@ -26,37 +25,33 @@ impl StatusCode {
 
     pub const IO_ERR: u32 = 0x8003;
 
+    // The code of a status.
     pub fn code(self) -> u32
         ensures { result ≡ status_code self }
     {
-        match self {
-            StatusCode::SOk => 0x8000,
-            StatusCode::SBadMsg => 0x8001,
-            StatusCode::SNotSupp => 0x8002,
-            StatusCode::SIoErr => 0x8003,
-        }
+        self as u32
     }
+}
 
-    pub fn from_code(code: u32) -> FoundStatus
-        ensures { says_status result ≡ status_says code }
-    {
+impl TryFrom<u32> for StatusCode {
+    type Error = UnknownStatus;
+
+    ghost try_from_gives = { λ code result. says_status result ≡ status_says code };
+
+    fn try_from(code: u32) -> Result<StatusCode, UnknownStatus> {
         match code {
-            0x8000 => FoundStatus::Is(StatusCode::SOk),
-            0x8001 => FoundStatus::Is(StatusCode::SBadMsg),
-            0x8002 => FoundStatus::Is(StatusCode::SNotSupp),
-            0x8003 => FoundStatus::Is(StatusCode::SIoErr),
-            _ => FoundStatus::Unknown(code),
+            0x8000 => Ok(StatusCode::SOk),
+            0x8001 => Ok(StatusCode::SBadMsg),
+            0x8002 => Ok(StatusCode::SNotSupp),
+            0x8003 => Ok(StatusCode::SIoErr),
+            _ => Err(UnknownStatus { word: code }),
         }
     }
 }
 
-impl FoundStatus {
-    pub fn is_ok(self) -> bool
-        ensures { result ≡ is_ok self }
-    {
-        match self {
-            FoundStatus::Is(code) => code.code() == StatusCode::OK,
-            FoundStatus::Unknown(_) => false,
-        }
-    }
+// Is the status of an answer ok? No other one is, known or not.
+pub fn status_is_ok(code: u32) -> bool
+    ensures { result ≡ eqb code 0x8000 }
+{
+    StatusCode::try_from(code) == Ok(StatusCode::SOk)
 }

@@ -3,39 +3,35 @@ ghost use Rattle.std.specs.Prelude.{◌≡◌};
 ghost use Rattle.codes.specs.Codes.{code_says};
 ghost use Rattle.codes.specs.Versions.{version_numbers, version_number, says_version, has_controls};
 
+use crate::answers::Refusal;
 use crate::flags::DeviceFeatures;
 use crate::tests::both;
 
 #[derive(Clone, Copy)]
 pub enum Version {
-    V12,
-    V13,
-}
-
-// What a version number is.
-#[derive(Clone, Copy)]
-pub enum FoundVersion {
-    Is(Version),
-    InvalidParam,
+    V12 = 0x0102,
+    V13 = 0x0103,
 }
 
 impl Version {
+    // The number of a version.
     pub fn number(self) -> u32
         ensures { result ≡ version_number self }
     {
-        match self {
-            Version::V12 => 0x0102,
-            Version::V13 => 0x0103,
-        }
+        self as u32
     }
+}
 
-    pub fn from_number(n: u32) -> FoundVersion
-        ensures { says_version result ≡ code_says version_numbers 1 n }
-    {
+impl TryFrom<u32> for Version {
+    type Error = Refusal;
+
+    ghost try_from_gives = { λ n result. says_version result ≡ code_says version_numbers 1 n };
+
+    fn try_from(n: u32) -> Result<Version, Refusal> {
         match n {
-            0x0102 => FoundVersion::Is(Version::V12),
-            0x0103 => FoundVersion::Is(Version::V13),
-            _ => FoundVersion::InvalidParam,
+            0x0102 => Ok(Version::V12),
+            0x0103 => Ok(Version::V13),
+            _ => Err(Refusal::InvalidParam),
         }
     }
 }

@@ -1,7 +1,7 @@
 -- DEMAND 3 of the C entries: `snd_pcm_xfer_start`, then `snd_turn` after `snd_turn` on what it left, as long as they answer 512. The premises on numbers are the widths
 -- in which the entries take them; a store is bytes, and as long as its size.
 -- Assumes nothing.
-use Rattle.std.specs.Prelude.{◌≡◌, ℕ, ◌+◌, ◌*◌, ◌^◌, ◌<◌, ◌≤◌, false, List, map, length, refl}
+use Rattle.std.specs.Prelude.{◌≡◌, ℕ, ◌+◌, ◌*◌, ◌^◌, ◌<◌, ◌≤◌, false, List, map, length, refl, Result, Ok, Err}
 use Rattle.std.proofs.Common.{sym, ap, ◌∙◌, arith, le-leb}
 use Rattle.std.proofs.Math.Path.{subst}
 use Rattle.layout.specs.All.{All}
@@ -17,7 +17,7 @@ use Rattle.turns.specs.declared.ring.Ring.{Ring}
 use Rattle.turns.specs.declared.ring.Said.{Said}
 use Rattle.turns.specs.declared.ring.Step.{Step}
 use Rattle.turns.specs.declared.ring.Said.TheVariants.{Going, Done, Ended, Refused}
-use Rattle.turns.specs.declared.reading.Reading.{Reading}
+use Rattle.turns.specs.Types.{Reading}
 use Rattle.exchange.specs.Xfer.{start_of, xfer_word}
 use Rattle.exchange.specs.Kept.{Playable}
 use Rattle.exchange.specs.XferLaws.{start-by}
@@ -31,8 +31,6 @@ use Rattle.ring_store.specs.Run.{Words, reading_by, turn_by_turn_in, Holds, run_
 use Rattle.state_store.specs.Places.{state_size}
 use Rattle.state_store.specs.Store.{sound_of}
 use Rattle.state_store.specs.Calls.{open_in}
-use Rattle.state_store.specs.declared.calls.Opening.{Opening}
-use Rattle.state_store.specs.declared.calls.Opening.TheVariants as opening
 use Rattle.console.specs.Entries.{Begun, start_entry}
 use Rattle.console.specs.EntryLaws.{start_opening, start_is, plays}
 use Rattle.console.specs.Holds.{entry-is, start-entry-holds}
@@ -70,10 +68,10 @@ module _ (s ring m : List ℕ) (b : Bytes s) (c : Bytes ring) (h : state_size �
   abbrev begin : ℕ → Step
   begin = plays s ring stream (length frames) budget m
 
-  opening-again : (x : Opening) (st after : List ℕ) → Again ring (start_opening false begin s ring stream x st after).ring
+  opening-again : (x : Result ℕ ℕ) (st after : List ℕ) → Again ring (start_opening false begin s ring stream x st after).ring
   unfolding start_in
-  opening-again (opening.Says n) st after = (c, refl)
-  opening-again (opening.Open period) st after = start-again ring stream (length frames) period budget c
+  opening-again (Err n) st after = (c, refl)
+  opening-again (Ok period) st after = start-again ring stream (length frames) period budget c
 
   -- what the start leaves is a ring's store again
   again : Again ring (starts_in s ring m stream budget frames).ring

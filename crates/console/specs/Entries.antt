@@ -1,7 +1,7 @@
 -- What the C entries say where an entry puts stores together, a state with a ring, and where there is no store: an event, a configuration, a WAVE file. The others say what `state_store`, `ring_store` and
 -- `model_store` say.
 -- Assumes nothing.
-use Rattle.std.specs.Prelude.{ℕ, Bool, false, ◌&&◌, List, [], ◌∷◌, length, ◌==◌, nat_le}
+use Rattle.std.specs.Prelude.{ℕ, Bool, false, ◌&&◌, List, [], ◌∷◌, length, ◌==◌, nat_le, Result, Ok, Err}
 use Rattle.std.proofs.lemmas.List.Edits.{sets}
 use Rattle.layout.specs.Bytes.{le, num_at}
 use Rattle.layout.specs.Layout.{read, write}
@@ -31,8 +31,7 @@ use Rattle.state_store.specs.Tokens.{Submitted, submitted, nb_in}
 use Rattle.trace.specs.Listed.{compared_of, listed_of, says_compared}
 use Rattle.wav.specs.Wave.{wave_of, says_wave, wrote_of, says_wrote, file_of, written_by}
 use Rattle.wav.specs.declared.reader.Wave.{Wave}
-use Rattle.wav.specs.declared.reader.ReadWave.{ReadWave}
-use Rattle.wav.specs.declared.reader.ReadWave.TheVariants as wave
+use Rattle.wav.specs.declared.reader.WaveError.{WaveError}
 
 -- ---- a call: the state's, with the ring that tells Busy
 
@@ -126,13 +125,12 @@ wave_row = 8 ∷ 8 ∷ 1 ∷ 1 ∷ 1 ∷ []
 abbrev pub wave_values : Wave → List ℕ
 wave_values w = w.offset ∷ w.len ∷ w.sound.channels ∷ w.sound.format ∷ w.sound.rate ∷ []
 
-abbrev pub wave_result : ReadWave → List ℕ → List ℕ
-wave_result (wave.Is w) r = sets r 0 (write wave_row (wave_values w))
-wave_result wave.NotWave r = r
-wave_result wave.BadSound r = r
+abbrev pub wave_result : Result Wave WaveError → List ℕ → List ℕ
+wave_result (Ok w) r = sets r 0 (write wave_row (wave_values w))
+wave_result (Err e) r = r
 
 -- by what reading said
-abbrev pub wave_shown : List ℕ → ReadWave → Shown
+abbrev pub wave_shown : List ℕ → Result Wave WaveError → Shown
 wave_shown r x = shown (says_wave x).number (wave_result x r)
 
 unfoldable pub wave_entry : List ℕ → List ℕ → Shown

@@ -1,6 +1,6 @@
 -- The start of a transfer through the C entry: the two stores, read again, hold the state and the ring of the start by value.
 -- Assumes nothing.
-use Rattle.std.specs.Prelude.{◌≡◌, ℕ, ◌+◌, ◌*◌, ◌^◌, ◌<◌, ◌≤◌, Bool, true, false, List, length, nat_le}
+use Rattle.std.specs.Prelude.{◌≡◌, ℕ, ◌+◌, ◌*◌, ◌^◌, ◌<◌, ◌≤◌, Bool, true, false, List, length, nat_le, Result, Ok, Err}
 use Rattle.std.proofs.Math.Path.{refl, ap}
 use Rattle.std.proofs.Common.{sym, ◌∙◌, subst, arith, lit<, le-leb, leb-true, leb-false}
 use Rattle.layout.specs.Bytes.{Bytes}
@@ -25,8 +25,6 @@ use Rattle.state_store.specs.Store.{params_at, sound_of}
 use Rattle.state_store.specs.Calls.{open_as, open_in, open_capture_in}
 use Rattle.state_store.specs.PlaceLaws.{params_in, params-out}
 use Rattle.state_store.specs.Holds.{open-holds, open-traced-holds, open-capture-holds}
-use Rattle.state_store.specs.declared.calls.Opening.{Opening}
-use Rattle.state_store.specs.declared.calls.Opening.TheVariants as opening
 use Rattle.console.specs.Entries.{Begun, begun, entry_of, start_entry, start_traced_entry, capture_entry}
 use Rattle.console.specs.EntryLaws.{start_opening, start_by, start_is, plays, writes, records}
 
@@ -51,9 +49,9 @@ module _ (s ring m : List ℕ) (b : Bytes s) (c : Bytes ring) (h : state_size �
   period-fits : (params_of (sound_of s) stream).period < 256 ^ 8
   period-fits = omega (arith, period-below s stream b)
 
-  opening-state : (capture : Bool) (begin : ℕ → Step) (o : Opening) (st after : List ℕ) → (start_opening capture begin s ring stream o st after).state ≡ st
-  opening-state capture begin (opening.Says n) st after = refl
-  opening-state capture begin (opening.Open period) st after = refl
+  opening-state : (capture : Bool) (begin : ℕ → Step) (o : Result ℕ ℕ) (st after : List ℕ) → (start_opening capture begin s ring stream o st after).state ≡ st
+  opening-state capture begin (Err n) st after = refl
+  opening-state capture begin (Ok period) st after = refl
 
   -- THE STATE is what was opened
   state-of : (capture : Bool) (begin : ℕ → Step) (e : Begun) → start_by capture begin s ring stream (open_as capture (waiting_as capture stream) s (track_at ring) stream m) ≡ e

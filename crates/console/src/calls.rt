@@ -1,18 +1,15 @@
 // The calls: state and ring as lent stores, a message to send, a result.
-ghost use Rattle.std.specs.Prelude.{◌≡◌, length};
+ghost use Rattle.std.specs.Prelude.{◌≡◌, length, None, Some};
 ghost use Rattle.sound_core.specs.State.{asked_params};
 ghost use Rattle.sound_core.specs.declared.state.Kind.TheVariants.{Prepare, Release, Start, Stop};
 ghost use Rattle.sound_core.specs.declared.state.Field.TheVariants.{Rates, Formats, Channels, Features};
 ghost use Rattle.sound_core.specs.declared.state.Call.TheVariants as calls;
-ghost use Rattle.tables.specs.declared.verdict.Written.TheVariants.{InFull, Bytes};
 ghost use Rattle.state_store.specs.Calls.{left, feed_in, fail_in};
 ghost use Rattle.console.specs.Entries.{call_entry};
 
 use codes::direction;
+use codes::words::BAD_LENGTH;
 use sound_core::{Call, Field, Kind, Params};
-
-// The answer to a slice that is too short.
-pub(crate) const BAD_LENGTH: u64 = 10;
 
 fn call(state: &mut [u8], ring: &[u8], asked: Call, message: &mut [u8], res: &mut [u8]) -> u64
     ensures { left result state.new message.new res.new ≡ call_entry state.old ring.now asked message.old res.old }
@@ -224,7 +221,7 @@ pub extern "C" fn snd_features_supported(
 // The answer page to the request that is out.
 #[unsafe(no_mangle)]
 pub extern "C" fn snd_feed(state: &mut [u8], page: &[u8], message: &mut [u8], res: &mut [u8]) -> u64
-    ensures { left result state.new message.new res.new ≡ feed_in InFull state.old page.now message.old res.old }
+    ensures { left result state.new message.new res.new ≡ feed_in None state.old page.now message.old res.old }
 {
     state_store::feed(state, page, message, res)
 }
@@ -238,7 +235,7 @@ pub extern "C" fn snd_feed_written(
     message: &mut [u8],
     res: &mut [u8],
 ) -> u64
-    ensures { left result state.new message.new res.new ≡ feed_in (Bytes written) state.old page.now message.old res.old }
+    ensures { left result state.new message.new res.new ≡ feed_in (Some written) state.old page.now message.old res.old }
 {
     state_store::feed_written(state, page, written, message, res)
 }

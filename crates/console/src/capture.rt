@@ -2,8 +2,7 @@
 ghost use Rattle.std.specs.Prelude.{◌≡◌, length};
 ghost use Rattle.console.specs.Entries.{began, capture_entry};
 
-use crate::calls::BAD_LENGTH;
-use state_store::Opening;
+use codes::words::BAD_LENGTH;
 
 // So many periods are captured into the recording.
 #[unsafe(no_mangle)]
@@ -24,8 +23,8 @@ pub extern "C" fn snd_pcm_capture_start(
     let t = ring_store::track(ring);
     let opening = state_store::open_capture(state, t, stream, message);
     match opening {
-        Opening::Says(number) => number,
-        Opening::Open(period) => ring_store::capture_start(
+        Err(number) => number,
+        Ok(period) => ring_store::capture_start(
             ring,
             stream,
             periods as usize,

@@ -5,27 +5,25 @@ ghost use Rattle.layout.specs.Lent.{made};
 ghost use Rattle.trace.specs.Listed.{row_widths, tallied_of, says_compared, count_of};
 ghost use Rattle.console.specs.Entries.{compare_entry};
 
-use trace::{Compared, ROW};
+use trace::{CompareError, ROW};
 
-fn number(c: Compared) -> u64
+fn number(c: Result<usize, CompareError>) -> u64
     ensures { result ≡ (says_compared c).number }
 {
     match c {
-        Compared::Listed { count: _ } => 0,
-        Compared::BadFirst { at: _ } => 18,
-        Compared::BadSecond { at: _ } => 18,
-        Compared::ListFull => 20,
+        Ok(_) => 0,
+        Err(CompareError::BadFirst { .. }) => 18,
+        Err(CompareError::BadSecond { .. }) => 18,
+        Err(CompareError::ListFull) => 20,
     }
 }
 
-fn counted(c: Compared) -> u64
+fn counted(c: Result<usize, CompareError>) -> u64
     ensures { result ≡ count_of c }
 {
     match c {
-        Compared::Listed { count } => count as u64,
-        Compared::BadFirst { at: _ } => 0,
-        Compared::BadSecond { at: _ } => 0,
-        Compared::ListFull => 0,
+        Ok(count) => count as u64,
+        Err(_) => 0,
     }
 }
 

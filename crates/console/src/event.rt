@@ -4,31 +4,31 @@ ghost use Rattle.layout.specs.Lent.{shown};
 ghost use Rattle.console.specs.Entries.{notice_entry};
 ghost use Rattle.console.specs.Private.{noticed};
 
-use crate::calls::BAD_LENGTH;
-use codes::{Cause, Refusal};
+use codes::Refusal;
+use codes::words::BAD_LENGTH;
 use records::{Notice, latest_notification};
 
 // An event that says nothing.
 const NOTHING: u64 = 513;
 
 // Each number that an event gives takes 4 bytes of the result.
-pub(crate) fn tell(notice: Notice, res: &mut [u8]) -> u64
-    ensures { shown result res.new ≡ noticed notice res.old }
+pub(crate) fn tell(said: Result<Option<Notice>, Refusal>, res: &mut [u8]) -> u64
+    ensures { shown result res.new ≡ noticed said res.old }
 {
-    match notice {
-        Notice::Is(kind, data) => {
+    match said {
+        Ok(Some(Notice::Event(kind, data))) => {
             layout::put_u32(res, 0, kind.code());
             layout::put_u32(res, 4, data);
             0
         }
-        Notice::Control(id, mask) => {
+        Ok(Some(Notice::Control(id, mask))) => {
             layout::put_u32(res, 0, 0x1200);
             layout::put_u32(res, 4, id as u32);
             layout::put_u32(res, 8, mask as u32);
             0
         }
-        Notice::IoError => Refusal::IoError(Cause::NoStatus).word(),
-        Notice::Nothing => NOTHING,
+        Ok(None) => NOTHING,
+        Err(refusal) => refusal.word(),
     }
 }
 

@@ -4,7 +4,7 @@ ghost use Rattle.layout.specs.Lent.{made, shown};
 ghost use Rattle.state_store.specs.Tokens.{submitted, mark_in, finish_in, pending_in, seen_in};
 ghost use Rattle.console.specs.Entries.{nb_entry};
 
-use crate::calls::BAD_LENGTH;
+use codes::words::BAD_LENGTH;
 
 // One whole period is copied into a place; its token stands in the result.
 #[unsafe(no_mangle)]

@@ -3,15 +3,15 @@ ghost use Rattle.std.specs.Prelude.{◌≡◌};
 ghost use Rattle.trace.specs.Fields.{scan_of};
 ghost use Rattle.trace.specs.Judge.{judged_of, says_judgement, says_judged, place_of, place_of_judged};
 
-use trace::{Judged, Judgement};
+use trace::{Judgement, TraceError};
 
 fn number(j: Judgement) -> u64
     ensures { result ≡ (says_judgement j).number }
 {
     match j {
-        Judgement::Accepted => 0,
-        Judgement::BadTrace { at: _ } => 18,
-        Judgement::NotARun { at: _ } => 19,
+        Ok(()) => 0,
+        Err(TraceError::BadTrace { .. }) => 18,
+        Err(TraceError::NotARun { .. }) => 19,
     }
 }
 
@@ -19,9 +19,9 @@ fn place(j: Judgement) -> u64
     ensures { result ≡ place_of j }
 {
     match j {
-        Judgement::Accepted => 0,
-        Judgement::BadTrace { at } => at as u64,
-        Judgement::NotARun { at } => at as u64,
+        Ok(()) => 0,
+        Err(TraceError::BadTrace { at }) => at as u64,
+        Err(TraceError::NotARun { at }) => at as u64,
     }
 }
 
@@ -48,10 +48,9 @@ pub extern "C" fn snd_trace_scan_at(trace: &[u8]) -> u64
 pub extern "C" fn snd_judge(mode: u32, trace: &[u8]) -> u64
     ensures { result ≡ (says_judged (judged_of mode trace.now)).number }
 {
-    let said = trace::judge(mode as usize, trace);
-    match said {
-        Judged::Is(j) => number(j),
-        Judged::InvalidParam => 1,
+    match trace::judge(mode as usize, trace) {
+        Ok(j) => number(j),
+        Err(r) => r.number() as u64,
     }
 }
 
@@ -60,9 +59,8 @@ pub extern "C" fn snd_judge(mode: u32, trace: &[u8]) -> u64
 pub extern "C" fn snd_judge_at(mode: u32, trace: &[u8]) -> u64
     ensures { result ≡ place_of_judged (judged_of mode trace.now) }
 {
-    let said = trace::judge(mode as usize, trace);
-    match said {
-        Judged::Is(j) => place(j),
-        Judged::InvalidParam => 0,
+    match trace::judge(mode as usize, trace) {
+        Ok(j) => place(j),
+        Err(_) => 0,
     }
 }

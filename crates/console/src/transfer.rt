@@ -2,8 +2,7 @@
 ghost use Rattle.std.specs.Prelude.{◌≡◌, length};
 ghost use Rattle.console.specs.Entries.{began, start_entry, start_traced_entry};
 
-use crate::calls::BAD_LENGTH;
-use state_store::Opening;
+use codes::words::BAD_LENGTH;
 
 #[unsafe(no_mangle)]
 pub extern "C" fn snd_pcm_xfer_start(
@@ -22,14 +21,8 @@ pub extern "C" fn snd_pcm_xfer_start(
     let t = ring_store::track(ring);
     let opening = state_store::open(state, t, stream, message);
     match opening {
-        Opening::Says(number) => number,
-        Opening::Open(period) => ring_store::start(
-            ring,
-            stream,
-            frames.len(),
-            period as usize,
-            budget,
-        ),
+        Err(number) => number,
+        Ok(period) => ring_store::start(ring, stream, frames.len(), period as usize, budget),
     }
 }
 
@@ -53,8 +46,8 @@ pub extern "C" fn snd_pcm_xfer_start_traced(
     let t = ring_store::track(ring);
     let opening = state_store::open(state, t, stream, message);
     match opening {
-        Opening::Says(number) => number,
-        Opening::Open(period) => {
+        Err(number) => number,
+        Ok(period) => {
             let lent = room.len();
             ring_store::start_traced(ring, stream, frames.len(), period, budget, lent)
         }

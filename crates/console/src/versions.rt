@@ -6,14 +6,12 @@ ghost use Rattle.layout.specs.Lent.{shown};
 ghost use Rattle.records.specs.Config.{config_row, config_values};
 ghost use Rattle.console.specs.Entries.{config_entry, notice_entry_in};
 
-use crate::calls::BAD_LENGTH;
 use crate::event::tell;
-use codes::{FoundVersion, Version, has_controls};
-use records::{Config, ReadConfig, latest_notification_in};
+use codes::words::{BAD_LENGTH, INVALID_PARAM};
+use codes::{Version, has_controls};
+use records::{Config, latest_notification_in};
 
 // A number that is no version.
-const INVALID_PARAM: u64 = 1;
-
 fn put_config(res: &mut [u8], c: Config, controls: bool)
     ensures { res.new ≡ sets res.old 0 (writes (config_row controls) (config_values controls c)) }
 {
@@ -33,10 +31,10 @@ pub extern "C" fn snd_config(config: &[u8], version: u32, features: u64, res: &m
         return BAD_LENGTH;
     }
     let controls = has_controls(version, features);
-    let ReadConfig::Is(c) = Config::read(config, controls) else {
+    let Ok(c) = Config::read(config, controls) else {
         return BAD_LENGTH;
     };
-    let FoundVersion::Is(_) = Version::from_number(version) else {
+    let Ok(_) = Version::try_from(version) else {
         return INVALID_PARAM;
     };
     put_config(res, c, controls);
@@ -55,7 +53,7 @@ pub extern "C" fn snd_latest_notification_in(
     if res.len() < state_store::RESULT {
         return BAD_LENGTH;
     }
-    let FoundVersion::Is(_) = Version::from_number(version) else {
+    let Ok(_) = Version::try_from(version) else {
         return INVALID_PARAM;
     };
     let controls = has_controls(version, features);

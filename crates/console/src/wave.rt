@@ -5,8 +5,8 @@ ghost use Rattle.layout.specs.Layout.{write as writes};
 ghost use Rattle.layout.specs.Lent.{made, shown};
 ghost use Rattle.console.specs.Entries.{wave_row, wave_values, wave_entry, file_entry};
 
-use crate::calls::BAD_LENGTH;
-use wav::{ReadWave, Wave, WroteWave};
+use codes::words::BAD_LENGTH;
+use wav::{Wave, WaveError, WriteError};
 
 const NOT_WAVE: u64 = 13;
 
@@ -30,14 +30,13 @@ pub extern "C" fn snd_wav_read(file: &[u8], res: &mut [u8]) -> u64
     if res.len() < state_store::RESULT {
         return BAD_LENGTH;
     }
-    let r = wav::read(file);
-    match r {
-        ReadWave::Is(w) => {
+    match wav::read(file) {
+        Ok(w) => {
             put_wave(res, w);
             0
         }
-        ReadWave::NotWave => NOT_WAVE,
-        ReadWave::BadSound => BAD_SOUND,
+        Err(WaveError::NotWave) => NOT_WAVE,
+        Err(WaveError::BadSound) => BAD_SOUND,
     }
 }
 
@@ -51,10 +50,9 @@ pub extern "C" fn snd_wav_write(
 ) -> u64
     ensures { made result file.new ≡ file_entry channels format rate frames.now file.old }
 {
-    let said = wav::write(channels, format, rate, frames, file);
-    match said {
-        WroteWave::Done(_) => 0,
-        WroteWave::BadSound => BAD_SOUND,
-        WroteWave::BadLength => BAD_LENGTH,
+    match wav::write(channels, format, rate, frames, file) {
+        Ok(_) => 0,
+        Err(WriteError::BadSound) => BAD_SOUND,
+        Err(WriteError::BadLength) => BAD_LENGTH,
     }
 }

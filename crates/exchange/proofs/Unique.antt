@@ -1,12 +1,9 @@
 -- A public function's contract leaves one outcome: any two that it permits, for the same arguments, are equal, in what is returned and in what the
 -- lent message buffer holds. `Post` is the contract itself, as Rattle reads it off the source, so no statement here repeats a clause.
 -- Assumes nothing.
-use Rattle.std.proofs.Common.{◌≡◌, eqb, get_or, refl}
-use Rattle.codes.specs.Says.{Says, pick}
-use Rattle.codes.specs.SaysLaws.{same, one}
-use Rattle.exchange.specs.State.{says_configured}
-use Rattle.exchange.specs.Types.{Configured}
-use Rattle.exchange.specs.declared.state.Configured.TheVariants as configured
+use Rattle.std.proofs.Common.{◌≡◌, get_or, refl, [], ◌∷◌}
+use Rattle.codes.specs.SaysLaws.{same}
+use Rattle.codes.specs.ResultLaws.{one-result}
 use Rattle.exchange.proofs.state.Sound.new.Reads as new
 use Rattle.exchange.proofs.state.Sound.new_guarded.Reads as new-guarded
 use Rattle.exchange.proofs.state.Sound.jacks.Reads as jacks
@@ -48,22 +45,14 @@ new-one κs a r₁ r₂ e₁ e₂ p q = same p q
 pub new-guarded-one : (κs : _) (a : _) (r₁ r₂ : _) (e₁ e₂ : _) → new-guarded.Post κs a r₁ e₁ → new-guarded.Post κs a r₂ e₂ → r₁ ≡ r₂
 new-guarded-one κs a r₁ r₂ e₁ e₂ p q = same p q
 
-un_configured : Says → Configured
-un_configured s = pick (eqb s.number 0) (configured.Is (get_or s.values 0 0)) configured.InvalidParam
-
-un-configured : (r : Configured) → un_configured (says_configured r) ≡ r
-unfolding un_configured
-un-configured (configured.Is n) = refl
-un-configured configured.InvalidParam = refl
-
 pub jacks-one : (κs : _) (a : _) (r₁ r₂ : _) (e₁ e₂ : _) → jacks.Post κs a r₁ e₁ → jacks.Post κs a r₂ e₂ → r₁ ≡ r₂
-jacks-one κs a r₁ r₂ e₁ e₂ p q = one says_configured un_configured un-configured p q
+jacks-one κs a r₁ r₂ e₁ e₂ p q = one-result (λ n. n ∷ []) (λ l. get_or l 0 0) (λ n. refl) p q
 
 pub streams-one : (κs : _) (a : _) (r₁ r₂ : _) (e₁ e₂ : _) → streams.Post κs a r₁ e₁ → streams.Post κs a r₂ e₂ → r₁ ≡ r₂
-streams-one κs a r₁ r₂ e₁ e₂ p q = one says_configured un_configured un-configured p q
+streams-one κs a r₁ r₂ e₁ e₂ p q = one-result (λ n. n ∷ []) (λ l. get_or l 0 0) (λ n. refl) p q
 
 pub chmaps-one : (κs : _) (a : _) (r₁ r₂ : _) (e₁ e₂ : _) → chmaps.Post κs a r₁ e₁ → chmaps.Post κs a r₂ e₂ → r₁ ≡ r₂
-chmaps-one κs a r₁ r₂ e₁ e₂ p q = one says_configured un_configured un-configured p q
+chmaps-one κs a r₁ r₂ e₁ e₂ p q = one-result (λ n. n ∷ []) (λ l. get_or l 0 0) (λ n. refl) p q
 
 pub jack-remap-one : (κs : _) (a : _) (r₁ r₂ : _) (e₁ e₂ : _) → jack-remap.Post κs a r₁ e₁ → jack-remap.Post κs a r₂ e₂ → (r₁ ≡ r₂) × (e₁.1.1.1.1.1.0.now ≡ e₂.1.1.1.1.1.0.now)
 jack-remap-one κs a r₁ r₂ e₁ e₂ p q = (same p.step q.step, same p.message q.message)
@@ -133,7 +122,7 @@ pub pcm-xfer-ok-one : (κs : _) (a : _) (r₁ r₂ : _) (e₁ e₂ : _) → pcm-
 pcm-xfer-ok-one κs a r₁ r₂ e₁ e₂ p q = same p q
 
 pub pending-count-one : (κs : _) (a : _) (r₁ r₂ : _) (e₁ e₂ : _) → pending-count.Post κs a r₁ e₁ → pending-count.Post κs a r₂ e₂ → r₁ ≡ r₂
-pending-count-one κs a r₁ r₂ e₁ e₂ p q = one says_configured un_configured un-configured p q
+pending-count-one κs a r₁ r₂ e₁ e₂ p q = one-result (λ n. n ∷ []) (λ l. get_or l 0 0) (λ n. refl) p q
 
 pub pending-token-one : (κs : _) (a : _) (r₁ r₂ : _) (e₁ e₂ : _) → pending-token.Post κs a r₁ e₁ → pending-token.Post κs a r₂ e₂ → r₁ ≡ r₂
 pending-token-one κs a r₁ r₂ e₁ e₂ p q = same p q

@@ -1,6 +1,6 @@
 -- The premises of `capture-in-time` can be met, on a ring of indirect descriptors: stream 1 has direction 1 on the page that was fed, and its parameters were set by calls.
 -- Assumes nothing.
-use Rattle.std.specs.Prelude.{◌≡◌, ℕ, false, [], ◌∷◌, ◌++◌, replicate, refl}
+use Rattle.std.specs.Prelude.{◌≡◌, ℕ, false, [], ◌∷◌, ◌++◌, replicate, refl, None}
 use Rattle.std.proofs.lemmas.Bool.{false≢true}
 use Rattle.std.proofs.Common.{inr, arith}
 use Rattle.layout.specs.Bytes.{un, bytes_at, num_at}
@@ -18,13 +18,12 @@ use Rattle.exchange.specs.Ends.{after}
 use Rattle.exchange.specs.Feed.{Feed, paged, failed}
 use Rattle.exchange.specs.Reached.{Reached, fresh, called, fed, reached-playable}
 use Rattle.exchange.specs.declared.state.Sound.{Sound}
-use Rattle.tables.specs.declared.verdict.Written.TheVariants.{InFull}
 use Rattle.sound_core.specs.declared.state.Call.{Call}
 use Rattle.sound_core.specs.declared.state.Call.TheVariants.{SetParams}
 
 -- stream 1 of the page has direction 1
 abbrev ok : Feed
-ok = paged InFull (0x00 ∷ 0x80 ∷ (replicate 58 0 ++ (1 ∷ replicate 4035 0))) 24
+ok = paged None (0x00 ∷ 0x80 ∷ (replicate 58 0 ++ (1 ∷ replicate 4035 0))) 24
 
 abbrev first : Call
 first = SetParams 1 (record { known = 0; buffer = 8192; period = 2048; features = 0; channels = 2; format = 5; rate = 7 })

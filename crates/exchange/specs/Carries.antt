@@ -1,6 +1,6 @@
 -- THE STATUS THAT A REFUSAL CARRIES. "Refusals: 2 and 3 keep number and place and carry the status that caused them, or none."
 -- Assumes nothing.
-use Rattle.std.specs.Prelude.{◌≡◌, ℕ, Bool, true, false, not, List, [], ◌==◌, ◌≢◌, refl}
+use Rattle.std.specs.Prelude.{◌≡◌, ℕ, Bool, true, false, not, List, [], ◌==◌, ◌≢◌, refl, Option, Some, None, Err, Ok, Result}
 use Rattle.std.proofs.Common.{sym, subst}
 use Rattle.std.proofs.lemmas.Bool.{false≢true, eqb-false}
 use Rattle.layout.specs.Bytes.{num_at}
@@ -10,7 +10,7 @@ use Rattle.codes.specs.Answers.{says_refusal, refusal_word}
 use Rattle.codes.specs.Cause.{NotOk, Caused, word_back}
 use Rattle.codes.specs.declared.answers.Refusal.TheVariants as refusal
 use Rattle.tables.specs.Tables.{judged, is_good}
-use Rattle.tables.specs.declared.verdict.Verdict.TheVariants as verdict
+use Rattle.tables.specs.declared.verdict.Fault.TheVariants as fault
 use Rattle.turns.specs.Rules.{choose_of, comes_to, played_of, is_oldest, judge_of, settle, hear, act, turn_of, submit, sent_of, counted_by, counted_of}
 use Rattle.turns.specs.RuleLaws.{Judged, judged as judged-slot, played-fails}
 use Rattle.turns.specs.CaseLaws.{last_of}
@@ -18,10 +18,9 @@ use Rattle.turns.specs.Consistent as ring
 use Rattle.turns.specs.Calls.{traced_call, turn_call, drained, drain_call, start_call, start_traced, started_of}
 use Rattle.turns.specs.Capture.{capture_start}
 use Rattle.turns.specs.declared.ring.Step as step
-use Rattle.turns.specs.declared.ring.Sent as sends
-use Rattle.turns.specs.declared.ring.Sent.TheVariants as sent
+use Rattle.turns.specs.declared.ring.Period.{Period}
 use Rattle.turns.specs.declared.ring.Said.TheVariants as said
-use Rattle.turns.specs.declared.reading.Reading.TheVariants.{Quiet, Completed}
+use Rattle.turns.specs.Types.{completion}
 use Rattle.turns.specs.declared.rules.Choice.{Choice}
 use Rattle.turns.specs.declared.rules.Choice.TheVariants.{Submit, Finish, Wait}
 use Rattle.turns.specs.declared.rules.Verdict as rules
@@ -37,7 +36,7 @@ use Rattle.exchange.specs.Feed.{Feed, paged, failed, plan_of, fed_of, verdict_of
 use Rattle.exchange.specs.Xfer.{refused_step, start_step, start_as, start_of, start_traced_of, capture_of}
 use Rattle.exchange.specs.OwnLaws.{picked-by}
 use Rattle.exchange.specs.declared.xfer.XferReply.TheVariants as xfer
-use Rattle.exchange.specs.Types.{Written, Cause, NoStatus, Status, Refusal, InvalidParam, IoError, Unsupported, Verdict, Counts, Track, Ring, Said, Reading, Kind, Call, SetParams, Command, Remap, Streams, Supported, Xfer, Capture, Stage, Idle, JacksAsked, StreamsAsked, MapsAsked, Sent, Core, Sound, Look, Nothing, Refused, Plan, Reply, XferReply, XferStep}
+use Rattle.exchange.specs.Types.{Written, Cause, NoStatus, Status, Refusal, InvalidParam, IoError, Unsupported, Verdict, Counts, Track, Ring, Said, Reading, Kind, Call, SetParams, Command, Remap, Streams, Supported, Xfer, Capture, Stage, Idle, JacksAsked, StreamsAsked, MapsAsked, Sent, Core, Sound, Look, Nothing, Plan, Reply, XferReply, XferStep}
 
 -- 2 carries what is P, and 3 what is Q; no other refusal carries anything
 abbrev pub Carry : (Cause → Type 0) → (Cause → Type 0) → Refusal → Type 0
@@ -74,8 +73,8 @@ Bare = Carry Without Without
 -- ---- A TURN. "Otherwise free the slot; a status other than 0x8000 ends with 2.": the status of the completion that was read, of the oldest slot
 
 abbrev pub Explained : ℕ → Reading → Cause → Type 0
-Explained tail Quiet c = ⊥
-Explained tail (Completed slot status) c = (slot ≡ tail) × (c ≡ Status status) × (status ≢ 0x8000)
+Explained tail None c = ⊥
+Explained tail (Some c₁) c = (c₁.slot ≡ tail) × (c ≡ Status c₁.status) × (c₁.status ≢ 0x8000)
 
 -- what ends a transfer is P, what is refused before is Q
 abbrev Telling : (Refusal → Type 0) → (Refusal → Type 0) → Said → Type 0
@@ -98,19 +97,19 @@ module _ (tail : ℕ) (reading : Reading) where
   counted-tells (said.Ended r) last x p = p
   counted-tells (said.Refused r) last x p = p
 
-settle-tells : (v : rules.Verdict) (s : sends.Sent) (t : Track) (slot status : ℕ) → Judged t slot (played_of status) v → Turns t.tail (Completed slot status) (settle v s t slot status)
+settle-tells : (v : rules.Verdict) (s : Option Period) (t : Track) (slot status : ℕ) → Judged t slot (played_of status) v → Turns t.tail (completion slot status) (settle v s t slot status)
 settle-tells rule.WrongSlot s t slot status j = tt
 settle-tells rule.Good s t slot status j = tt
-settle-tells (rule.Bad r) s t slot status j = let f = played-fails status r j.2 in subst (Ends t.tail (Completed slot status)) f.1 (j.1, refl, f.0)
+settle-tells (rule.Bad r) s t slot status j = let f = played-fails status r j.2 in subst (Ends t.tail (completion slot status)) f.1 (j.1, refl, f.0)
 
-hear-tells : (s : sends.Sent) (t : Track) (reading : Reading) → Turns t.tail reading (hear (comes_to played_of reading) s t reading)
-hear-tells s t Quiet = tt
-hear-tells s t (Completed slot status) = settle-tells (judge_of t slot (played_of status)) s t slot status (judged-slot t slot (played_of status))
+hear-tells : (s : Option Period) (t : Track) (reading : Reading) → Turns t.tail reading (hear (comes_to played_of reading) s t reading)
+hear-tells s t None = tt
+hear-tells s t (Some c) = settle-tells (judge_of t c.slot (played_of c.status)) s t c.slot c.status (judged-slot t c.slot (played_of c.status))
 
 act-tells : (c : Choice) (t : Track) (reading : Reading) → Turns t.tail reading (act c t (comes_to played_of reading) reading)
 act-tells Submit t reading = hear-tells (sent_of t) (submit t) reading
 act-tells Finish t reading = tt
-act-tells Wait t reading = hear-tells sent.Nothing t reading
+act-tells Wait t reading = hear-tells None t reading
 
 turn-tells : (t : Track) (len : ℕ) (reading : Reading) → Turns t.tail reading (turn_call t len reading)
 unfolding traced_call counted_of turn_of
@@ -138,8 +137,8 @@ abbrev Drains : step.Step → Type 0
 Drains x = Telling Neither Neither x.said
 
 drained-tells : (t : Track) (reading : Reading) → Drains (drained t reading)
-drained-tells t Quiet = tt
-drained-tells t (Completed slot status) = guarded-by Drains _ _ _ (λ _. tt) (λ _. tt)
+drained-tells t None = tt
+drained-tells t (Some c) = guarded-by Drains _ _ _ (λ _. tt) (λ _. tt)
 
 drain-tells : (t : Track) (reading : Reading) → Drains (drain_call t reading)
 unfolding drain_call
@@ -150,10 +149,10 @@ drain-bare t reading r e = subst (Telling Neither Neither) e (drain-tells t read
 
 -- ---- A CALL, AND THE START OF A TRANSFER: at once no status has come, so 2 and 3 carry none
 
-abbrev Replies : (Refusal → Type 0) → Reply → Type 0
-Replies P (reply.Send n) = Unit {0}
-Replies P (reply.Done v) = Unit {0}
-Replies P (reply.Refused r) = P r
+abbrev Replies : (Refusal → Type 0) → Result Reply Refusal → Type 0
+Replies P (Ok (reply.Send n)) = Unit {0}
+Replies P (Ok (reply.Done v)) = Unit {0}
+Replies P (Err r) = P r
 
 abbrev Plans : (Refusal → Type 0) → Plan → Type 0
 Plans P p = Replies P (reply_of p.say)
@@ -186,7 +185,7 @@ call-bare s t call n =
     (λ _. tt))
     (λ _. tt)
 
-pub carries-call : (s : Sound) (t : Track) (call : Call) (n : ℕ) (r : Refusal) → (step_of (call_of s t call n) s []).reply ≡ reply.Refused r → Bare r
+pub carries-call : (s : Sound) (t : Track) (call : Call) (n : ℕ) (r : Refusal) → (step_of (call_of s t call n) s []).reply ≡ Err r → Bare r
 carries-call s t call n r e = subst (Replies Bare) e (call-bare s t call n)
 
 abbrev Begins : XferReply → Type 0
@@ -282,9 +281,9 @@ Carries g f = Carry (CausedBy g f) (CausedBy g f)
 
 -- a verdict's status is the header's word, and its own refusals are neither 2 nor 3
 abbrev Seen : Feed → Verdict → Type 0
-Seen f verdict.Good = Unit {0}
-Seen f (verdict.Status word) = Header f (Status word)
-Seen f (verdict.Refused r) = Neither r
+Seen f (Ok _) = Unit {0}
+Seen f (Err (fault.Status word)) = Header f (Status word)
+Seen f (Err (fault.Refused r)) = Neither r
 
 judged-seen : (w : Written) (page : List ℕ) (m n size : ℕ) → Seen (paged w page m) (judged w page n size)
 unfolding judged
@@ -330,9 +329,9 @@ module _ (f : Feed) where
   Told = Carry (Header f) (Header f)
 
   told : (of : Cause → Refusal) → ((c : Cause) → Header f c → Told (of c)) → (v : Verdict) → is_good v ≡ false → Seen f v → Told (refusal_of (of (cause_of v)) v)
-  told of k verdict.Good e h = absurd (false≢true (sym e))
-  told of k (verdict.Status word) e h = k (Status word) h
-  told of k (verdict.Refused r) e h = neither (Header f) (Header f) r h
+  told of k (Ok _) e h = absurd (false≢true (sym e))
+  told of k (Err (fault.Status word)) e h = k (Status word) h
+  told of k (Err (fault.Refused r)) e h = neither (Header f) (Header f) r h
 
   status-told : (call : Call) (c : Cause) → Header f c → Told (status_refusal call c)
   status-told (SetParams stream to) c h = h
@@ -366,7 +365,7 @@ feed-carries s (failed n) =
     let f = failed n in
     guarded-by (Plans (Carries s.core.stage f)) _ _ _ (λ _. answered-carries f s.core (verdict_of s f) (pending_look s.core.stage s) (seen s f)) (λ _. tt)
 
-pub carries-feed : (s : Sound) (f : Feed) (r : Refusal) → (fed_of s f).reply ≡ reply.Refused r → Carries s.core.stage f r
+pub carries-feed : (s : Sound) (f : Feed) (r : Refusal) → (fed_of s f).reply ≡ Err r → Carries s.core.stage f r
 carries-feed s f r e = subst (Replies (Carries s.core.stage f)) e (feed-carries s f)
 
 -- ---- AT THE C BOUNDARY: what is said is always `Caused`, so that two answers with one word say the same, number and status
@@ -389,8 +388,8 @@ caused P Q p q refusal.NotYet h = tt
 caused P Q p q refusal.BadCapture h = tt
 
 explained-not-ok : (tail : ℕ) (reading : Reading) (c : Cause) → Explained tail reading c → NotOk c
-explained-not-ok tail Quiet c h = absurd h
-explained-not-ok tail (Completed slot status) c h = subst NotOk (sym h.1) h.2
+explained-not-ok tail None c h = absurd h
+explained-not-ok tail (Some c₁) c h = subst NotOk (sym h.1) h.2
 
 without-not-ok : (c : Cause) → Without c → NotOk c
 without-not-ok c h = subst NotOk (sym h) tt
@@ -410,7 +409,7 @@ pub caused-turn : (t : Track) (len : ℕ) (reading : Reading) (r : Refusal) → 
 caused-turn t len reading r e =
     caused (Explained t.tail reading) Never (explained-not-ok t.tail reading) (λ _ h. absurd h) r (subst (Telling (Ends t.tail reading) Neither) e (turn-tells t len reading))
 
-pub caused-call : (s : Sound) (t : Track) (call : Call) (n : ℕ) (r : Refusal) → (step_of (call_of s t call n) s []).reply ≡ reply.Refused r → Caused r
+pub caused-call : (s : Sound) (t : Track) (call : Call) (n : ℕ) (r : Refusal) → (step_of (call_of s t call n) s []).reply ≡ Err r → Caused r
 caused-call s t call n r e = caused Without Without without-not-ok without-not-ok r (carries-call s t call n r e)
 
 pub caused-start : (s : Sound) (r : Ring) (stream len budget n : ℕ) (x : Refusal) → (start_of s r stream len budget n).reply ≡ xfer.Says (said.Refused x) → Caused x
@@ -422,10 +421,10 @@ caused-traced s r stream len budget room n x e = caused Without Without without-
 pub caused-capture : (s : Sound) (r : Ring) (stream periods lent budget n : ℕ) (x : Refusal) → (capture_of s r stream periods lent budget n).reply ≡ xfer.Says (said.Refused x) → Caused x
 caused-capture s r stream periods lent budget n x e = caused Without Without without-not-ok without-not-ok x (carries-capture s r stream periods lent budget n x e)
 
-pub caused-feed : (s : Sound) (f : Feed) (r : Refusal) → (fed_of s f).reply ≡ reply.Refused r → Caused r
+pub caused-feed : (s : Sound) (f : Feed) (r : Refusal) → (fed_of s f).reply ≡ Err r → Caused r
 caused-feed s f r e = let k = fed-not-ok s.core.stage f in caused (CausedBy s.core.stage f) (CausedBy s.core.stage f) k k r (carries-feed s f r e)
 
-pub alike-feeds : (s z : Sound) (f g : Feed) (a b : Refusal) → (fed_of s f).reply ≡ reply.Refused a → (fed_of z g).reply ≡ reply.Refused b → refusal_word a ≡ refusal_word b → says_refusal a ≡ says_refusal b
+pub alike-feeds : (s z : Sound) (f g : Feed) (a b : Refusal) → (fed_of s f).reply ≡ Err a → (fed_of z g).reply ≡ Err b → refusal_word a ≡ refusal_word b → says_refusal a ≡ says_refusal b
 alike-feeds s z f g a b p q e = word_back a b (caused-feed s f a p) (caused-feed z g b q) e
 
 pub alike-turns : (t u : Track) (l m : ℕ) (x y : Reading) (a b : Refusal) → (turn_call t l x).said ≡ said.Ended a → (turn_call u m y).said ≡ said.Ended b → refusal_word a ≡ refusal_word b
@@ -434,11 +433,11 @@ alike-turns t u l m x y a b p q e = word_back a b (caused-turn t l x a p) (cause
 
 -- ---- INSTANCES: a command answered with "not supported", a remap so, and a period played with "I/O error"
 
-pub command-not-supported : (c : Core) (kind : Kind) (stream : ℕ) → (after_sent c (Command kind stream) (verdict.Status 0x8002)).say ≡ Refused (IoError (Status 0x8002))
+pub command-not-supported : (c : Core) (kind : Kind) (stream : ℕ) → (after_sent c (Command kind stream) (Err (fault.Status 0x8002))).say ≡ Err (IoError (Status 0x8002))
 unfolding after_sent guard
 command-not-supported c kind stream = refl
 
-pub remap-not-supported : (c : Core) (jack a q : ℕ) → (after_sent c (Remap jack a q) (verdict.Status 0x8002)).say ≡ Refused (Unsupported (Status 0x8002))
+pub remap-not-supported : (c : Core) (jack a q : ℕ) → (after_sent c (Remap jack a q) (Err (fault.Status 0x8002))).say ≡ Err (Unsupported (Status 0x8002))
 unfolding after_sent guard
 remap-not-supported c jack a q = refl
 
@@ -446,6 +445,6 @@ remap-not-supported c jack a q = refl
 abbrev pub played : Track
 played = record { descriptors = 3; head = 1; tail = 0; inflight = 1; stream = 0; total = 4; period = 4; next = 4; budget = 9; turns = 1; running = true; capture = false; lent = 4; kept = 0; room = 0; written = 0; good = 0 }
 
-pub turn-failed : (turn_call played 4 (Completed 0 0x8003)).said ≡ said.Ended (IoError (Status 0x8003))
+pub turn-failed : (turn_call played 4 (completion 0 0x8003)).said ≡ said.Ended (IoError (Status 0x8003))
 unfolding traced_call guard counted_of turn_of choose_of judge_of is_oldest played_of ring.placed_of ring.paced_of
 turn-failed = refl

@@ -1,7 +1,7 @@
 -- Theorems: "Keep each as the received records in one flat byte store and read fields when asked. .. No answer or refusal changes." In the decoded form, effects and
 -- answers are as they were when the state held it.
 -- Assumes nothing.
-use Rattle.std.specs.Prelude.{◌≡◌, ℕ, ◌&&◌, List, [], length, nat_le, refl}
+use Rattle.std.specs.Prelude.{◌≡◌, ℕ, ◌&&◌, List, [], length, nat_le, refl, Err}
 use Rattle.std.proofs.Common.{ap}
 use Rattle.layout.specs.Lent.{message_size}
 use Rattle.layout.specs.Layout.{size}
@@ -9,7 +9,7 @@ use Rattle.codes.specs.Says.{guard}
 use Rattle.records.specs.Records.{jack_info, pcm_info, channel_map}
 use Rattle.tables.specs.Tables.{page_ok, refilled, jack_at, pcm_at, map_at, tables_bytes}
 use Rattle.tables.specs.FillLaws.{jacks-filled, jacks-leave-pcms, jacks-leave-maps, pcms-leave-jacks, pcms-filled, pcms-leave-maps, maps-leave-jacks, maps-leave-pcms, maps-filled}
-use Rattle.tables.specs.declared.verdict.Verdict.TheVariants as verdict
+use Rattle.tables.specs.declared.verdict.Fault.TheVariants as fault
 use Rattle.sound_core.specs.Plan.{refuse_of, begin_of, answer_of, verdict_by}
 use Rattle.sound_core.specs.Reply.{reply_of}
 use Rattle.exchange.specs.State.{jacks_of, pcms_of, maps_of}
@@ -79,4 +79,4 @@ module _ (s u : Sound) (a : Alike s u) where
   same-answers-feed (failed n) =
       same_by []
       (λ i. guard (nat_le message_size n) (refuse_of (a.core i) BadLength)
-      (answer_of (a.core i) (verdict.Refused QueueFailed) (pending_by (a.jacks i) (a.pcms i) (a.lives i) (a.core i).stage)))
+      (answer_of (a.core i) (Err (fault.Refused QueueFailed)) (pending_by (a.jacks i) (a.pcms i) (a.lives i) (a.core i).stage)))

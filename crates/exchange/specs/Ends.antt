@@ -1,6 +1,6 @@
 -- Theorems: every call ends. A call and any feeds send at most 4 requests, and 4 feeds of the right lengths close any exchange.
 -- Assumes nothing.
-use Rattle.std.specs.Prelude.{◌≡◌, ℕ, ◌+◌, ◌-◌, ◌≤◌, Bool, true, List, [], ◌∷◌, length, refl}
+use Rattle.std.specs.Prelude.{◌≡◌, ℕ, ◌+◌, ◌-◌, ◌≤◌, Bool, true, List, [], ◌∷◌, length, refl, Result, Ok, Err}
 use Rattle.std.proofs.Common.{sym, ap, ◌∙◌, arith}
 use Rattle.std.proofs.lemmas.Bool.{false≢true}
 use Rattle.sound_core.specs.Consistent.{consistent_of}
@@ -12,16 +12,16 @@ use Rattle.exchange.specs.Kept.{Kept}
 use Rattle.exchange.specs.KeptLaws.{feed-kept}
 use Rattle.exchange.specs.Feed.{Feed, page_of, plan_of, fed_of, long_of, Long}
 use Rattle.exchange.specs.StayLaws.{after-core}
-use Rattle.exchange.specs.Types.{Verdict, Track, Call, Stage, Idle, JacksAsked, StreamsAsked, MapsAsked, Sent, Core, Sound, Look, Plan, Reply}
+use Rattle.exchange.specs.Types.{Refusal, Verdict, Track, Call, Stage, Idle, JacksAsked, StreamsAsked, MapsAsked, Sent, Core, Sound, Look, Plan, Reply}
 use Rattle.sound_core.specs.declared.reply.Reply.TheVariants as reply
 
 -- ---- a run of feeds
 
 -- 1 for a request, 0 for a result
-abbrev pub asked : Reply → ℕ
-asked (reply.Send n) = 1
-asked (reply.Done v) = 0
-asked (reply.Refused r) = 0
+abbrev pub asked : Result Reply Refusal → ℕ
+asked (Ok (reply.Send n)) = 1
+asked (Ok (reply.Done v)) = 0
+asked (Err r) = 0
 
 -- the requests of a run, whatever its feeds are
 unfoldable pub requests : Sound → List Feed → ℕ

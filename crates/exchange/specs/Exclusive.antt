@@ -1,6 +1,6 @@
 -- Theorems: in a state and ring that calls left, slots and tokens are never in flight together, and never take more than 32 descriptors.
 -- Assumes nothing.
-use Rattle.std.specs.Prelude.{◌≡◌, ℕ, ◌+◌, ◌*◌, ◌%◌, ◌≤◌, Bool, true, false, not, ◌&&◌, ltb, ◌⊎◌, List, [], length, ◌==◌, ◌≢◌, nat_le, nat_lt}
+use Rattle.std.specs.Prelude.{◌≡◌, ℕ, ◌+◌, ◌*◌, ◌%◌, ◌≤◌, Bool, true, false, not, ◌&&◌, ltb, ◌⊎◌, List, [], length, ◌==◌, ◌≢◌, nat_le, nat_lt, Some, None}
 use Rattle.std.proofs.Math.Path.{refl, subst}
 use Rattle.std.proofs.Common.{sym, ap, ◌∙◌, zero-mul, mul-zero, arith, eqb-true}
 use Rattle.std.proofs.Math.Bool.{false≢true}
@@ -21,7 +21,6 @@ use Rattle.turns.specs.Script.{transfer_of}
 use Rattle.turns.specs.Rules.{is_oldest}
 use Rattle.turns.specs.ConsistentLaws.{both, Consistent}
 use Rattle.turns.specs.declared.ring.Step as ring
-use Rattle.turns.specs.declared.reading.Reading.TheVariants.{Quiet, Completed}
 use Rattle.exchange.specs.Tables.{sound_after}
 use Rattle.exchange.specs.Exchange.{call_of}
 use Rattle.exchange.specs.Feed.{plan_of, page_of}
@@ -92,8 +91,8 @@ module _ (t : Track) (idle : idle_of t ≡ true) where
   none-oldest slot e = false≢true (sym (ap (λ (n : ℕ). ltb 0 n) none-held) ∙ (both (nat_lt 0 t.inflight) (slot == t.tail) e).0)
 
   drained-idle : (reading : Reading) → (calls.drained t reading).track ≡ t
-  drained-idle Quiet = refl
-  drained-idle (Completed slot status) = guarded-by (λ (x : ring.Step). x.track ≡ t) _ _ _ (λ e. absurd (none-oldest slot e)) (λ _. refl)
+  drained-idle None = refl
+  drained-idle (Some c) = guarded-by (λ (x : ring.Step). x.track ≡ t) _ _ _ (λ e. absurd (none-oldest c.slot e)) (λ _. refl)
 
   drain-idle : (reading : Reading) → (drain_call t reading).track ≡ t
   unfolding drain_call
@@ -142,8 +141,8 @@ module _ (s : Sound) (r : Ring) (h : Exclusive s.pending r.track) where
   nb-exclusive stream n len m = nb-ends (λ (u : NbStep). Exclusive u.sound.pending t) s r stream n len m (λ _. h) (λ _ _ _. h) (λ g. inr g.idle)
 
   mark-by-exclusive : (reading : Reading) → Exclusive (mark_by s reading).sound.pending t
-  mark-by-exclusive Quiet = h
-  mark-by-exclusive (Completed slot status) = elim h [ inl e ↦ inl (ap none_in (none-mark s.pending e slot status) ∙ e) | inr i ↦ inr i ]
+  mark-by-exclusive None = h
+  mark-by-exclusive (Some c) = elim h [ inl e ↦ inl (ap none_in (none-mark s.pending e c.slot c.status) ∙ e) | inr i ↦ inr i ]
 
   mark-exclusive : (reading : Reading) → Exclusive (mark_step s reading).sound.pending t
   unfolding mark_step
@@ -206,8 +205,8 @@ module _ (places : ℕ) where
   Above s = AboveFree places s.pending
 
   above-by : (s : Sound) (reading : Reading) → Above s → Above (mark_by s reading).sound
-  above-by s Quiet a = a
-  above-by s (Completed slot status) a = completes-above places s.pending a slot status
+  above-by s None a = a
+  above-by s (Some c) a = completes-above places s.pending a c.slot c.status
 
   pub above : {s : Sound} {r : Ring} (h : Reached s r) → Placed places h → AboveFree places s.pending
   unfolding mark_step finish_step

@@ -1,12 +1,12 @@
 -- A feed of either kind, a page or a queue failure, so that each theorem is stated once: "The caller then feeds the 4,096-byte answer page or a queue failure."
 -- Assumes nothing.
-use Rattle.std.specs.Prelude.{◌≡◌, ℕ, ◌≤◌, Bool, true, false, ◌&&◌, ◌⊎◌, List, [], ◌∷◌, nat_le}
+use Rattle.std.specs.Prelude.{◌≡◌, ℕ, ◌≤◌, Bool, true, false, ◌&&◌, ◌⊎◌, List, [], ◌∷◌, nat_le, Err, None}
 use Rattle.tables.specs.Tables.{page_ok}
 use Rattle.layout.specs.Lent.{message_size}
-use Rattle.tables.specs.declared.verdict.Verdict.TheVariants as verdict
+use Rattle.tables.specs.declared.verdict.Fault.TheVariants as fault
 use Rattle.sound_core.specs.Plan.{verdict_by}
 use Rattle.exchange.specs.Exchange.{step_of, feed_of, fail_of}
-use Rattle.exchange.specs.Types.{Written, InFull, Verdict, QueueFailed, Sound, Plan, Step, Call, SetParams, Command, Remap, Streams, Supported, Xfer, Capture, Stage, Idle, JacksAsked, StreamsAsked, MapsAsked, Sent}
+use Rattle.exchange.specs.Types.{Written, Verdict, QueueFailed, Sound, Plan, Step, Call, SetParams, Command, Remap, Streams, Supported, Xfer, Capture, Stage, Idle, JacksAsked, StreamsAsked, MapsAsked, Sent}
 
 -- a page, of which so much was written, or a failure; with a message buffer of n bytes
 pub data Feed : Type 0 where
@@ -21,7 +21,7 @@ page_of (failed n) = []
 -- how much of it was written
 abbrev pub written_of : Feed → Written
 written_of (paged w bytes n) = w
-written_of (failed n) = InFull
+written_of (failed n) = None
 
 abbrev pub plan_of : Sound → Feed → Plan
 plan_of s (paged w bytes n) = feed_of w s bytes n
@@ -32,7 +32,7 @@ fed_of s f = step_of (plan_of s f) s (page_of f)
 
 abbrev pub verdict_of : Sound → Feed → Verdict
 verdict_of s (paged w bytes n) = verdict_by w s.core.stage s.core.counts bytes
-verdict_of s (failed n) = verdict.Refused QueueFailed
+verdict_of s (failed n) = Err (fault.Refused QueueFailed)
 
 -- a feed that 10 does not refuse
 abbrev pub long_of : Feed → Bool

@@ -1,7 +1,7 @@
 -- Theorems of the guard. "For any sequence of calls the state is the one the table gives for the ok commands." A command that was sent was permitted; the guard never
 -- changes; and without it no state moves.
 -- Assumes nothing.
-use Rattle.std.specs.Prelude.{◌≡◌, ℕ, ◌-◌, ◌<◌, ◌≤◌, Bool, true, false, ◌&&◌, List, [], ◌∷◌, ◌++◌, length, replicate, ◌==◌, nat_le, slice_index, slice_index_or, slice_set, refl}
+use Rattle.std.specs.Prelude.{◌≡◌, ℕ, ◌-◌, ◌<◌, ◌≤◌, Bool, true, false, ◌&&◌, List, [], ◌∷◌, ◌++◌, length, replicate, ◌==◌, nat_le, slice_index, slice_index_or, slice_set, refl, None, Result, Ok, Err}
 use Rattle.std.proofs.Common.{sym, ap, ap₂, ◌∙◌, subst, append-nil, inl, arith, get_or-set_other, get_or-set_same, eqb-true, leb-true, ltb-true}
 use Rattle.std.proofs.lemmas.Bool.{false≢true, eqb-false}
 use Rattle.layout.specs.Bytes.{un, bytes_at, num_at}
@@ -30,7 +30,7 @@ use Rattle.exchange.specs.Ends.{after}
 use Rattle.turns.specs.Consistent.{placed_of, paced_of}
 use Rattle.turns.specs.Ring.{direct, new_track, new_ring}
 use Rattle.turns.specs.ConsistentLaws.{both}
-use Rattle.exchange.specs.Types.{InFull, Verdict, Track, Ring, Kind, Counts, Call, SetParams, Command, Remap, Streams, Supported, Xfer, Capture, Stage, Idle, JacksAsked, StreamsAsked, MapsAsked, Sent, Core, Sound, Say, Send, Done, Refused, Effect, Nothing, FillJacks, FillStreams, FillMaps, Store, Move, Look, Plan, XferStep}
+use Rattle.exchange.specs.Types.{Verdict, Track, Ring, Kind, Counts, Call, SetParams, Command, Remap, Streams, Supported, Xfer, Capture, Stage, Idle, JacksAsked, StreamsAsked, MapsAsked, Sent, Core, Sound, Say, Send, Done, Effect, Nothing, FillJacks, FillStreams, FillMaps, Store, Move, Look, Plan, XferStep, Refusal}
 
 -- ---- A WAY THROUGH THE TABLE: each command is permitted from the state before it, and is the state after it
 
@@ -70,10 +70,10 @@ out_to i (StreamsAsked call) = []
 out_to i (MapsAsked call) = []
 out_to i (Sent call) = command_to i call
 
-abbrev pub ok_in : Say → List ℕ → List ℕ
-ok_in (Send q) ks = []
-ok_in (Done v) ks = ks
-ok_in (Refused r) ks = []
+abbrev pub ok_in : Result Say Refusal → List ℕ → List ℕ
+ok_in (Ok (Send q)) ks = []
+ok_in (Ok (Done v)) ks = ks
+ok_in (Err r) ks = []
 
 abbrev pub ok_of : Sound → Feed → ℕ → List ℕ
 ok_of s f i = ok_in (plan_of s f).say (out_to i s.core.stage)
@@ -107,13 +107,13 @@ made false t e h = absurd (false≢true e)
 
 -- ---- "A command that the table does not permit from the present state is not sent."
 
-abbrev pub Permitted : Sound → Say → Type 0
-Permitted s (Send (request.Query q)) = Unit {0}
-Permitted s (Send (request.Remap q)) = Unit {0}
-Permitted s (Send (request.Command q)) = (q.stream < s.core.counts.streams) × (permits_of (life_of s q.stream) (q.code - 0x0101) ≡ true)
-Permitted s (Send (request.Set q)) = (q.stream < s.core.counts.streams) × (permits_of (life_of s q.stream) (q.code - 0x0101) ≡ true)
-Permitted s (Done v) = Unit {0}
-Permitted s (Refused r) = Unit {0}
+abbrev pub Permitted : Sound → Result Say Refusal → Type 0
+Permitted s (Ok (Send (request.Query q))) = Unit {0}
+Permitted s (Ok (Send (request.Remap q))) = Unit {0}
+Permitted s (Ok (Send (request.Command q))) = (q.stream < s.core.counts.streams) × (permits_of (life_of s q.stream) (q.code - 0x0101) ≡ true)
+Permitted s (Ok (Send (request.Set q))) = (q.stream < s.core.counts.streams) × (permits_of (life_of s q.stream) (q.code - 0x0101) ≡ true)
+Permitted s (Ok (Done v)) = Unit {0}
+Permitted s (Err r) = Unit {0}
 
 kind-number : (kind : Kind) → kind_code kind - 0x0101 ≡ kind_life kind
 kind-number Prepare = refl
@@ -233,10 +233,10 @@ walk-moved lives stream x i l {ks} n w h = by (stream == i) refl w
         subst (λ (m : ℕ). Walk l (ks ++ []) m) (sym (get_or-set_other lives stream i x 0 (λ z. eqb-false stream i e (sym z))))
         (subst (λ (k : List ℕ). Walk l k (slice_index lives i)) (sym (append-nil ks)) h)
 
-ok-none : (a : Say) → ok_in a [] ≡ []
-ok-none (Send q) = refl
-ok-none (Done v) = refl
-ok-none (Refused r) = refl
+ok-none : (a : Result Say Refusal) → ok_in a [] ≡ []
+ok-none (Ok (Send q)) = refl
+ok-none (Ok (Done v)) = refl
+ok-none (Err r) = refl
 
 module _ (s : Sound) (page : List ℕ) (i l : ℕ) {ks : List ℕ} (h : Walk l ks (life_of s i)) where
   stay : {js : List ℕ} {m : ℕ} → js ≡ [] → m ≡ life_of s i → Walk l (ks ++ js) m
@@ -416,7 +416,7 @@ off-still (Move stream life) c s page off = ap (λ (g : Bool). moved g s.lives s
 -- ---- an instance: with the guard, 2 streams; set parameters of stream 1 and then prepare, both answered with ok. Demand 3's premises are met, and the walk is those two
 
 abbrev ok : Feed
-ok = paged InFull (0x00 ∷ 0x80 ∷ replicate 4094 0) 24
+ok = paged None (0x00 ∷ 0x80 ∷ replicate 4094 0) 24
 
 abbrev first : Call
 first = SetParams 1 (record { known = 0; buffer = 8192; period = 2048; features = 0; channels = 2; format = 5; rate = 7 })

@@ -1,6 +1,6 @@
 -- Theorems: "Output and input streams: ascending ids with direction 0, or 1. Other directions are in neither list."
 -- Assumes nothing.
-use Rattle.std.specs.Prelude.{◌≡◌, ℕ, zero, suc, ◌+◌, ◌<◌, ◌≤◌, Bool, true, false, ◌⊎◌, ◌↔◌, List, [], ◌∷◌, length, take, ◌==◌, slice_index, slice_index_or, refl}
+use Rattle.std.specs.Prelude.{◌≡◌, ℕ, zero, suc, ◌+◌, ◌<◌, ◌≤◌, Bool, true, false, ◌⊎◌, ◌↔◌, List, [], ◌∷◌, length, take, ◌==◌, slice_index, slice_index_or, refl, Result, Ok}
 use Rattle.std.proofs.Common.{sym, ap, ap₂, ◌∙◌, inl, inr, arith, get_or-take, length-take-le, eqb-true, eq-eqb}
 use Rattle.codes.specs.Says.{pick}
 use Rattle.records.specs.Records.{pcm_info_of}
@@ -16,7 +16,7 @@ use Rattle.exchange.specs.ResultLaws.{recall, own?, begun-own, Finished, answere
 use Rattle.exchange.specs.Feed.{Feed, page_of, plan_of, fed_of, One, call_at}
 use Rattle.exchange.specs.StayLaws.{Stays, called-stays, fed-stays}
 use Rattle.sound_core.specs.declared.plan.Value.TheVariants as value
-use Rattle.exchange.specs.Types.{PcmInfo, Track, Counts, Streams, MapsAsked, Core, Sound, Value, Say, Done, Look, Plan}
+use Rattle.exchange.specs.Types.{Refusal, PcmInfo, Track, Counts, Streams, MapsAsked, Core, Sound, Value, Say, Done, Look, Plan}
 
 -- ---- one id more, or not
 
@@ -93,28 +93,28 @@ ids-ascending d i (p ∷ ps) j k h l = pick-ascending (p.direction == d) i (ids_
 
 -- ---- what a call answers is that list, of as many records as are configured
 
-list-by : (s : Sound) (p : Plan) (d : ℕ) → Stays s.core p → Fine s.core p → (p.say ≡ Done (value.Streams d)) × (p.core.ready ≡ true) → (page : List ℕ)
+list-by : (s : Sound) (p : Plan) (d : ℕ) → Stays s.core p → Fine s.core p → (p.say ≡ Ok (Done (value.Streams d))) × (p.core.ready ≡ true) → (page : List ℕ)
     → (step_of p s page).streams ≡ listed (ids_from d 0 (take s.core.counts.streams (pcms_of s)))
 list-by s p d b f a page =
     let e = (full p.core.read p.core.counts (ready-tables p.core f.consistent a.1)).streams in
     let n : p.core.read.streams ≡ s.core.counts.streams = e ∙ ap (λ (m : Counts). m.streams) b.counts in
-    ap₂ (λ (x : Say) (k : ℕ). list_of x k (pcms_of s)) a.0 n
+    ap₂ (λ (x : Result Say Refusal) (k : ℕ). list_of x k (pcms_of s)) a.0 n
 
-own-lists : {c : Core} {look : Look} {d : ℕ} {p : Plan} (x : Value) → c.ready ≡ true → p.say ≡ Done x → Own c look (Streams d) p → (p.say ≡ Done (value.Streams d)) × (p.core.ready ≡ true)
+own-lists : {c : Core} {look : Look} {d : ℕ} {p : Plan} (x : Value) → c.ready ≡ true → p.say ≡ Ok (Done x) → Own c look (Streams d) p → (p.say ≡ Ok (Done (value.Streams d))) × (p.core.ready ≡ true)
 own-lists x r e lists = (refl, r)
 own-lists x r e (refuses _ z) = absurd z
 
-finished-lists : {c : Core} {look : Look} {d : ℕ} {p : Plan} (x : Value) → c.stage ≡ MapsAsked (Streams d) → p.say ≡ Done x → Finished c look p
-    → (p.say ≡ Done (value.Streams d)) × (p.core.ready ≡ true)
+finished-lists : {c : Core} {look : Look} {d : ℕ} {p : Plan} (x : Value) → c.stage ≡ MapsAsked (Streams d) → p.say ≡ Ok (Done x) → Finished c look p
+    → (p.say ≡ Ok (Done (value.Streams d))) × (p.core.ready ≡ true)
 finished-lists x g e f =
     let a = own-lists x f.ready (sym f.say ∙ e) (recall (sym (ap call_at f.waited) ∙ ap call_at g) f.own) in
     (f.say ∙ a.0, ap (λ (k : Core). k.ready) f.core ∙ a.1)
 
-pub list-is : (s : Sound) (t : Track) (d n : ℕ) (x : Value) → Kept s → (call_of s t (Streams d) n).say ≡ Done x
+pub list-is : (s : Sound) (t : Track) (d n : ℕ) (x : Value) → Kept s → (call_of s t (Streams d) n).say ≡ Ok (Done x)
     → (step_of (call_of s t (Streams d) n) s []).streams ≡ listed (ids_from d 0 (take s.core.counts.streams (pcms_of s)))
 list-is s t d n x k e = list-by s (call_of s t (Streams d) n) d (called-stays s t (Streams d) n) (called-fine s t (Streams d) n k.consistent) (let b = begun-own (ap own? e) (begun s t (Streams d) n) in own-lists x b.0 e b.1) []
 
 -- at the feed that ends set-up
-pub list-is-feed : (s : Sound) (f : Feed) (d : ℕ) (x : Value) → Kept s → s.core.stage ≡ MapsAsked (Streams d) → (plan_of s f).say ≡ Done x
+pub list-is-feed : (s : Sound) (f : Feed) (d : ℕ) (x : Value) → Kept s → s.core.stage ≡ MapsAsked (Streams d) → (plan_of s f).say ≡ Ok (Done x)
     → (fed_of s f).streams ≡ listed (ids_from d 0 (take s.core.counts.streams (pcms_of s)))
 list-is-feed s f d x k g e = list-by s (plan_of s f) d (fed-stays s f) (fed-fine s f k.consistent) (finished-lists x g e (answered-own (ap own? e) (λ _ h _. omega (arith, ap waits (sym g ∙ h))) (fed s f))) (page_of f)

@@ -1,6 +1,6 @@
 -- What a call's own part can lead to, once set-up is done: every theorem on it goes by these cases.
 -- Assumes nothing.
-use Rattle.std.specs.Prelude.{◌≡◌, ℕ, ◌<◌, Bool, true, false, ◌≢◌, nat_lt, refl}
+use Rattle.std.specs.Prelude.{◌≡◌, ℕ, ◌<◌, Bool, true, false, ◌≢◌, nat_lt, refl, Ok}
 use Rattle.std.proofs.Common.{inl, inr, ltb-true}
 use Rattle.std.proofs.lemmas.Bool.{eqb-false, not-true}
 use Rattle.codes.specs.Says.{pick}
@@ -28,8 +28,8 @@ pub data Own (c : Core) (look : Look) : Call → Plan → Type 0 where
       → Own c look (Command kind stream) (send_of c (Sent (Command kind stream)) (request.Command (record { code = kind_code kind; stream = stream })) Nothing)
   remaps : {jack association sequence : ℕ} → jack < c.counts.jacks → (c.read.jacks ≢ 0) → can_remap look ≡ true
       → Own c look (Remap jack association sequence) (send_of c (Sent (Remap jack association sequence)) (request.Remap (record { code = 0x0002; jack = jack; association = association; sequence = sequence })) Nothing)
-  lists : {direction : ℕ} → Own c look (Streams direction) (end_of c (Done (value.Streams direction)) Nothing)
-  tells : {field : Field} {stream : ℕ} → stream < c.counts.streams → Own c look (Supported field stream) (end_of c (Done (found_of look)) Nothing)
+  lists : {direction : ℕ} → Own c look (Streams direction) (end_of c (Ok (Done (value.Streams direction))) Nothing)
+  tells : {field : Field} {stream : ℕ} → stream < c.counts.streams → Own c look (Supported field stream) (end_of c (Ok (Done (found_of look))) Nothing)
   refuses : {call : Call} (r : Refusal) → One (says_refusal r).number (own_refusals call) → Own c look call (refusing c r)
 
 module _ (c : Core) (look : Look) where

@@ -1,6 +1,6 @@
 -- What a call and an answer can lead to: every theorem on plans goes by these cases.
 -- Assumes nothing.
-use Rattle.std.specs.Prelude.{◌≡◌, ℕ, Bool, true, false, not, ◌&&◌, ◌⊎◌, List, [], ◌∷◌, nat_le}
+use Rattle.std.specs.Prelude.{◌≡◌, ℕ, Bool, true, false, not, ◌&&◌, ◌⊎◌, List, [], ◌∷◌, nat_le, Err, Ok}
 use Rattle.std.proofs.Math.Path.{refl, ap}
 use Rattle.std.proofs.Common.{sym, ◌∙◌, inl, le-leb}
 use Rattle.std.proofs.lemmas.Bool.{false≢true}
@@ -10,7 +10,7 @@ use Rattle.codes.specs.Says.{pick, guard}
 use Rattle.codes.specs.SaysLaws.{guarded-by}
 use Rattle.codes.specs.Answers.{says_refusal}
 use Rattle.tables.specs.Tables.{judged, is_good, refused_by, page_ok}
-use Rattle.tables.specs.declared.verdict.Verdict.TheVariants as verdict
+use Rattle.tables.specs.declared.verdict.Fault.TheVariants as fault
 use Rattle.turns.specs.Calls.{idle_of}
 use Rattle.turns.specs.Consistent as ring
 use Rattle.turns.specs.ConsistentLaws.{both}
@@ -65,20 +65,20 @@ counted v n = pick (is_good v) n 0
 
 -- a verdict that set-up may be cut short by, or a request of the call's own refused: a status not ok, 5 where a table was asked for, the queue's 7, or 11 for what was not written
 abbrev pub Failing : Verdict → Type 0
-Failing verdict.Good = Unit {0}
-Failing (verdict.Status word) = Unit {0}
-Failing (verdict.Refused r) = (r ≡ TooMany) ⊎ ((r ≡ QueueFailed) ⊎ (r ≡ Short))
+Failing (Ok _) = Unit {0}
+Failing (Err (fault.Status word)) = Unit {0}
+Failing (Err (fault.Refused r)) = (r ≡ TooMany) ⊎ ((r ≡ QueueFailed) ⊎ (r ≡ Short))
 
 -- with what set-up is cut short
 abbrev pub Cut : Verdict → Refusal → Type 0
 Cut v r = Failing v → One (says_refusal r).number (2 ∷ 5 ∷ 7 ∷ 11 ∷ [])
 
 cut_by : (v : Verdict) → Cut v (refusal_of (IoError (cause_of v)) v)
-cut_by verdict.Good l = inl refl
-cut_by (verdict.Status word) l = inl refl
-cut_by (verdict.Refused r) (inl e) = inr (inl (ap (λ (x : Refusal). (says_refusal x).number) e))
-cut_by (verdict.Refused r) (inr (inl e)) = inr (inr (inl (ap (λ (x : Refusal). (says_refusal x).number) e)))
-cut_by (verdict.Refused r) (inr (inr e)) = inr (inr (inr (inl (ap (λ (x : Refusal). (says_refusal x).number) e))))
+cut_by (Ok _) l = inl refl
+cut_by (Err (fault.Status word)) l = inl refl
+cut_by (Err (fault.Refused r)) (inl e) = inr (inl (ap (λ (x : Refusal). (says_refusal x).number) e))
+cut_by (Err (fault.Refused r)) (inr (inl e)) = inr (inr (inl (ap (λ (x : Refusal). (says_refusal x).number) e)))
+cut_by (Err (fault.Refused r)) (inr (inr e)) = inr (inr (inr (inl (ap (λ (x : Refusal). (says_refusal x).number) e))))
 
 pub data Answered (c : Core) (v : Verdict) (look : Look) (long : Bool) : Plan → Type 0 where
   short : long ≡ false → Answered c v look long (refuse_of c BadLength)
@@ -91,7 +91,7 @@ pub data Answered (c : Core) (v : Verdict) (look : Look) (long : Bool) : Plan �
   finishes : {call : Call} {p : Plan} → consistent_of c ≡ true → c.stage ≡ MapsAsked call
       → Own (read_to c c.read.jacks c.read.streams (counted v c.counts.maps) true) look call p
       → Answered c v look long (record { core = p.core; say = p.say; effect = pick (is_good v) (FillMaps c.counts.maps) Nothing })
-  ends : {call : Call} → consistent_of c ≡ true → c.stage ≡ Sent call → is_good v ≡ true → Answered c v look long (end_of c (Done value.Nothing) (effect_of call))
+  ends : {call : Call} → consistent_of c ≡ true → c.stage ≡ Sent call → is_good v ≡ true → Answered c v look long (end_of c (Ok (Done value.Nothing)) (effect_of call))
   fails : {call : Call} → long ≡ true → consistent_of c ≡ true → c.stage ≡ Sent call → Answered c v look long (refusing c (refusal_of (status_refusal call (cause_of v)) v))
 
 module _ (c : Core) (v : Verdict) (look : Look) (long : Bool) where
@@ -143,7 +143,7 @@ long-verdict s (failed n) l = (inr (inl refl), refl)
 pub fed : (s : Sound) (f : Feed) → Answered s.core (verdict_of s f) (pending_look s.core.stage s) (long_of f) (plan_of s f)
 unfolding feed_of fail_of
 fed s (paged w bytes n) = answered s.core (verdict_by w s.core.stage s.core.counts bytes) (pending_look s.core.stage s) (page_ok w bytes && nat_le message_size n) (λ l. (long-verdict s (paged w bytes n) l).1)
-fed s (failed n) = answered s.core (verdict.Refused QueueFailed) (pending_look s.core.stage s) (nat_le message_size n) (λ l. refl)
+fed s (failed n) = answered s.core (Err (fault.Refused QueueFailed)) (pending_look s.core.stage s) (nat_le message_size n) (λ l. refl)
 
 pub long_of_lem : (f : Feed) → Long f → long_of f ≡ true
 long_of_lem (paged w bytes n) l = both_of (page_ok w bytes) (nat_le message_size n) l.0 (le-leb _ _ l.1)

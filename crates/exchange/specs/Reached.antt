@@ -1,6 +1,6 @@
 -- "A state and ring that calls left", word for word: made new and then called, fed and turned in any way. They have the invariant, and demand 3's premises can be met.
 -- Assumes nothing.
-use Rattle.std.specs.Prelude.{◌≡◌, ℕ, Bool, true, false, List, [], ◌∷◌, length, replicate, ◌≢◌, refl}
+use Rattle.std.specs.Prelude.{◌≡◌, ℕ, Bool, true, false, List, [], ◌∷◌, length, replicate, ◌≢◌, refl, None}
 use Rattle.std.proofs.lemmas.Bool.{false≢true}
 use Rattle.std.proofs.Common.{inl, arith}
 use Rattle.layout.specs.Bytes.{un, bytes_at, num_at}
@@ -31,7 +31,7 @@ use Rattle.exchange.specs.KeptLaws.{new-kept, call_kept, feed-kept}
 use Rattle.exchange.specs.Ends.{after}
 use Rattle.exchange.specs.XferLaws.{start-by, script-by, traced-by, capture-by, start-kept, xfer-kept, traced-kept, capture-kept}
 use Rattle.exchange.specs.Feed.{Feed, paged, failed, fed_of}
-use Rattle.exchange.specs.Types.{InFull, Ring, Reading, Call, SetParams, Idle, Sound}
+use Rattle.exchange.specs.Types.{Ring, Reading, Call, SetParams, Idle, Sound}
 
 -- a ring whose trace is so long: nothing else of it changes where the writer of a turn notes that
 abbrev pub penned_in : ℕ → Ring → Ring
@@ -120,7 +120,7 @@ reached-playable {r} stream h set live closed still empty clear =
 -- ---- and they can be met: 2 streams, set parameters of stream 1; the queries of jacks and maps fail, those of streams and the setting are answered with ok
 
 abbrev ok : Feed
-ok = paged InFull (0x00 ∷ 0x80 ∷ replicate 4094 0) 24
+ok = paged None (0x00 ∷ 0x80 ∷ replicate 4094 0) 24
 
 abbrev first : Call
 first = SetParams 1 (record { known = 0; buffer = 8192; period = 2048; features = 0; channels = 2; format = 5; rate = 7 })

@@ -1,13 +1,13 @@
 -- A result, or a request that is no query, comes of the call's own part.
 -- Assumes nothing.
-use Rattle.std.specs.Prelude.{◌≡◌, ℕ, Bool, true, false, ◌≢◌, refl}
+use Rattle.std.specs.Prelude.{◌≡◌, ℕ, Bool, true, false, ◌≢◌, refl, Result, Ok, Err}
 use Rattle.std.proofs.Common.{subst, arith}
 use Rattle.std.proofs.lemmas.Bool.{false≢true}
 use Rattle.exchange.specs.OwnLaws.{Own}
 use Rattle.exchange.specs.PlanLaws.{Begun, bars, asks, goes, Answered, short, idle, asks-streams, asks-maps, cuts, finishes, ends, fails}
 use Rattle.sound_core.specs.declared.plan.Request.TheVariants as request
 use Rattle.sound_core.specs.declared.plan.Value.TheVariants as value
-use Rattle.exchange.specs.Types.{Verdict, Said, Call, MapsAsked, Sent, Core, Say, Send, Done, Refused, Look, Plan, Says}
+use Rattle.exchange.specs.Types.{Refusal, Verdict, Said, Call, MapsAsked, Sent, Core, Say, Send, Done, Look, Plan, Says}
 
 pub wrong : ◌≡◌ {A = ℕ} 0 1 → ⊥
 wrong e = omega arith
@@ -18,13 +18,13 @@ says-said e = cc
 pub recall : {c : Core} {look : Look} {a b : Call} {p : Plan} → a ≡ b → Own c look a p → Own c look b p
 recall {c} {look} {p} e o = subst (λ (k : Call). Own c look k p) e o
 
-abbrev pub own? : Say → Bool
-own? (Send (request.Query q)) = false
-own? (Send (request.Remap q)) = true
-own? (Send (request.Command q)) = true
-own? (Send (request.Set q)) = true
-own? (Done v) = true
-own? (Refused r) = false
+abbrev pub own? : Result Say Refusal → Bool
+own? (Ok (Send (request.Query q))) = false
+own? (Ok (Send (request.Remap q))) = true
+own? (Ok (Send (request.Command q))) = true
+own? (Ok (Send (request.Set q))) = true
+own? (Ok (Done v)) = true
+own? (Err r) = false
 
 pub begun-own : {c : Core} {call : Call} {look : Look} {p : Plan} → own? p.say ≡ true → Begun c call look p → (c.ready ≡ true) × Own c look call p
 begun-own e (bars _) = absurd (false≢true e)
@@ -44,7 +44,7 @@ pub record Finished (c : Core) (look : Look) (p : Plan) : Type 0 where
   pub core : p.core ≡ plan.core
   pub say : p.say ≡ plan.say
 
-pub answered-own : {c : Core} {v : Verdict} {look : Look} {long : Bool} {p : Plan} → own? p.say ≡ true → ((call : Call) → c.stage ≡ Sent call → p.say ≢ Done value.Nothing)
+pub answered-own : {c : Core} {v : Verdict} {look : Look} {long : Bool} {p : Plan} → own? p.say ≡ true → ((call : Call) → c.stage ≡ Sent call → p.say ≢ Ok (Done value.Nothing))
     → Answered c v look long p → Finished c look p
 answered-own e h (short _) = absurd (false≢true e)
 answered-own e h (idle _) = absurd (false≢true e)

@@ -1,6 +1,6 @@
 -- "Over any sequence, what is pending is what was submitted and not finished." And what is pending keeps its bytes in the lent store.
 -- Assumes nothing.
-use Rattle.std.specs.Prelude.{◌≡◌, ℕ, ◌+◌, ◌<◌, ◌≤◌, Bool, true, false, not, List, [], length, ◌==◌}
+use Rattle.std.specs.Prelude.{◌≡◌, ℕ, ◌+◌, ◌<◌, ◌≤◌, Bool, true, false, not, List, [], length, ◌==◌, Some, None, Result, Ok, Err}
 use Rattle.std.proofs.Math.Path.{refl, ap}
 use Rattle.std.proofs.Common.{sym, ◌∙◌, subst, arith, eqb-true}
 use Rattle.std.proofs.lemmas.Bool.{false≢true, eqb-false}
@@ -18,7 +18,7 @@ use Rattle.pending.specs.Ledger.{Entry, took, neither, ends_entry, noted, comple
 use Rattle.tables.specs.Tables.{judged}
 use Rattle.turns.specs.Ring.{direct, new_ring}
 use Rattle.turns.specs.Consistent.{placed_of, paced_of}
-use Rattle.turns.specs.declared.reading.Reading.TheVariants.{Quiet, Completed}
+use Rattle.turns.specs.Types.{completion}
 use Rattle.sound_core.specs.Consistent.{consistent_of, stream_ok}
 use Rattle.sound_core.specs.Plan.{own_set, begin_of, after_jacks, after_streams, after_maps, after_sent, answer_of}
 use Rattle.exchange.specs.Exchange.{call_of, feed_of, fail_of}
@@ -29,15 +29,15 @@ use Rattle.exchange.specs.SubmitLaws.{few-places}
 use Rattle.exchange.specs.Submitted.{Given, nb-ends, effect-pending}
 use Rattle.exchange.specs.Ends.{after}
 use Rattle.exchange.specs.Reached.{Reached, fresh, called, fed, started, scripted, turned, traced, penned, captured, received, drained, submitted, marked, finished, begun, listened, logged, ran, renewed, reached-kept, parameters_set, reached-set}
-use Rattle.exchange.specs.declared.nonblocking.NbReply.TheVariants.{Send, Token, Refused}
-use Rattle.exchange.specs.Types.{Ring, Reading, Pending, Judged, Sound, XferStep, NbReply, NbStep, NbEnd}
+use Rattle.exchange.specs.declared.nonblocking.NbReply.TheVariants.{Send, Token}
+use Rattle.exchange.specs.Types.{Refusal, Ring, Reading, Pending, Judged, Sound, XferStep, NbReply, NbStep, NbEnd}
 
 -- ---- THE LEDGER of one token, from the answers alone: a token that was answered is submitted, and one whose finish answered Ok or 2 is finished
 
-abbrev pub nb_entry : NbReply → Entry
-nb_entry (Send n) = neither
-nb_entry (Token k) = took k
-nb_entry (Refused x) = neither
+abbrev pub nb_entry : Result NbReply Refusal → Entry
+nb_entry (Ok (Send n)) = neither
+nb_entry (Ok (Token k)) = took k
+nb_entry (Err x) = neither
 
 unfoldable pub held_by : {s : Sound} {r : Ring} → Reached s r → ℕ → Bool
 held_by (fresh descriptors mode guard jacks streams maps) k = false
@@ -70,8 +70,8 @@ module _ (s : Sound) (k : ℕ) (b : Bool) (size : length s.pending.tokens ≡ 32
       put-notes s.pending j k waits true (omega (arith, f, few-places r.track.descriptors, size)) refl (j == k) refl ∙ ap (pick (j == k) true) e)
 
   marks-held : (reading : Reading) → pending_at (mark_by s reading).sound.pending k ≡ b
-  marks-held Quiet = e
-  marks-held (Completed slot status) = completes-notes s.pending size k slot status ∙ e
+  marks-held None = e
+  marks-held (Some c) = completes-notes s.pending size k c.slot c.status ∙ e
 
   mark-held : (reading : Reading) → pending_at (mark_step s reading).sound.pending k ≡ b
   unfolding mark_step
@@ -122,10 +122,10 @@ pub data Lending (places : ℕ) : Sound → Ring → List ℕ → Type 0 where
   others : {s u : Sound} {r q : Ring} {store : List ℕ} → u.pending ≡ s.pending → Lending places s r store → Lending places u q store
 
 -- what was submitted last under a token
-abbrev pub last_by : NbReply → ℕ → List ℕ → ℕ → List ℕ → List ℕ
-last_by (Send n) stream payload k l = l
-last_by (Token j) stream payload k l = pick (j == k) (message_of stream payload) l
-last_by (Refused x) stream payload k l = l
+abbrev pub last_by : Result NbReply Refusal → ℕ → List ℕ → ℕ → List ℕ → List ℕ
+last_by (Ok (Send n)) stream payload k l = l
+last_by (Ok (Token j)) stream payload k l = pick (j == k) (message_of stream payload) l
+last_by (Err x) stream payload k l = l
 
 unfoldable pub last_of : {places : ℕ} {s : Sound} {r : Ring} {store : List ℕ} → Lending places s r store → ℕ → List ℕ
 last_of (opens store none) k = []
@@ -196,9 +196,9 @@ module _ (s : Sound) (k : ℕ) where
   Was p = pending_at p k ≡ true → pending_at s.pending k ≡ true
 
   marks-was : (reading : Reading) → Was (mark_by s reading).sound.pending
-  marks-was Quiet = λ e. e
-  marks-was (Completed slot status) =
-      mark-by (λ (j : Judged). Was j.table) s.pending slot status (λ w. was-by s.pending slot k (mark status) (slot == k) refl (waits-pending s.pending slot w)) (λ e. e)
+  marks-was None = λ e. e
+  marks-was (Some c) =
+      mark-by (λ (j : Judged). Was j.table) s.pending c.slot c.status (λ w. was-by s.pending c.slot k (mark c.status) (c.slot == k) refl (waits-pending s.pending c.slot w)) (λ e. e)
 
   mark_was : (reading : Reading) → Was (mark_step s reading).sound.pending
   unfolding mark_step
@@ -231,6 +231,6 @@ pub held-once : held_by once 0 ≡ true
 unfolding held_by reached-set places_of nb_of after call_of feed_of fail_of begin_of answer_of after_jacks after_streams after_maps after_sent own_set consistent_of stream_ok placed_of paced_of guard judged num_at bytes_at un lowest_in
 held-once = refl
 
-pub held-no-more : held_by (finished 0 (marked (Completed 0 0x8000) once)) 0 ≡ false
+pub held-no-more : held_by (finished 0 (marked (completion 0 0x8000) once)) 0 ≡ false
 unfolding held_by reached-set places_of nb_of mark_step finish_step mark_token finish_token after call_of feed_of fail_of begin_of answer_of after_jacks after_streams after_maps after_sent own_set consistent_of stream_ok placed_of paced_of guard judged num_at bytes_at un lowest_in
 held-no-more = refl

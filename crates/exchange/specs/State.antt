@@ -1,14 +1,14 @@
 -- The state: a core on which every decision is made, three tables as the received records, of each stream its parameters and where it is in its lifecycle, and what is pending.
 -- Assumes nothing.
-use Rattle.std.specs.Prelude.{ℕ, Bool, List, [], ◌∷◌, replicate, slice_index, slice_index_or}
+use Rattle.std.specs.Prelude.{ℕ, Bool, List, [], ◌∷◌, replicate, slice_index, slice_index_or, Result}
 use Rattle.codes.specs.Says.{Says, says, guard}
+use Rattle.codes.specs.Answers.{says_result}
 use Rattle.records.specs.Records.{jack_info_of, pcm_info_of}
 use Rattle.tables.specs.Tables.{tables_bytes, jacks_in, pcms_in, maps_in}
 use Rattle.pending.specs.Table.{new_pending}
 use Rattle.sound_core.specs.State.{unset, new_core}
 use Rattle.sound_core.specs.Consistent.{consistent_of}
-use Rattle.exchange.specs.Types.{JackInfo, PcmInfo, ChannelMap, Core, Params, Sound, Configured}
-use Rattle.exchange.specs.declared.state.Configured.TheVariants as configured
+use Rattle.exchange.specs.Types.{JackInfo, PcmInfo, ChannelMap, Core, Params, Sound, Refusal}
 
 -- the state from the three configured counts, with the guard or without, before any call: "every stream record gains its state, starting at 'set parameters'"
 abbrev pub new_sound : Bool → ℕ → ℕ → ℕ → Sound
@@ -44,9 +44,8 @@ with_core c s = record { core = c; tables = s.tables; params = s.params; lives =
 
 -- ---- a configured count: no set-up, never Busy; a state that fails the test tells none
 
-abbrev pub says_configured : Configured → Says
-says_configured (configured.Is n) = says 0 (n ∷ [])
-says_configured configured.InvalidParam = says 1 []
+abbrev pub says_configured : Result ℕ Refusal → Says
+says_configured = says_result (λ (n : ℕ). n ∷ [])
 
 abbrev pub configured_of : Core → ℕ → Says
 configured_of c n = guard (consistent_of c) (says 1 [])

@@ -1,6 +1,6 @@
 -- The laws for the code of submissions that do not wait.
 -- Assumes nothing.
-use Rattle.std.specs.Prelude.{◌≡◌, ℕ, ◌+◌, ◌≤◌, Bool, true, false, List, [], ◌==◌, nat_le}
+use Rattle.std.specs.Prelude.{◌≡◌, ℕ, ◌+◌, ◌≤◌, Bool, true, false, List, [], ◌==◌, nat_le, None, Result, Ok, Err}
 use Rattle.std.proofs.Math.Path.{refl, ap}
 use Rattle.std.proofs.Common.{sym, ◌∙◌, arith}
 use Rattle.layout.specs.Lent.{message_size}
@@ -11,16 +11,13 @@ use Rattle.codes.specs.SaysLaws.{guard-ap, guarded-by, passes, stops}
 use Rattle.pending.specs.Table.{lowest_in, mark_of, finish_of, seen_of}
 use Rattle.pending.specs.Places.{spot_by}
 use Rattle.pending.specs.declared.table.Seen.{Seen}
-use Rattle.pending.specs.declared.table.Seen.TheVariants as seen
-use Rattle.pending.specs.declared.calls.Outcome.TheVariants as outcome
-use Rattle.pending.specs.declared.place.Spot.TheVariants as spot
 use Rattle.turns.specs.Ring.{indirect}
-use Rattle.turns.specs.declared.reading.Reading.TheVariants.{Quiet, Completed}
+use Rattle.turns.specs.Types.{completion}
 use Rattle.sound_core.specs.Consistent.{consistent_of}
-use Rattle.exchange.specs.Xfer.{xfer_by}
+use Rattle.exchange.specs.Xfer.{gate_as, xfer_by}
 use Rattle.exchange.specs.StepLaws.{xfer-ap}
 use Rattle.exchange.specs.Submit.{places_of, refused_nb, set_up_nb, token_nb, submit_of, nb_of, nb_store, nb_message, says_nb, nb_says, Submits, end_by, barred_end, mark_by, mark_step, finish_step, token_seen}
-use Rattle.exchange.specs.Types.{Refusal, Ring, Reading, Judged, Spot, Sound, Gate, Shut, SetUp, Open, NbStep, NbEnd}
+use Rattle.exchange.specs.Types.{Refusal, InvalidParam, Ring, Reading, Judged, Sound, Gate, SetUp, Open, NbStep, NbEnd}
 
 -- what is made of the outcome of finding a place is made at each end
 pub spot-ap : {A B : Type 0} (f : A → B) (places k n len period : ℕ) (refuse : Refusal → A) (go : ℕ → A)
@@ -37,24 +34,24 @@ unfolding places_of
 few-places descriptors = places-by (descriptors == indirect)
 
 module _ (places : ℕ) (s : Sound) (n len : ℕ) where
-  abbrev pub submit_by : Spot → NbStep
-  submit_by (spot.Shut x) = refused_nb s x
-  submit_by (spot.Place k) = token_nb s k
+  abbrev pub submit_by : Result ℕ Refusal → NbStep
+  submit_by (Err x) = refused_nb s x
+  submit_by (Ok k) = token_nb s k
 
-  pub submitted-by : (period k : ℕ) (g : Spot) → k ≡ lowest_in s.pending places → g ≡ spot_by places k n len period spot.Shut spot.Place → submit_by g ≡ submit_of places s n len period
+  pub submitted-by : (period k : ℕ) (g : Result ℕ Refusal) → k ≡ lowest_in s.pending places → g ≡ spot_by places k n len period Err Ok → submit_by g ≡ submit_of places s n len period
   submitted-by period k g z e =
-      ap submit_by (e ∙ ap (λ (j : ℕ). spot_by places j n len period spot.Shut spot.Place) z)
-      ∙ spot-ap submit_by places (lowest_in s.pending places) n len period spot.Shut spot.Place
+      ap submit_by (e ∙ ap (λ (j : ℕ). spot_by places j n len period Err Ok) z)
+      ∙ spot-ap submit_by places (lowest_in s.pending places) n len period Err Ok
 
 module _ (s : Sound) (n len : ℕ) (r : Ring) (stream : ℕ) where
-  abbrev pub nb_by : Gate → NbStep
-  nb_by (Shut x) = refused_nb s x
-  nb_by SetUp = set_up_nb s stream
-  nb_by (Open period) = submit_of (places_of r.track.descriptors) s n len period
+  abbrev pub nb_by : Result Gate Refusal → NbStep
+  nb_by (Err x) = refused_nb s x
+  nb_by (Ok SetUp) = set_up_nb s stream
+  nb_by (Ok (Open period)) = submit_of (places_of r.track.descriptors) s n len period
 
-  pub nb-by : (m : ℕ) (g : Gate) → g ≡ xfer_by (nat_le message_size m) true s r.track stream Shut SetUp Open → nb_by g ≡ nb_of s r stream n len m
+  pub nb-by : (m : ℕ) (g : Result Gate Refusal) → g ≡ gate_as false (nat_le message_size m) true s r.track stream → nb_by g ≡ nb_of s r stream n len m
   unfolding nb_of
-  nb-by m g e = ap nb_by e ∙ xfer-ap nb_by (nat_le message_size m) true s r.track stream Shut SetUp Open
+  nb-by m g e = ap nb_by e ∙ xfer-ap nb_by (nat_le message_size m) true s r.track stream Err (Ok SetUp) (λ (n : ℕ). Ok (Open n))
 
 -- what the checks say is what they come to
 pub nb-says : (s : Sound) (r : Ring) (stream n len m : ℕ) → says_nb (nb_of s r stream n len m).reply ≡ nb_says s r stream n len m
@@ -101,11 +98,11 @@ module _ (s : Sound) where
   unfolding mark_step
   mark-barred reading h = stops _ (barred_end s) (mark_by s reading) h refl
 
-  pub mark-quiet : (reading : Reading) → consistent_of s.core ≡ true → reading ≡ Quiet → record { sound = s; said = outcome.Done } ≡ mark_step s reading
+  pub mark-quiet : (reading : Reading) → consistent_of s.core ≡ true → reading ≡ None → record { sound = s; said = Ok tt } ≡ mark_step s reading
   unfolding mark_step
   mark-quiet reading h e = passes _ (barred_end s) _ h (ap (mark_by s) (sym e))
 
-  pub mark-told : (reading : Reading) (slot status : ℕ) (j : Judged) (r : NbEnd) → consistent_of s.core ≡ true → reading ≡ Completed slot status → j ≡ mark_of s.pending slot status → r ≡ end_by s j
+  pub mark-told : (reading : Reading) (slot status : ℕ) (j : Judged) (r : NbEnd) → consistent_of s.core ≡ true → reading ≡ completion slot status → j ≡ mark_of s.pending slot status → r ≡ end_by s j
       → r ≡ mark_step s reading
   unfolding mark_step
   mark-told reading slot status j r h e m p = passes _ (barred_end s) _ h (p ∙ ap (end_by s) m ∙ ap (mark_by s) (sym e))
@@ -118,10 +115,10 @@ module _ (s : Sound) where
   unfolding finish_step
   finish-told token j r h m p = passes _ (barred_end s) _ h (p ∙ ap (end_by s) m)
 
-  pub seen-barred : (token : ℕ) → consistent_of s.core ≡ false → seen.InvalidParam ≡ token_seen s token
+  pub seen-barred : (token : ℕ) → consistent_of s.core ≡ false → Err InvalidParam ≡ token_seen s token
   unfolding token_seen
-  seen-barred token h = stops _ seen.InvalidParam (seen_of s.pending token) h refl
+  seen-barred token h = stops _ (Err InvalidParam) (seen_of s.pending token) h refl
 
-  pub seen-told : (token : ℕ) (x : Seen) → consistent_of s.core ≡ true → x ≡ seen_of s.pending token → x ≡ token_seen s token
+  pub seen-told : (token : ℕ) (x : Result Seen Refusal) → consistent_of s.core ≡ true → x ≡ seen_of s.pending token → x ≡ token_seen s token
   unfolding token_seen
-  seen-told token x h p = passes _ seen.InvalidParam _ h p
+  seen-told token x h p = passes _ (Err InvalidParam) _ h p

@@ -1,6 +1,6 @@
 -- Theorems of a submission that does not wait: what it writes, what a refusal leaves, what is Busy, when it is Full; and that set-up submits nothing.
 -- Assumes nothing.
-use Rattle.std.specs.Prelude.{◌≡◌, ℕ, ◌+◌, ◌%◌, ◌<◌, ◌≤◌, Bool, true, false, ◌&&◌, List, length, ◌==◌, nat_le, refl}
+use Rattle.std.specs.Prelude.{◌≡◌, ℕ, ◌+◌, ◌%◌, ◌<◌, ◌≤◌, Bool, true, false, ◌&&◌, List, length, ◌==◌, nat_le, refl, Some, None, Result, Ok, Err}
 use Rattle.std.proofs.Common.{sym, ap, ◌∙◌, subst, arith, le-leb, lt-ltb, leb-true, eqb-true, ltb-true}
 use Rattle.std.proofs.lemmas.Bool.{false≢true}
 use Rattle.std.proofs.lemmas.List.Edits.{sets}
@@ -15,7 +15,6 @@ use Rattle.turns.specs.declared.ring.Step as step
 use Rattle.turns.specs.Capture.{capture_start}
 use Rattle.turns.specs.Script.{transfer_of}
 use Rattle.turns.specs.Consistent as ring
-use Rattle.turns.specs.declared.reading.Reading.TheVariants.{Quiet, Completed}
 use Rattle.sound_core.specs.Consistent.{consistent_of, stream_ok}
 use Rattle.sound_core.specs.Plan.{is_idle}
 use Rattle.exchange.specs.State.{params_of, with_core}
@@ -25,7 +24,7 @@ use Rattle.exchange.specs.XferLaws.{xfer-by, set-up-kept}
 use Rattle.exchange.specs.Kept.{Kept}
 use Rattle.exchange.specs.Unrun as unrun
 use Rattle.exchange.specs.Submit.{with_pending, places_of, refused_nb, set_up_nb, token_nb, submit_of, nb_of, nb_store, nb_message, mark_by, mark_step, finish_step}
-use Rattle.exchange.specs.declared.nonblocking.NbReply.TheVariants.{Send, Token, Refused}
+use Rattle.exchange.specs.declared.nonblocking.NbReply.TheVariants.{Send, Token}
 use Rattle.exchange.specs.Types.{Refusal, Busy, Track, Ring, Reading, Pending, Core, Idle, Sound, Effect, Nothing, FillJacks, FillStreams, FillMaps, Store, Move, NbReply, NbStep, NbEnd}
 
 -- ---- a submission, by its ends
@@ -60,8 +59,8 @@ nb-sound P s r stream n len m a b g = nb-ends (λ (u : NbStep). P u.sound) s r s
 
 module _ (P : Sound → Type 0) (s : Sound) (a : P s) (g : (p : Pending) → P (with_pending s p)) where
   mark-by-sound : (reading : Reading) → P (mark_by s reading).sound
-  mark-by-sound Quiet = a
-  mark-by-sound (Completed slot status) = g _
+  mark-by-sound None = a
+  mark-by-sound (Some c) = g _
 
   pub mark-sound : (reading : Reading) → P (mark_step s reading).sound
   unfolding mark_step
@@ -71,40 +70,40 @@ module _ (P : Sound → Type 0) (s : Sound) (a : P s) (g : (p : Pending) → P (
   unfolding finish_step
   finish-sound token = guarded-by (λ (u : NbEnd). P u.sound) _ _ _ (λ _. g _) (λ _. a)
 
-refused? : NbReply → Bool
-refused? (Send n) = false
-refused? (Token k) = false
-refused? (Refused x) = true
+refused? : Result NbReply Refusal → Bool
+refused? (Ok (Send n)) = false
+refused? (Ok (Token k)) = false
+refused? (Err x) = true
 
-sent? : NbReply → Bool
-sent? (Send n) = true
-sent? (Token k) = false
-sent? (Refused x) = false
+sent? : Result NbReply Refusal → Bool
+sent? (Ok (Send n)) = true
+sent? (Ok (Token k)) = false
+sent? (Err x) = false
 
-given? : NbReply → Bool
-given? (Send n) = false
-given? (Token k) = true
-given? (Refused x) = false
+given? : Result NbReply Refusal → Bool
+given? (Ok (Send n)) = false
+given? (Ok (Token k)) = true
+given? (Err x) = false
 
-token-is : {j k : ℕ} → Token j ≡ Token k → j ≡ k
+token-is : {j k : ℕ} → ◌≡◌ {A = Result NbReply Refusal} (Ok (Token j)) (Ok (Token k)) → j ≡ k
 token-is e = cc
 
 -- ---- THE THEOREMS
 
 -- "no other byte of the store changes": a refused submission leaves the state, its table with it, the store and the message
-pub nb-refused : (s : Sound) (r : Ring) (stream n len m : ℕ) (payload store message : List ℕ) (x : Refusal) → (nb_of s r stream n len m).reply ≡ Refused x
+pub nb-refused : (s : Sound) (r : Ring) (stream n len m : ℕ) (payload store message : List ℕ) (x : Refusal) → (nb_of s r stream n len m).reply ≡ Err x
     → ((nb_of s r stream n len m).sound ≡ s) × (nb_store (places_of r.track.descriptors) (nb_of s r stream n len m).reply stream payload store ≡ store) × (nb_message (nb_of s r stream n len m).reply s stream message ≡ message)
 unfolding refused?
 nb-refused s r stream n len m payload store message x =
-    nb-ends (λ (u : NbStep). u.reply ≡ Refused x → (u.sound ≡ s) × (nb_store (places_of r.track.descriptors) u.reply stream payload store ≡ store) × (nb_message u.reply s stream message ≡ message)) s r stream n len m
+    nb-ends (λ (u : NbStep). u.reply ≡ Err x → (u.sound ≡ s) × (nb_store (places_of r.track.descriptors) u.reply stream payload store ≡ store) × (nb_message u.reply s stream message ≡ message)) s r stream n len m
     (λ _ _. (refl, refl, refl)) (λ _ _ _ e. absurd (false≢true (ap refused? e))) (λ _ e. absurd (false≢true (ap refused? e)))
 
 -- set-up that a submission begins takes no token and copies nothing; it waits as a transfer does, which never runs at a feed (Unrun)
-pub nb-set-up-never-submits : (s : Sound) (r : Ring) (stream n len m k : ℕ) (payload store : List ℕ) → (nb_of s r stream n len m).reply ≡ Send k
+pub nb-set-up-never-submits : (s : Sound) (r : Ring) (stream n len m k : ℕ) (payload store : List ℕ) → (nb_of s r stream n len m).reply ≡ Ok (Send k)
     → ((nb_of s r stream n len m).sound.pending ≡ s.pending) × (nb_store (places_of r.track.descriptors) (nb_of s r stream n len m).reply stream payload store ≡ store) × unrun.Pending false (nb_of s r stream n len m).sound.core.stage stream
 unfolding sent?
 nb-set-up-never-submits s r stream n len m k payload store =
-    nb-ends (λ (u : NbStep). u.reply ≡ Send k → (u.sound.pending ≡ s.pending) × (nb_store (places_of r.track.descriptors) u.reply stream payload store ≡ store) × unrun.Pending false u.sound.core.stage stream) s r stream n len m
+    nb-ends (λ (u : NbStep). u.reply ≡ Ok (Send k) → (u.sound.pending ≡ s.pending) × (nb_store (places_of r.track.descriptors) u.reply stream payload store ≡ store) × unrun.Pending false u.sound.core.stage stream) s r stream n len m
     (λ _ e. absurd (false≢true (ap sent? e))) (λ _ _ _ _. (refl, refl, record { asks = refl; call = refl })) (λ _ e. absurd (false≢true (ap sent? e)))
 
 -- "A submission is stream id and one whole period in one buffer .. It is copied into the lowest free of 16 equal places of a lent store, whose number is its token"; of 32 where descriptors are indirect
@@ -115,11 +114,11 @@ pub record Writes (places : ℕ) (s : Sound) (stream k period : ℕ) (payload a 
   pub fits : 4 + length payload ≤ size_of (length a) places
   pub written : b ≡ sets a (place_of (length a) places k) (message_of stream payload)
 
-pub submit-writes : (s : Sound) (r : Ring) (stream m k : ℕ) (payload store : List ℕ) → (nb_of s r stream (length payload) (length store) m).reply ≡ Token k
+pub submit-writes : (s : Sound) (r : Ring) (stream m k : ℕ) (payload store : List ℕ) → (nb_of s r stream (length payload) (length store) m).reply ≡ Ok (Token k)
     → Writes (places_of r.track.descriptors) s stream k (params_of s stream).period payload store (nb_store (places_of r.track.descriptors) (nb_of s r stream (length payload) (length store) m).reply stream payload store)
 unfolding given? placed_in
 submit-writes s r stream m k payload store =
-    nb-ends (λ (u : NbStep). u.reply ≡ Token k → Writes (places_of r.track.descriptors) s stream k (params_of s stream).period payload store (nb_store (places_of r.track.descriptors) u.reply stream payload store)) s r stream (length payload) (length store) m
+    nb-ends (λ (u : NbStep). u.reply ≡ Ok (Token k) → Writes (places_of r.track.descriptors) s stream k (params_of s stream).period payload store (nb_store (places_of r.track.descriptors) u.reply stream payload store)) s r stream (length payload) (length store) m
     (λ _ e. absurd (false≢true (ap given? e))) (λ _ _ _ e. absurd (false≢true (ap given? e)))
     (λ g e.
     let z : k ≡ lowest_in s.pending (places_of r.track.descriptors) = sym (token-is e) in
@@ -217,8 +216,8 @@ nb-kept s r stream n len m k =
     nb-ends (λ (u : NbStep). Kept u.sound) s r stream n len m (λ _. k) (set-up-kept s stream k) (λ _. with-kept s _ k (put-sized s.pending (lowest_in s.pending (places_of r.track.descriptors)) _ ∙ k.pending))
 
 mark-by-kept : (s : Sound) (reading : Reading) → Kept s → Kept (mark_by s reading).sound
-mark-by-kept s Quiet k = k
-mark-by-kept s (Completed slot status) k = with-kept s _ k (mark-sized s.pending slot status ∙ k.pending)
+mark-by-kept s None k = k
+mark-by-kept s (Some c) k = with-kept s _ k (mark-sized s.pending c.slot c.status ∙ k.pending)
 
 pub mark-kept : (s : Sound) (reading : Reading) → Kept s → Kept (mark_step s reading).sound
 unfolding mark_step

@@ -7,11 +7,9 @@ pub use Rattle.codes.specs.declared.answers.Refusal.TheVariants.{QueueFailed, Ba
 pub use Rattle.records.specs.declared.info.PcmInfo.{PcmInfo}
 pub use Rattle.records.specs.declared.info.JackInfo.{JackInfo}
 pub use Rattle.records.specs.declared.info.ChannelMap.{ChannelMap}
-pub use Rattle.tables.specs.declared.verdict.Verdict.{Verdict}
-pub use Rattle.tables.specs.declared.verdict.Written.{Written}
-pub use Rattle.tables.specs.declared.verdict.Written.TheVariants.{InFull}
+pub use Rattle.tables.specs.Tables.{Verdict, Written}
 pub use Rattle.turns.specs.declared.ring.Ring.{Ring}
-pub use Rattle.turns.specs.declared.reading.Reading.{Reading}
+pub use Rattle.turns.specs.Types.{Reading, completion}
 pub use Rattle.turns.specs.declared.ring.Track.{Track}
 pub use Rattle.turns.specs.declared.ring.Said.{Said}
 pub use Rattle.turns.specs.declared.ring.Said.TheVariants.{Going, Ended}
@@ -19,7 +17,6 @@ pub use Rattle.turns.specs.declared.script.Transferred.{Transferred}
 pub use Rattle.turns.specs.declared.ring.Turned.{Turned}
 pub use Rattle.pending.specs.declared.table.Pending.{Pending}
 pub use Rattle.pending.specs.declared.calls.Judged.{Judged}
-pub use Rattle.pending.specs.declared.place.Spot.{Spot}
 pub use Rattle.sound_core.specs.declared.state.Params.{Params}
 pub use Rattle.sound_core.specs.declared.state.Counts.{Counts}
 pub use Rattle.sound_core.specs.declared.state.Call.{Call}
@@ -32,15 +29,14 @@ pub use Rattle.sound_core.specs.declared.plan.Plan.{Plan}
 pub use Rattle.sound_core.specs.declared.reply.Reply.{Reply}
 pub use Rattle.sound_core.specs.declared.plan.Value.{Value}
 pub use Rattle.sound_core.specs.declared.plan.Say.{Say}
-pub use Rattle.sound_core.specs.declared.plan.Say.TheVariants.{Refused, Done, Send}
+pub use Rattle.sound_core.specs.declared.plan.Say.TheVariants.{Done, Send}
 pub use Rattle.sound_core.specs.declared.state.Field.{Field}
 pub use Rattle.sound_core.specs.declared.state.Field.TheVariants.{Rates, Formats, Channels, Features}
 pub use Rattle.sound_core.specs.declared.plan.Effect.{Effect}
 pub use Rattle.sound_core.specs.declared.plan.Effect.TheVariants.{Nothing, FillJacks, FillStreams, FillMaps, Store, Move}
 pub use Rattle.sound_core.specs.declared.state.Kind.{Kind}
 pub use Rattle.sound_core.specs.declared.gate.Gate.{Gate}
-pub use Rattle.sound_core.specs.declared.gate.Gate.TheVariants.{Shut, SetUp, Open}
-pub use Rattle.exchange.specs.declared.state.Configured.{Configured}
+pub use Rattle.sound_core.specs.declared.gate.Gate.TheVariants.{SetUp, Open}
 pub use Rattle.exchange.specs.declared.state.Sound.{Sound}
 pub use Rattle.exchange.specs.declared.xfer.XferStep.{XferStep}
 pub use Rattle.exchange.specs.declared.calls.StreamList.{StreamList}

@@ -1,6 +1,6 @@
 -- Theorems: parameters can only be set after set-up, so a transfer that had to begin set-up never runs, a capture or a playback.
 -- Assumes nothing.
-use Rattle.std.specs.Prelude.{◌≡◌, ℕ, Bool, true, false, List, [], ◌∷◌, refl}
+use Rattle.std.specs.Prelude.{◌≡◌, ℕ, Bool, true, false, List, [], ◌∷◌, refl, Result, Ok, Err}
 use Rattle.std.proofs.Common.{sym, ap, ◌∙◌, inl, inr}
 use Rattle.std.proofs.lemmas.Bool.{false≢true}
 use Rattle.codes.specs.Answers.{says_refusal}
@@ -28,9 +28,9 @@ pub record Pending (capture : Bool) (g : Stage) (stream : ℕ) : Type 0 where
   pub call : call_at g ≡ waiting_as capture stream
 
 -- how a feed then ends: with the next query of set-up, and the transfer still waits; or with 1, 2, 5, 7, 11 or 12, and the exchange is closed
-pub data Unrun (capture : Bool) (stream : ℕ) : Reply → Stage → Type 0 where
-  on : {n : ℕ} {g : Stage} → Pending capture g stream → Unrun capture stream (reply.Send n) g
-  over : (r : Refusal) → One (says_refusal r).number (1 ∷ 2 ∷ 5 ∷ 7 ∷ 11 ∷ 12 ∷ []) → Unrun capture stream (reply.Refused r) Idle
+pub data Unrun (capture : Bool) (stream : ℕ) : Result Reply Refusal → Stage → Type 0 where
+  on : {n : ℕ} {g : Stage} → Pending capture g stream → Unrun capture stream (Ok (reply.Send n)) g
+  over : (r : Refusal) → One (says_refusal r).number (1 ∷ 2 ∷ 5 ∷ 7 ∷ 11 ∷ 12 ∷ []) → Unrun capture stream (Err r) Idle
 
 own-among : {n : ℕ} → One n (1 ∷ 2 ∷ 12 ∷ []) → One n (1 ∷ 2 ∷ 5 ∷ 7 ∷ 11 ∷ 12 ∷ [])
 own-among (inl e) = inl e

@@ -1,6 +1,6 @@
 -- The start of a transfer, of a playback or a capture, and a playback over a whole script. "Checks: Busy (8), set-up, stream range (1), parameters set (2)."
 -- Assumes nothing.
-use Rattle.std.specs.Prelude.{◌≡◌, ℕ, ◌+◌, ◌%◌, Bool, true, false, ◌&&◌, List, [], length, ◌==◌, nat_le}
+use Rattle.std.specs.Prelude.{◌≡◌, ℕ, ◌+◌, ◌%◌, Bool, true, false, ◌&&◌, List, [], length, ◌==◌, nat_le, Result}
 use Rattle.layout.specs.Lent.{message_size}
 use Rattle.codes.specs.Says as answers
 use Rattle.codes.specs.Answers.{says_refusal}
@@ -12,17 +12,21 @@ use Rattle.turns.specs.declared.ring.Said.TheVariants as said
 use Rattle.pending.specs.Table.{none_in}
 use Rattle.sound_core.specs.State.{with_stage}
 use Rattle.sound_core.specs.Plan.{query_of, send_of}
-use Rattle.sound_core.specs.Gate.{gate_by}
+use Rattle.sound_core.specs.Gate.{gate_by, gate_of}
 use Rattle.sound_core.specs.Reply.{message_after}
 use Rattle.exchange.specs.State.{params_of, life_of, pcm_of, with_core}
 use Rattle.exchange.specs.declared.xfer.XferReply.TheVariants.{Send}
-use Rattle.exchange.specs.Types.{Refusal, Track, Ring, Turned, Transferred, Call, Xfer, Capture, JacksAsked, Sound, Nothing, Plan, XferReply, Says, XferStep}
+use Rattle.exchange.specs.Types.{Refusal, Track, Gate, Ring, Turned, Transferred, Call, Xfer, Capture, JacksAsked, Sound, Nothing, Plan, XferReply, Says, XferStep}
 use Rattle.turns.specs.Ring.{says_said, said_word}
 
 -- the checks, of a capture or not
 abbrev pub xfer_as : {A : Type 0} → Bool → Bool → Bool → Sound → Track → ℕ → (Refusal → A) → A → (ℕ → A) → A
 xfer_as capture lengths clear s t stream refuse set_up go =
     gate_by capture lengths clear s.core (params_of s stream) (life_of s stream) (pcm_of s stream).direction t stream refuse set_up go
+
+-- the checks themselves, of a capture or not
+abbrev pub gate_as : Bool → Bool → Bool → Sound → Track → ℕ → Result Gate Refusal
+gate_as capture lengths clear s t stream = gate_of capture lengths clear s.core (params_of s stream) (life_of s stream) (pcm_of s stream).direction t stream
 
 abbrev pub xfer_by : {A : Type 0} → Bool → Bool → Sound → Track → ℕ → (Refusal → A) → A → (ℕ → A) → A
 xfer_by lengths clear s t stream refuse set_up go = xfer_as false lengths clear s t stream refuse set_up go

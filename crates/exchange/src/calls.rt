@@ -1,5 +1,5 @@
 // Every call of the driver, and the feeds of an answer.
-ghost use Rattle.std.specs.Prelude.{◌≡◌, ◌≤◌, [], ◌++◌, length};
+ghost use Rattle.std.specs.Prelude.{◌≡◌, ◌≤◌, [], ◌++◌, length, None, Some};
 ghost use Rattle.layout.specs.Lent.{message_size};
 ghost use Rattle.codes.specs.declared.answers.Refusal.TheVariants.{BadLength};
 ghost use Rattle.sound_core.specs.State.{asked_params};
@@ -7,7 +7,6 @@ ghost use Rattle.sound_core.specs.Plan.{refuse_of};
 ghost use Rattle.sound_core.specs.declared.state.Kind.TheVariants.{Prepare, Release, Start, Stop};
 ghost use Rattle.sound_core.specs.declared.state.Field.TheVariants.{Rates, Formats, Channels, Features};
 ghost use Rattle.sound_core.specs.declared.state.Call.TheVariants as calls;
-ghost use Rattle.tables.specs.declared.verdict.Written.TheVariants.{InFull, Bytes};
 ghost use Rattle.exchange.specs.Exchange.{step_of, Stepped, call_of, feed_of, fail_of};
 
 use crate::effect::{apply, look, pending_look};
@@ -17,20 +16,22 @@ use codes::{Refusal, direction};
 use sound_core::{
     Call, Field, Kind, MESSAGE, Params, Plan, Reply, answer, begin, tell, verdict_by,
 };
-use tables::{Verdict, Written, page_ok};
+use tables::{Fault, Written, page_ok};
 use turns::Ring;
 
-// Ids of streams, ascending; those past the count are 0.
+// Ids of streams, ascending; those past the count are 0. An array with its count, since there is no
+// heap.
 #[derive(Clone, Copy)]
 pub struct StreamList {
     pub count: u32,
     pub ids: [u32; 127],
 }
 
+// What a call or a feed leads to.
 #[derive(Clone, Copy)]
 pub struct Step {
     pub sound: Sound,
-    pub reply: Reply,
+    pub reply: Result<Reply, Refusal>,
     pub streams: StreamList,
 }
 
@@ -57,7 +58,7 @@ fn bad_length(s: Sound) -> Step
 {
     Step {
         sound: s,
-        reply: Reply::Refused(Refusal::BadLength),
+        reply: Err(Refusal::BadLength),
         streams: no_ids(),
     }
 }
@@ -76,6 +77,10 @@ fn call(s: Sound, ring: Ring, asked: Call, message: &mut [u8]) -> Step
     finish(plan, s, &[], message)
 }
 
+// Calls that differ in a kind, a direction or a field stay one function each: document 01 and its
+// map (docs/READING.md) name them singly, and so do their wrong bodies. What they share is `call`.
+
+// Remaps a jack.
 pub fn jack_remap(
     s: Sound,
     ring: Ring,
@@ -94,6 +99,7 @@ pub fn jack_remap(
     call(s, ring, asked, message)
 }
 
+// Sets a stream's parameters, which come one by one as in the C entry.
 pub fn pcm_set_params(
     s: Sound,
     ring: Ring,
@@ -120,6 +126,7 @@ pub fn pcm_set_params(
     call(s, ring, Call::SetParams { stream, to }, message)
 }
 
+// Prepares a stream.
 pub fn pcm_prepare(s: Sound, ring: Ring, stream: u32, message: &mut [u8]) -> Step
     ensures { Stepped (call_of s ring.track (calls.Command Prepare stream) (length message.old)) s [] message.old message.new result }
 {
@@ -127,6 +134,7 @@ pub fn pcm_prepare(s: Sound, ring: Ring, stream: u32, message: &mut [u8]) -> Ste
     call(s, ring, Call::Command { kind, stream }, message)
 }
 
+// Releases a stream.
 pub fn pcm_release(s: Sound, ring: Ring, stream: u32, message: &mut [u8]) -> Step
     ensures { Stepped (call_of s ring.track (calls.Command Release stream) (length message.old)) s [] message.old message.new result }
 {
@@ -134,6 +142,7 @@ pub fn pcm_release(s: Sound, ring: Ring, stream: u32, message: &mut [u8]) -> Ste
     call(s, ring, Call::Command { kind, stream }, message)
 }
 
+// Starts a stream.
 pub fn pcm_start(s: Sound, ring: Ring, stream: u32, message: &mut [u8]) -> Step
     ensures { Stepped (call_of s ring.track (calls.Command Start stream) (length message.old)) s [] message.old message.new result }
 {
@@ -141,6 +150,7 @@ pub fn pcm_start(s: Sound, ring: Ring, stream: u32, message: &mut [u8]) -> Step
     call(s, ring, Call::Command { kind, stream }, message)
 }
 
+// Stops a stream.
 pub fn pcm_stop(s: Sound, ring: Ring, stream: u32, message: &mut [u8]) -> Step
     ensures { Stepped (call_of s ring.track (calls.Command Stop stream) (length message.old)) s [] message.old message.new result }
 {
@@ -148,6 +158,7 @@ pub fn pcm_stop(s: Sound, ring: Ring, stream: u32, message: &mut [u8]) -> Step
     call(s, ring, Call::Command { kind, stream }, message)
 }
 
+// The ids of the streams of direction 0.
 pub fn output_streams(s: Sound, ring: Ring, message: &mut [u8]) -> Step
     ensures { Stepped (call_of s ring.track (calls.Streams 0) (length message.old)) s [] message.old message.new result }
 {
@@ -155,6 +166,7 @@ pub fn output_streams(s: Sound, ring: Ring, message: &mut [u8]) -> Step
     call(s, ring, Call::Streams { direction }, message)
 }
 
+// The ids of the streams of direction 1.
 pub fn input_streams(s: Sound, ring: Ring, message: &mut [u8]) -> Step
     ensures { Stepped (call_of s ring.track (calls.Streams 1) (length message.old)) s [] message.old message.new result }
 {
@@ -162,6 +174,7 @@ pub fn input_streams(s: Sound, ring: Ring, message: &mut [u8]) -> Step
     call(s, ring, Call::Streams { direction }, message)
 }
 
+// The rates that a stream supports, as bits.
 pub fn rates_supported(s: Sound, ring: Ring, stream: u32, message: &mut [u8]) -> Step
     ensures { Stepped (call_of s ring.track (calls.Supported Rates stream) (length message.old)) s [] message.old message.new result }
 {
@@ -169,6 +182,7 @@ pub fn rates_supported(s: Sound, ring: Ring, stream: u32, message: &mut [u8]) ->
     call(s, ring, Call::Supported { field, stream }, message)
 }
 
+// The formats that a stream supports, as bits.
 pub fn formats_supported(s: Sound, ring: Ring, stream: u32, message: &mut [u8]) -> Step
     ensures { Stepped (call_of s ring.track (calls.Supported Formats stream) (length message.old)) s [] message.old message.new result }
 {
@@ -176,6 +190,7 @@ pub fn formats_supported(s: Sound, ring: Ring, stream: u32, message: &mut [u8]) 
     call(s, ring, Call::Supported { field, stream }, message)
 }
 
+// The least and the most channels of a stream.
 pub fn channel_range_supported(s: Sound, ring: Ring, stream: u32, message: &mut [u8]) -> Step
     ensures { Stepped (call_of s ring.track (calls.Supported Channels stream) (length message.old)) s [] message.old message.new result }
 {
@@ -183,6 +198,7 @@ pub fn channel_range_supported(s: Sound, ring: Ring, stream: u32, message: &mut 
     call(s, ring, Call::Supported { field, stream }, message)
 }
 
+// The features that a stream supports, as bits.
 pub fn features_supported(s: Sound, ring: Ring, stream: u32, message: &mut [u8]) -> Step
     ensures { Stepped (call_of s ring.track (calls.Supported Features stream) (length message.old)) s [] message.old message.new result }
 {
@@ -213,16 +229,16 @@ fn feed_by(w: Written, s: Sound, page: &[u8], message: &mut [u8]) -> Step
 
 // The answer page to the request that is out; it counts as written in full.
 pub fn feed(s: Sound, page: &[u8], message: &mut [u8]) -> Step
-    ensures { Stepped (feed_of InFull s page.now (length message.old)) s page.now message.old message.new result }
+    ensures { Stepped (feed_of None s page.now (length message.old)) s page.now message.old message.new result }
 {
-    feed_by(Written::InFull, s, page, message)
+    feed_by(None, s, page, message)
 }
 
 // The same with the length that the device wrote: nothing past it is trusted.
 pub fn feed_written(s: Sound, page: &[u8], written: u64, message: &mut [u8]) -> Step
-    ensures { Stepped (feed_of (Bytes written) s page.now (length message.old)) s page.now message.old message.new result }
+    ensures { Stepped (feed_of (Some written) s page.now (length message.old)) s page.now message.old message.new result }
 {
-    feed_by(Written::Bytes(written), s, page, message)
+    feed_by(Some(written), s, page, message)
 }
 
 // The queue reports that the request that is out has failed: there is no page.
@@ -237,6 +253,6 @@ pub fn feed_failure(s: Sound, message: &mut [u8]) -> Step
     let tables = s.tables;
     let lives = s.lives;
     let found = pending_look(&tables, &lives, stage);
-    let plan = answer(core, Verdict::Refused(Refusal::QueueFailed), found);
+    let plan = answer(core, Err(Fault::Refused(Refusal::QueueFailed)), found);
     finish(plan, s, &[], message)
 }

@@ -93,13 +93,9 @@ pub fn look(tables: &[u8], lives: &[u8], call: Call) -> Look
     ensures { result ≡ look_by (jacks_in tables.now) (pcms_in tables.now) lives.now call }
 {
     match call {
-        Call::SetParams { stream, to: _ } => Look::Life(life_at(lives, stream)),
-        Call::Command { kind: _, stream } => Look::Life(life_at(lives, stream)),
-        Call::Remap {
-            jack,
-            association: _,
-            sequence: _,
-        } => Look::Jack {
+        Call::SetParams { stream, .. } => Look::Life(life_at(lives, stream)),
+        Call::Command { stream, .. } => Look::Life(life_at(lives, stream)),
+        Call::Remap { jack, .. } => Look::Jack {
             features: jack_features(tables, jack),
         },
         Call::Streams { direction: _ } => Look::Nothing,
@@ -117,11 +113,8 @@ pub fn pending_look(tables: &[u8], lives: &[u8], stage: Stage) -> Look
     ensures { result ≡ pending_by (jacks_in tables.now) (pcms_in tables.now) lives.now stage }
 {
     match stage {
-        Stage::Idle => Look::Nothing,
-        Stage::JacksAsked(_) => Look::Nothing,
-        Stage::StreamsAsked(_) => Look::Nothing,
         Stage::MapsAsked(call) => look(tables, lives, call),
-        Stage::Sent(_) => Look::Nothing,
+        _ => Look::Nothing,
     }
 }
 
@@ -146,15 +139,7 @@ fn params_at(params: [Params; 127], stream: u32) -> Params
 {
     let i = stream as usize;
     if 127 <= i {
-        return Params {
-            known: 0,
-            buffer: 0,
-            period: 0,
-            features: 0,
-            channels: 0,
-            format: 0,
-            rate: 0,
-        };
+        return Params::default();
     }
     params[i]
 }

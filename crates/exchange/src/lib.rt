@@ -19,7 +19,7 @@ pub use nonblocking::{
     NbEnd, NbReply, NbStep, pcm_xfer_mark, pcm_xfer_nb, pcm_xfer_ok, pending_count, pending_token,
     places_of,
 };
-pub use state::{Configured, Sound};
+pub use state::Sound;
 pub use xfer::{
     XferReply, XferStep, pcm_capture_start, pcm_xfer, pcm_xfer_start, pcm_xfer_start_traced,
 };

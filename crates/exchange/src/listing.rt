@@ -7,6 +7,7 @@ ghost use Rattle.exchange.specs.Steps.{pushed};
 
 use crate::calls::StreamList;
 use crate::effect::direction_at;
+use codes::Refusal;
 use sound_core::{Say, Value};
 
 pub(crate) fn no_ids() -> StreamList
@@ -34,16 +35,14 @@ fn with_id(list: StreamList, wanted: bool, id: u32) -> StreamList
 }
 
 // The streams of a direction among the first `n`.
-fn ids_of(direction: u8, n: usize, tables: &[u8]) -> StreamList
+fn ids_of(direction: u8, n: u32, tables: &[u8]) -> StreamList
     requires { n ≤ 127 }
     ensures { result ≡ listed (ids_from direction 0 (take n (pcms_in tables.now))) }
 {
     let mut list = no_ids();
-    let mut i: usize = 0;
-    while i < n {
-        let found = direction_at(tables, i as u32);
-        list = with_id(list, found == direction, i as u32);
-        i += 1;
+    for i in 0..n {
+        let found = direction_at(tables, i);
+        list = with_id(list, found == direction, i);
     }
     list
 }
@@ -55,27 +54,24 @@ fn all_ids(direction: u8, n: u32, tables: &[u8]) -> StreamList
     if 127 < n {
         return ids_of(direction, 127, tables);
     }
-    ids_of(direction, n as usize, tables)
+    ids_of(direction, n, tables)
 }
 
 fn list_by(v: Value, n: u32, tables: &[u8]) -> StreamList
     ensures { result ≡ listed (ids_by v n (pcms_in tables.now)) }
 {
     match v {
-        Value::Nothing => no_ids(),
-        Value::Number(_) => no_ids(),
-        Value::Range { min: _, max: _ } => no_ids(),
         Value::Streams { direction } => all_ids(direction, n, tables),
+        _ => no_ids(),
     }
 }
 
 // The list that goes with what is said: empty but for a list of streams.
-pub(crate) fn list_of(say: Say, n: u32, tables: &[u8]) -> StreamList
+pub(crate) fn list_of(say: Result<Say, Refusal>, n: u32, tables: &[u8]) -> StreamList
     ensures { result ≡ list_of say n (pcms_in tables.now) }
 {
     match say {
-        Say::Send(_) => no_ids(),
-        Say::Done(v) => list_by(v, n, tables),
-        Say::Refused(_) => no_ids(),
+        Ok(Say::Done(v)) => list_by(v, n, tables),
+        _ => no_ids(),
     }
 }

@@ -5,36 +5,35 @@ ghost use Rattle.pending.specs.Table.{count_in};
 ghost use Rattle.exchange.specs.State.{says_configured, configured_of};
 ghost use Rattle.exchange.specs.Submit.{places_of, nb_of, nb_says, Submits, nb_store, nb_message, submit_of, refused_nb, token_nb, set_up_nb, end_by, mark_step, finish_step, barred_end, token_seen};
 
-use crate::state::{Configured, Sound, count_told};
+use crate::state::{Sound, count_told};
 use crate::xfer::{checked, set_up};
 use codes::Refusal;
 use pending::{
-    INDIRECT_PLACES, Judged, Outcome, PLACES, Seen, Spot, count, find_spot, finish, hold, look,
-    lowest, mark, placed,
+    INDIRECT_PLACES, Judged, PLACES, Seen, count, find_spot, finish, hold, look, lowest, mark,
+    placed,
 };
 use records::Query;
 use sound_core::{Call, Gate, MESSAGE, consistent};
-use turns::{INDIRECT, Reading, Ring};
+use turns::{Completion, INDIRECT, Ring};
 
-// A request of so many bytes to send, the token of what was submitted, or a refusal.
+// A request of so many bytes to send, or the token of what was submitted.
 #[derive(Clone, Copy)]
 pub enum NbReply {
     Send(usize),
     Token(usize),
-    Refused(Refusal),
 }
 
 #[derive(Clone, Copy)]
 pub struct NbStep {
     pub sound: Sound,
-    pub reply: NbReply,
+    pub reply: Result<NbReply, Refusal>,
 }
 
 // What a completion, or finishing, comes to.
 #[derive(Clone, Copy)]
 pub struct NbEnd {
     pub sound: Sound,
-    pub said: Outcome,
+    pub said: Result<(), Refusal>,
 }
 
 fn refused_nb(s: Sound, refusal: Refusal) -> NbStep
@@ -42,7 +41,7 @@ fn refused_nb(s: Sound, refusal: Refusal) -> NbStep
 {
     NbStep {
         sound: s,
-        reply: NbReply::Refused(refusal),
+        reply: Err(refusal),
     }
 }
 
@@ -54,7 +53,7 @@ fn token_nb(s: Sound, k: usize) -> NbStep
     let pending = hold(old, k);
     NbStep {
         sound: Sound { pending, ..s },
-        reply: NbReply::Token(k),
+        reply: Ok(NbReply::Token(k)),
     }
 }
 
@@ -84,8 +83,8 @@ fn submit(
     let free = lowest(old, places);
     let outcome = find_spot(places, free, payload.len(), store.len(), period);
     match outcome {
-        Spot::Shut(refusal) => refused_nb(s, refusal),
-        Spot::Place(k) => {
+        Err(reason) => refused_nb(s, reason),
+        Ok(k) => {
             placed(store, places, k, stream, payload);
             token_nb(s, k)
         }
@@ -101,7 +100,7 @@ fn set_up_nb(s: Sound, ring: Ring, stream: u32, message: &mut [u8]) -> NbStep
     let sound = x.sound;
     NbStep {
         sound,
-        reply: NbReply::Send(Query::SIZE),
+        reply: Ok(NbReply::Send(Query::SIZE)),
     }
 }
 
@@ -118,9 +117,9 @@ pub fn pcm_xfer_nb(
 {
     let outcome = checked(false, MESSAGE <= message.len(), true, s, ring.track, stream);
     match outcome {
-        Gate::Shut(refusal) => refused_nb(s, refusal),
-        Gate::SetUp => set_up_nb(s, ring, stream, message),
-        Gate::Open(period) => {
+        Err(refusal) => refused_nb(s, refusal),
+        Ok(Gate::SetUp) => set_up_nb(s, ring, stream, message),
+        Ok(Gate::Open(period)) => {
             let places = places_of(ring.track.descriptors);
             submit(places, s, stream, period, payload, store)
         }
@@ -144,25 +143,25 @@ fn barred_end(s: Sound) -> NbEnd
 {
     NbEnd {
         sound: s,
-        said: Outcome::Refused(Refusal::InvalidParam),
+        said: Err(Refusal::InvalidParam),
     }
 }
 
 // A completion reading marks its token.
-pub fn pcm_xfer_mark(s: Sound, reading: Reading) -> NbEnd
+pub fn pcm_xfer_mark(s: Sound, reading: Option<Completion>) -> NbEnd
     ensures { result ≡ mark_step s reading }
 {
     if !consistent(s.core) {
         return barred_end(s);
     }
     match reading {
-        Reading::Quiet => NbEnd {
+        None => NbEnd {
             sound: s,
-            said: Outcome::Done,
+            said: Ok(()),
         },
-        Reading::Completed { slot, status } => {
+        Some(done) => {
             let old = s.pending;
-            let j = mark(old, slot, status);
+            let j = mark(old, done.slot, done.status);
             end_by(s, j)
         }
     }
@@ -181,7 +180,7 @@ pub fn pcm_xfer_ok(s: Sound, token: u32) -> NbEnd
 }
 
 // How many are pending, marked or not.
-pub fn pending_count(s: Sound) -> Configured
+pub fn pending_count(s: Sound) -> Result<u32, Refusal>
     ensures { says_configured result ≡ configured_of s.core (count_in s.pending) }
 {
     let old = s.pending;
@@ -190,11 +189,11 @@ pub fn pending_count(s: Sound) -> Configured
 }
 
 // What a token is.
-pub fn pending_token(s: Sound, token: u32) -> Seen
+pub fn pending_token(s: Sound, token: u32) -> Result<Seen, Refusal>
     ensures { result ≡ token_seen s token }
 {
     if !consistent(s.core) {
-        return Seen::InvalidParam;
+        return Err(Refusal::InvalidParam);
     }
     let old = s.pending;
     look(old, token)

@@ -4,7 +4,7 @@ ghost use Rattle.std.specs.Prelude.{◌≡◌, true, false, replicate};
 ghost use Rattle.sound_core.specs.State.{unset};
 ghost use Rattle.exchange.specs.State.{new_sound, says_configured, configured_of};
 
-use codes::life;
+use codes::{Refusal, life};
 use pending::Pending;
 use sound_core::{Core, Params, consistent};
 
@@ -21,33 +21,18 @@ pub struct Sound {
 fn no_params() -> [Params; 127]
     ensures { result ≡ replicate 127 unset }
 {
-    let blank = Params {
-        known: 0,
-        buffer: 0,
-        period: 0,
-        features: 0,
-        channels: 0,
-        format: 0,
-        rate: 0,
-    };
-    [blank; 127]
+    [Params::default(); 127]
 }
 
 // A count; an inconsistent state tells none.
-#[derive(Clone, Copy)]
-pub enum Configured {
-    Is(u32),
-    InvalidParam,
-}
-
-pub(crate) fn count_told(c: Core, n: u32) -> Configured
+pub(crate) fn count_told(c: Core, n: u32) -> Result<u32, Refusal>
     ensures { says_configured result ≡ configured_of c n }
 {
     let sound = consistent(c);
     if !sound {
-        return Configured::InvalidParam;
+        return Err(Refusal::InvalidParam);
     }
-    Configured::Is(n)
+    Ok(n)
 }
 
 fn made(guard: bool, jacks: u32, streams: u32, chmaps: u32) -> Sound
@@ -78,21 +63,21 @@ impl Sound {
     }
 
     // The configured counts.
-    pub fn jacks(self) -> Configured
+    pub fn jacks(self) -> Result<u32, Refusal>
         ensures { says_configured result ≡ configured_of self.core self.core.counts.jacks }
     {
         let c = self.core;
         count_told(c, c.counts.jacks)
     }
 
-    pub fn streams(self) -> Configured
+    pub fn streams(self) -> Result<u32, Refusal>
         ensures { says_configured result ≡ configured_of self.core self.core.counts.streams }
     {
         let c = self.core;
         count_told(c, c.counts.streams)
     }
 
-    pub fn chmaps(self) -> Configured
+    pub fn chmaps(self) -> Result<u32, Refusal>
         ensures { says_configured result ≡ configured_of self.core self.core.counts.maps }
     {
         let c = self.core;

@@ -2,8 +2,7 @@
 ghost use Rattle.std.specs.Prelude.{◌≡◌, ◌≤◌, length};
 ghost use Rattle.layout.specs.Lent.{message_size};
 ghost use Rattle.sound_core.specs.Reply.{message_after};
-ghost use Rattle.sound_core.specs.declared.gate.Gate.TheVariants.{Shut, SetUp, Open};
-ghost use Rattle.exchange.specs.Xfer.{xfer_as, set_up_with, refused_step, set_up_step_with, start_step, done_step, start_of, start_traced_of, xfer_of, capture_of, start_says, start_traced_says, xfer_says, capture_says, Transfers};
+ghost use Rattle.exchange.specs.Xfer.{gate_as, set_up_with, refused_step, set_up_step_with, start_step, done_step, start_of, start_traced_of, xfer_of, capture_of, start_says, start_traced_says, xfer_says, capture_says, Transfers};
 
 use crate::effect::{direction_of, life_of, params_of};
 use crate::state::Sound;
@@ -12,10 +11,12 @@ use pending::is_none;
 use records::Query;
 use sound_core::{Call, Gate, MESSAGE, ask_jacks, tell, xfer_gate};
 use turns::{
-    Reading, Ring, Said, Track, Transferred, Turned, capture_start, start, traced_start, transfer,
+    Completion, Ring, Said, Track, Transferred, Turned, capture_start, start, traced_start,
+    transfer,
 };
 
-// A request of so many bytes to send, or what the start or the last turn says.
+// A request of so many bytes to send, or what the start or the last turn says. No `Result`: a
+// refusal is one of the things that a turn says.
 #[derive(Clone, Copy)]
 pub enum XferReply {
     Send(usize),
@@ -38,8 +39,8 @@ pub(crate) fn checked(
     s: Sound,
     t: Track,
     stream: u32,
-) -> Gate
-    ensures { result ≡ xfer_as capture lengths clear s t stream Shut SetUp Open }
+) -> Result<Gate, Refusal>
+    ensures { result ≡ gate_as capture lengths clear s t stream }
 {
     let params = params_of(s, stream);
     let life = life_of(s, stream);
@@ -68,7 +69,7 @@ pub(crate) fn set_up(s: Sound, ring: Ring, waiting: Call, message: &mut [u8]) ->
     let plan = ask_jacks(s.core, waiting);
     let core = plan.core;
     let say = plan.say;
-    tell(say, message);
+    let _ = tell(say, message);
     XferStep {
         sound: Sound { core, ..s },
         ring,
@@ -118,9 +119,9 @@ pub fn pcm_xfer_start(
     let long = MESSAGE <= message.len();
     let outcome = checked(false, long, clear, s, ring.track, stream);
     match outcome {
-        Gate::Shut(refusal) => refused(s, ring, refusal),
-        Gate::SetUp => set_up(s, ring, Call::Xfer { stream }, message),
-        Gate::Open(period) => {
+        Err(refusal) => refused(s, ring, refusal),
+        Ok(Gate::SetUp) => set_up(s, ring, Call::Xfer { stream }, message),
+        Ok(Gate::Open(period)) => {
             let t = start(ring, stream, frames, period as usize, budget);
             started(s, ring, t)
         }
@@ -128,7 +129,7 @@ pub fn pcm_xfer_start(
 }
 
 // The start of a transfer of some frames that writes a trace, lent room for it: it goes on, is
-// refused, or begins set-up.
+// refused, or begins set-up. Its parameters are those of the C entry, here and below.
 pub fn pcm_xfer_start_traced(
     s: Sound,
     ring: Ring,
@@ -144,9 +145,9 @@ pub fn pcm_xfer_start_traced(
     let fits = MESSAGE <= message.len();
     let outcome = checked(false, fits, clear, s, ring.track, stream);
     match outcome {
-        Gate::Shut(refusal) => refused(s, ring, refusal),
-        Gate::SetUp => set_up(s, ring, Call::Xfer { stream }, message),
-        Gate::Open(period) => {
+        Err(refusal) => refused(s, ring, refusal),
+        Ok(Gate::SetUp) => set_up(s, ring, Call::Xfer { stream }, message),
+        Ok(Gate::Open(period)) => {
             let t = traced_start(ring, stream, frames, period, budget, room);
             started(s, ring, t)
         }
@@ -170,9 +171,9 @@ pub fn pcm_capture_start(
     let long = MESSAGE <= message.len();
     let outcome = checked(true, long, clear, s, ring.track, stream);
     match outcome {
-        Gate::Shut(refusal) => refused(s, ring, refusal),
-        Gate::SetUp => set_up(s, ring, Call::Capture { stream }, message),
-        Gate::Open(period) => {
+        Err(refusal) => refused(s, ring, refusal),
+        Ok(Gate::SetUp) => set_up(s, ring, Call::Capture { stream }, message),
+        Ok(Gate::Open(period)) => {
             let t = capture_start(ring, stream, periods, period as usize, recording, budget);
             started(s, ring, t)
         }
@@ -191,14 +192,14 @@ pub fn pcm_xfer(
 ) -> XferStep
     ensures { Transfers (xfer_of s ring stream (length frames.now) budget script.now (length message.old)) (xfer_says s ring stream (length frames.now) budget script.now (length message.old)) s stream message.old message.new result }
 {
-    let whole = script.len() % Reading::SIZE == 0;
+    let whole = script.len() % Completion::SIZE == 0;
     let lengths = both(MESSAGE <= message.len(), whole);
     let clear = is_none(s.pending);
     let outcome = checked(false, lengths, clear, s, ring.track, stream);
     match outcome {
-        Gate::Shut(refusal) => refused(s, ring, refusal),
-        Gate::SetUp => set_up(s, ring, Call::Xfer { stream }, message),
-        Gate::Open(period) => {
+        Err(refusal) => refused(s, ring, refusal),
+        Ok(Gate::SetUp) => set_up(s, ring, Call::Xfer { stream }, message),
+        Ok(Gate::Open(period)) => {
             let d = transfer(ring, stream, frames, period as usize, budget, script);
             ended(s, d)
         }

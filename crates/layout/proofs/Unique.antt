@@ -15,6 +15,7 @@ use Rattle.layout.proofs.put_u16.Reads as put-u16
 use Rattle.layout.proofs.put_u32.Reads as put-u32
 use Rattle.layout.proofs.put_u64.Reads as put-u64
 use Rattle.layout.proofs.put_bytes.Reads as put-bytes
+use Rattle.layout.proofs.part.Reads as part
 
 pub get-u8-one : (κs : _) (a : _) (r₁ r₂ : _) (e₁ e₂ : _) → get-u8.Post κs a r₁ e₁ → get-u8.Post κs a r₂ e₂ → r₁ ≡ r₂
 get-u8-one κs a r₁ r₂ e₁ e₂ p q = p ∙ sym q
@@ -54,3 +55,6 @@ put-u64-one κs a r₁ r₂ e₁ e₂ p q = (refl, p ∙ sym q)
 
 pub put-bytes-one : (κs : _) (a : _) (r₁ r₂ : _) (e₁ e₂ : _) → put-bytes.Post κs a r₁ e₁ → put-bytes.Post κs a r₂ e₂ → (r₁ ≡ r₂) × (e₁.0.now ≡ e₂.0.now)
 put-bytes-one κs a r₁ r₂ e₁ e₂ p q = (refl, p ∙ sym q)
+
+pub part-one : (κs : _) (a : _) (r₁ r₂ : _) (e₁ e₂ : _) → part.Post κs a r₁ e₁ → part.Post κs a r₂ e₂ → r₁.now ≡ r₂.now
+part-one κs a r₁ r₂ e₁ e₂ p q = p ∙ sym q

@@ -1,10 +1,13 @@
 -- The laws of numbers in bytes, over every width and place.
 -- Assumes nothing.
-use Rattle.std.specs.Prelude.{◌≡◌, refl, List, [], ◌∷◌, ◌++◌, ℕ, zero, suc, ◌+◌, ◌*◌, ◌/◌, ◌%◌, ◌<◌, ◌≤◌, ◌^◌, length, get_or, take, drop}
-use Rattle.std.proofs.Common.{sym, ap, ap₂, ◌∙◌, append-nil, mod-lt, div-add-mod', div-lt_iff_lt-mul, pow-suc, add-zero, zero-add, add-suc, suc-add, mul-one, add-mul, mul_assoc, mul_comm, add_assoc, div-one, arith, lit<, get_or-append-add, get_or-take, get_or-drop}
+use Rattle.std.specs.Prelude.{◌≡◌, refl, List, [], ◌∷◌, ◌++◌, ℕ, zero, suc, ◌+◌, ◌-◌, ◌*◌, ◌/◌, ◌%◌, ◌<◌, ◌≤◌, ◌^◌, length, get_or, take, drop, replicate}
+use Rattle.std.specs.Int.{w16, w32, w64, byte_at, byte_worth, bytes_low_first, sum_through, from_le_bytes, to_le_bytes}
+use Rattle.std.proofs.Common.{sym, ap, ap₂, ◌∙◌, append-nil, length-drop, add_comm, add-one, mod-lt, div-add-mod', div-lt_iff_lt-mul, pow-suc, add-zero, zero-add, add-suc, suc-add, mul-one, add-mul, mul_assoc, mul_comm, add_assoc, div-one, arith, lit<, get_or-append-add, get_or-take, get_or-drop}
 use Rattle.std.proofs.Math.Nat.{pow-zero, one-le-pow, div-div-eq-div-mul}
 use Rattle.std.proofs.Math.Arith.{digits_div, digits_mod, mod-mul, lt-one}
 use Rattle.std.proofs.Math.ListN.{get_or-eq_default}
+use Rattle.std.proofs.lemmas.List.{drop-replicate}
+use Rattle.std.proofs.Math.Seq.{take-length}
 use Rattle.layout.specs.Bytes.{le, un, bytes_at, num_at, Bytes}
 
 -- ---- bytes at a place
@@ -65,6 +68,28 @@ bytes_at-in o zero m a s h = refl
 bytes_at-in o (suc n) m a s h =
     λ i. (get_or-take m (drop a s) o 0 (omega arith) ∙ get_or-drop a s o 0) i
     ∷ (bytes_at-in (suc o) n m a s (omega arith) ∙ ap (λ (k : ℕ). bytes_at k n s) (add-suc a o)) i
+
+bytes_at-zeros : (o n : ℕ) (s : List ℕ) → length s ≤ o → bytes_at o n s ≡ replicate n 0
+unfolding bytes_at
+bytes_at-zeros o zero s h = refl
+bytes_at-zeros o (suc n) s h = λ i. get_or-eq_default s 0 h i ∷ bytes_at-zeros (suc o) n s (omega arith) i
+
+pub bytes_at-first : (o n : ℕ) (s : List ℕ) → n ≤ length (drop o s) → bytes_at o n s ≡ take n (drop o s)
+unfolding bytes_at
+bytes_at-first o zero s h = refl
+bytes_at-first o (suc n) s h =
+    let e : length (drop o s) ≡ length s - o = length-drop o s in
+    bytes_at-part o (suc n) s (omega arith)
+
+-- across the end of the list, 0 stands behind what is left of it
+pub bytes_at-rest : (o n : ℕ) (s : List ℕ) → length s ≤ o + n → bytes_at o n s ≡ drop o s ++ drop (length (drop o s)) (replicate n 0)
+bytes_at-rest o n s h =
+    let m = length (drop o s) in
+    let e : m ≡ length s - o = length-drop o s in
+    let k : n ≡ m + (n - m) = omega arith in
+    ap (λ (k : ℕ). bytes_at o k s) k
+    ∙ bytes_at-add o m (n - m) s
+    ∙ ap₂ (λ (x y : List ℕ). x ++ y) (bytes_at-first o m s (omega arith) ∙ take-length (drop o s)) (bytes_at-zeros (o + m) (n - m) s (omega arith) ∙ sym (drop-replicate m n 0))
 
 -- reading looks at its own bytes alone
 pub get_d-bytes_at : (o n k : ℕ) (s : List ℕ) → k < n → get_or (bytes_at o n s) k 0 ≡ get_or s (o + k) 0
@@ -198,3 +223,50 @@ get_d_le (suc w) v zero h = sym (ap (λ (n : ℕ). v / n % 256) (pow-zero 256) �
 get_d_le (suc w) v (suc i) h =
     get_d_le w (v / 256) i (omega arith)
     ∙ ap (λ (n : ℕ). n % 256) (div-div-eq-div-mul v 256 (256 ^ i) ∙ ap (λ (n : ℕ). v / n) (mul_comm 256 (256 ^ i) ∙ sym (pow-suc 256 i)))
+
+-- ---- the library's bytes of a number are these
+
+byte_at-div : (i v : ℕ) → byte_at i v ≡ v / 256 ^ i % 256
+byte_at-div zero v = sym (ap (λ (n : ℕ). v / n % 256) (pow-zero 256) ∙ ap (λ (n : ℕ). n % 256) (div-one v))
+byte_at-div (suc i) v = refl
+
+low_first-le : (i n v : ℕ) → bytes_low_first i n v ≡ le n (v / 256 ^ i)
+unfolding le
+low_first-le i zero v = refl
+low_first-le i (suc n) v =
+    ap₂ (λ (x : ℕ) (l : List ℕ). x ∷ l) (byte_at-div i v)
+    (low_first-le (suc i) n v ∙ ap (le n) (ap (λ (k : ℕ). v / k) (pow-suc 256 i) ∙ sym (div-div-eq-div-mul v (256 ^ i) 256)))
+
+low-le : (n v : ℕ) → bytes_low_first 0 n v ≡ le n v
+low-le n v = low_first-le 0 n v ∙ ap (le n) (ap (λ (k : ℕ). v / k) (pow-zero 256) ∙ div-one v)
+
+pub to_le_bytes-le_2 : (v : ℕ) → to_le_bytes w16 v ≡ le 2 v
+to_le_bytes-le_2 v = low-le 2 v
+
+pub to_le_bytes-le_4 : (v : ℕ) → to_le_bytes w32 v ≡ le 4 v
+to_le_bytes-le_4 v = low-le 4 v
+
+pub to_le_bytes-le_8 : (v : ℕ) → to_le_bytes w64 v ≡ le 8 v
+to_le_bytes-le_8 v = low-le 8 v
+
+sum-num_at : (n : ℕ) (s : List ℕ) → sum_through (λ i. byte_worth i (get_or s i 0)) n ≡ num_at 0 (suc n) s
+sum-num_at zero s = sym (num_at-one 0 s)
+sum-num_at (suc n) s =
+    add_comm _ _
+    ∙ ap₂ (λ (x y : ℕ). x * 256 ^ suc n + y) (sym (num_at-one (suc n) s)) (sum-num_at n s)
+    ∙ ap (λ (k : ℕ). num_at k 1 s * 256 ^ suc n + num_at 0 (suc n) s) (sym (zero-add (suc n)))
+    ∙ sym (num_at-split (suc n) 1 0 s)
+    ∙ ap (λ (k : ℕ). num_at 0 k s) (add-one (suc n))
+
+sum-un : (n : ℕ) (s : List ℕ) → length s ≡ suc n → sum_through (λ i. byte_worth i (get_or s i 0)) n ≡ un s
+unfolding num_at
+sum-un n s e = sum-num_at n s ∙ ap un (bytes_at-all s (suc n) e)
+
+pub from_le_bytes-un_2 : (s : List ℕ) → length s ≡ 2 → from_le_bytes w16 s ≡ un s
+from_le_bytes-un_2 s e = sum-un 1 s e
+
+pub from_le_bytes-un_4 : (s : List ℕ) → length s ≡ 4 → from_le_bytes w32 s ≡ un s
+from_le_bytes-un_4 s e = sum-un 3 s e
+
+pub from_le_bytes-un_8 : (s : List ℕ) → length s ≡ 8 → from_le_bytes w64 s ≡ un s
+from_le_bytes-un_8 s e = sum-un 7 s e

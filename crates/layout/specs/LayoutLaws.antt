@@ -61,7 +61,7 @@ pub read-own : (o : ℕ) (ws s : List ℕ) → read_at o ws s ≡ read ws (bytes
 read-own o ws s = sym (own 0 o (size ws) ws s (omega arith) ∙ ap (λ (n : ℕ). read_at n ws s) (add-zero o))
 
 -- a record in the part `&s[a..e]` of a slice, of m bytes, is read as in the slice from byte a on
-inside : (k m a : ℕ) (ws s : List ℕ) → k + size ws ≤ m → read_at k ws (take m (drop a s)) ≡ read_at (a + k) ws s
+pub inside : (k m a : ℕ) (ws s : List ℕ) → k + size ws ≤ m → read_at k ws (take m (drop a s)) ≡ read_at (a + k) ws s
 unfolding num_at
 inside k m a [] s h = refl
 inside k m a (w ∷ ws) s h =

@@ -1,7 +1,9 @@
 -- The laws of runs of stores, `lib.Seq.sets`: what a lent slice holds after bytes were stored in it.
 -- Assumes nothing.
 use Rattle.std.specs.Prelude.{◌≡◌, refl, List, [], ◌∷◌, ◌++◌, ℕ, zero, suc, ◌+◌, ◌/◌, ◌%◌, ◌<◌, ◌≤◌, ◌^◌, length, get_or, set, take, drop}
-use Rattle.std.proofs.Common.{sym, ap, ◌∙◌, add-zero, zero-add, add-suc, suc-add, mod-eq_of_lt, arith, take-append-drop}
+use Rattle.std.proofs.Common.{sym, ap, ◌∙◌, add-zero, zero-add, add-suc, suc-add, mod-eq_of_lt, append_assoc, arith, take-append-drop}
+use Rattle.std.proofs.lemmas.List.{drop-drop}
+use Rattle.std.proofs.lemmas.List.Edits.{sets-eq}
 use lib.Seq.{sets, set_out, set-set, set_comm, set-get_or, get_or-set_other, length-take-le, length-sets}
 use Rattle.layout.specs.Bytes.{le, bytes_at}
 use Rattle.layout.specs.BytesLaws.{length-le, le-mod, le_split, length-bytes_at, bytes_at-add}
@@ -30,6 +32,13 @@ sets-cut l vs i n h k =
     sym (sets-out (drop n vs) (sets l i (take n vs)) (i + n) past)
     ∙ sets_then l i (i + n) (take n vs) (drop n vs) (sym j)
     ∙ ap (sets l i) (take-append-drop n vs)
+
+-- within the slice, what is copied over a part of it
+pub sets-part : (l vs : List ℕ) (i k : ℕ) → i + k ≤ length l → length vs ≡ k → take i l ++ (vs ++ drop k (drop i l)) ≡ sets l i vs
+sets-part l vs i k h e =
+    ap (λ (x : List ℕ). take i l ++ (vs ++ x)) (drop-drop k i l ∙ ap (λ (n : ℕ). drop (i + n) l) (sym e))
+    ∙ sym (append_assoc (take i l) vs (drop (i + length vs) l))
+    ∙ sym (sets-eq vs l i (omega arith))
 
 -- ---- numbers
 

@@ -1,31 +1,21 @@
 -- A public function's contract leaves one outcome: any two that it permits, for the same arguments, are equal, in what is returned and in what the
 -- lent slice holds. `Post` is the contract itself, as Rattle reads it off the source, so no statement here repeats a clause.
 -- Assumes nothing.
-use mathlib.Core.Path.{◌≡◌, refl, ap}
+use mathlib.Core.Path.{◌≡◌, ap}
 use mathlib.Core.List.{List}
 use Prim.Native.Nat.{ℕ}
-use lib.Dec.{eqb}
-use lib.ListN.{get_or}
-use Rattle.codes.specs.Says.{Says, pick}
-use Rattle.codes.specs.SaysLaws.{same, one}
-use Rattle.listing.specs.Listing.{Judged, says_line, Gives}
-use Rattle.listing.specs.declared.lines.Line.{Line}
-use Rattle.listing.specs.declared.lines.Line.TheVariants as line
+use Rattle.std.specs.Prelude.{Result}
+use Rattle.codes.specs.SaysLaws.{same}
+use Rattle.codes.specs.declared.answers.Refusal.{Refusal}
+use Rattle.listing.specs.Listing.{Judged, Gives}
 use Rattle.listing.proofs.verdict.judge.Reads as judge
 use Rattle.listing.proofs.lines.count_line.Reads as count-line
 use Rattle.listing.proofs.lines.refused_line.Reads as refused-line
 use Rattle.listing.proofs.lines.stream_line.Reads as stream-line
 use Rattle.listing.proofs.lines.line_at.Reads as line_at_lem
 
-abbrev line_back : Says → Line
-line_back s = pick (eqb s.number 0) (line.Is (get_or s.values 0 0)) line.BadLength
-
-line-back : (r : Line) → line_back (says_line r) ≡ r
-line-back (line.Is n) = refl
-line-back line.BadLength = refl
-
-gives_one : {l before after₁ after₂ : List ℕ} {r₁ r₂ : Line} → Gives l r₁ before after₁ → Gives l r₂ before after₂ → (r₁ ≡ r₂) × (after₁ ≡ after₂)
-gives_one p q = (one says_line line_back line-back p.said q.said, same p.holds q.holds)
+gives_one : {l before after₁ after₂ : List ℕ} {r₁ r₂ : Result ℕ Refusal} → Gives l r₁ before after₁ → Gives l r₂ before after₂ → (r₁ ≡ r₂) × (after₁ ≡ after₂)
+gives_one p q = (same p.said q.said, same p.holds q.holds)
 
 pub judge-one : (κs : _) (a : _) (r₁ r₂ : _) (e₁ e₂ : _) → judge.Post κs a r₁ e₁ → judge.Post κs a r₂ e₂ → r₁ ≡ r₂
 judge-one κs a r₁ r₂ e₁ e₂ p q = ap (λ (x : Judged). x.listing) (same p q)

@@ -4,5 +4,5 @@
 mod lines;
 mod verdict;
 
-pub use lines::{Line, count_line, line_at, refused_line, stream_line};
-pub use verdict::{Listing, judge};
+pub use lines::{count_line, line_at, refused_line, stream_line};
+pub use verdict::judge;

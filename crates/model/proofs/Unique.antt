@@ -1,15 +1,14 @@
 -- A public function's contract leaves one outcome: any two that it permits, for the same arguments, are equal, in what is returned and in what the
 -- lent slice holds. `Post` is the contract itself, as Rattle reads it off the source, so no statement here repeats a clause.
 -- Assumes nothing.
-use Rattle.std.proofs.Common.{◌≡◌, ℕ, eqb, List, length, get_or, refl, ap}
+use Rattle.std.proofs.Common.{◌≡◌, ℕ, eqb, Option, Some, None, List, [], ◌∷◌, get_or, refl, ap}
 use Rattle.codes.specs.Says.{Says, pick}
 use Rattle.codes.specs.SaysLaws.{same, one}
+use Rattle.codes.specs.ResultLaws.{one-result}
 use Rattle.records.specs.Records.{set_parameters_of}
-use Rattle.model.specs.Device.{says_held, says_count}
+use Rattle.model.specs.Device.{held_values}
 use Rattle.model.specs.Control.{Given, given, says_range}
-use Rattle.model.specs.Types.{HeldRead, Count, Answered, Range, Of, Bad}
-use Rattle.model.specs.declared.device.HeldRead.TheVariants as held
-use Rattle.model.specs.declared.device.Count.TheVariants as count
+use Rattle.model.specs.Types.{SetParameters, Answered, Range}
 use Rattle.model.proofs.device.Device.new.Reads as device-new
 use Rattle.model.proofs.device.Device.params.Reads as device-params
 use Rattle.model.proofs.device.Device.played.Reads as device-played
@@ -25,28 +24,20 @@ use Rattle.model.proofs.transfer.payload.Reads as payload
 pub device-new-one : (κs : _) (a : _) (r₁ r₂ : _) (e₁ e₂ : _) → device-new.Post κs a r₁ e₁ → device-new.Post κs a r₂ e₂ → r₁ ≡ r₂
 device-new-one κs a r₁ r₂ e₁ e₂ p q = same p q
 
-held_answer : Says → HeldRead
-held_answer s = pick (eqb s.number 0) (pick (eqb (length s.values) 0) held.Nothing (held.Is (set_parameters_of s.values))) held.InvalidParam
+held_back : List ℕ → Option SetParameters
+held_back [] = None
+held_back (v ∷ vs) = Some (set_parameters_of (v ∷ vs))
 
-held-answer : (a : HeldRead) → held_answer (says_held a) ≡ a
-unfolding held_answer
-held-answer (held.Is p) = refl
-held-answer held.Nothing = refl
-held-answer held.InvalidParam = refl
+held-back : (o : Option SetParameters) → held_back (held_values o) ≡ o
+unfolding held_back
+held-back (Some p) = refl
+held-back None = refl
 
 pub device-params-one : (κs : _) (a : _) (r₁ r₂ : _) (e₁ e₂ : _) → device-params.Post κs a r₁ e₁ → device-params.Post κs a r₂ e₂ → r₁ ≡ r₂
-device-params-one κs a r₁ r₂ e₁ e₂ p q = one says_held held_answer held-answer p q
-
-count_answer : Says → Count
-count_answer s = pick (eqb s.number 0) (count.Is (get_or s.values 0 0)) count.InvalidParam
-
-count-answer : (a : Count) → count_answer (says_count a) ≡ a
-unfolding count_answer
-count-answer (count.Is n) = refl
-count-answer count.InvalidParam = refl
+device-params-one κs a r₁ r₂ e₁ e₂ p q = one-result held_values held_back held-back p q
 
 pub device-played-one : (κs : _) (a : _) (r₁ r₂ : _) (e₁ e₂ : _) → device-played.Post κs a r₁ e₁ → device-played.Post κs a r₂ e₂ → r₁ ≡ r₂
-device-played-one κs a r₁ r₂ e₁ e₂ p q = one says_count count_answer count-answer p q
+device-played-one κs a r₁ r₂ e₁ e₂ p q = one-result (λ n. n ∷ []) (λ vs. get_or vs 0 0) (λ n. refl) p q
 
 pub few-one : (κs : _) (a : _) (r₁ r₂ : _) (e₁ e₂ : _) → few.Post κs a r₁ e₁ → few.Post κs a r₂ e₂ → r₁ ≡ r₂
 few-one κs a r₁ r₂ e₁ e₂ p q = same p q
@@ -57,13 +48,13 @@ within-one κs a r₁ r₂ e₁ e₂ p q = same p q
 pub stream-ok-one : (κs : _) (a : _) (r₁ r₂ : _) (e₁ e₂ : _) → stream-ok.Post κs a r₁ e₁ → stream-ok.Post κs a r₂ e₂ → r₁ ≡ r₂
 stream-ok-one κs a r₁ r₂ e₁ e₂ p q = same p q
 
-range_answer : Says → Range
-range_answer s = pick (eqb s.number 0) (Of (get_or s.values 0 0) (get_or s.values 1 0)) Bad
+range_answer : Says → Option Range
+range_answer s = pick (eqb s.number 0) (Some (record { start = get_or s.values 0 0; count = get_or s.values 1 0 })) None
 
-range-answer : (a : Range) → range_answer (says_range a) ≡ a
+range-answer : (a : Option Range) → range_answer (says_range a) ≡ a
 unfolding range_answer
-range-answer (Of start count) = refl
-range-answer Bad = refl
+range-answer (Some r) = refl
+range-answer None = refl
 
 pub asked-one : (κs : _) (a : _) (r₁ r₂ : _) (e₁ e₂ : _) → asked.Post κs a r₁ e₁ → asked.Post κs a r₂ e₂ → r₁ ≡ r₂
 asked-one κs a r₁ r₂ e₁ e₂ p q = one says_range range_answer range-answer p q

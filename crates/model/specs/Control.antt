@@ -1,26 +1,24 @@
 -- One control request, one answer: as `fake.rs`; where it panics, 0x8001 and nothing changes.
 -- Assumes nothing.
-use Rattle.std.specs.Prelude.{◌≡◌, ℕ, ◌+◌, Bool, ◌&&◌, List, [], ◌∷◌, ◌++◌, length, take, drop, ◌==◌, nat_le, nat_lt, slice_index_or, slice_set}
+use Rattle.std.specs.Prelude.{◌≡◌, ℕ, Result, Ok, Err, Option, Some, None, ◌+◌, Bool, ◌&&◌, List, [], ◌∷◌, ◌++◌, length, take, drop, ◌==◌, nat_le, nat_lt, slice_index_or, slice_set}
 use Rattle.layout.specs.Lent.{page_size}
 use Rattle.layout.specs.Bytes.{le, num_at}
 use Rattle.layout.specs.Layout.{size, read}
 use Rattle.layout.specs.Rows.{rows_bytes}
 use Rattle.codes.specs.Says.{Says, says, pick, guard}
-use Rattle.codes.specs.Answers.{says_refusal}
+use Rattle.codes.specs.Answers.{says_result}
 use Rattle.codes.specs.Codes.{among}
 use Rattle.codes.specs.Rates.{place_of}
 use Rattle.codes.specs.Requests.{request_codes}
 use Rattle.codes.specs.declared.answers.Refusal.{Refusal}
 use Rattle.codes.specs.declared.answers.Refusal.TheVariants.{InvalidParam, BadLength}
-use Rattle.model.specs.Types.{RequestCode, RJackInfo, RJackRemap, RPcmInfo, RPcmSetParams, RPcmPrepare, RPcmRelease, RPcmStart, RPcmStop, RChmapInfo, FoundRequest, Held, Device, Control, Answer, Refused, Answered, Range, Of, Bad}
-use Rattle.codes.specs.declared.requests.FoundRequest.TheVariants as found
+use Rattle.model.specs.Types.{RequestCode, RJackInfo, RJackRemap, RPcmInfo, RPcmSetParams, RPcmPrepare, RPcmRelease, RPcmStart, RPcmStop, RChmapInfo, Held, Device, Answered, Range}
 use Rattle.records.specs.Records.{query, pcm_command, set_parameters, jack_info, pcm_info, channel_map, query_of, set_parameters_of, jack_bytes, pcm_bytes, map_bytes}
 use Rattle.model.specs.Device.{within_of}
 
 -- what a request or a transfer leaves and says, document 01's number and values of that, and what the lent slice holds
-abbrev pub says_control : Control → Says
-says_control (Answer n) = says 0 (n ∷ [])
-says_control (Refused x) = says_refusal x
+abbrev pub says_control : Result ℕ Refusal → Says
+says_control = says_result (λ n. n ∷ [])
 
 pub record Given : Type 0 where
   pub answered : Answered
@@ -31,7 +29,7 @@ abbrev pub given : Answered → List ℕ → Given
 given a l = record { answered = a; said = says_control a.said; lent = l }
 
 abbrev pub refusing : Device → Refusal → List ℕ → Given
-refusing d r l = given (record { device = d; said = Refused r }) l
+refusing d r l = given (record { device = d; said = Err r }) l
 
 -- bytes at the front of a page: only they change
 abbrev pub laid : List ℕ → List ℕ → List ℕ
@@ -47,7 +45,7 @@ pub record Outcome : Type 0 where
   pub bytes : List ℕ
 
 unfoldable pub answering : Outcome → List ℕ → Given
-answering o page = given (record { device = o.device; said = Answer (length o.bytes) }) (laid o.bytes page)
+answering o page = given (record { device = o.device; said = Ok (length o.bytes) }) (laid o.bytes page)
 
 abbrev pub status_alone : Device → ℕ → Outcome
 status_alone d status = record { device = d; bytes = le 4 status }
@@ -66,9 +64,9 @@ query_fits request row n =
     (length request == size query) && (q.size == row && nat_le (q.start + q.count) n)
 
 -- the first record asked for, and how many
-abbrev pub says_range : Range → Says
-says_range (Of start count) = says 0 (start ∷ count ∷ [])
-says_range Bad = says 1 []
+abbrev pub says_range : Option Range → Says
+says_range (Some r) = says 0 (r.start ∷ r.count ∷ [])
+says_range None = says 1 []
 
 abbrev pub asked_says : List ℕ → ℕ → ℕ → Says
 asked_says request row n =
@@ -121,12 +119,12 @@ abbrev pub requests : List RequestCode
 requests = RJackInfo ∷ RJackRemap ∷ RPcmInfo ∷ RPcmSetParams ∷ RPcmPrepare ∷ RPcmRelease ∷ RPcmStart ∷ RPcmStop ∷ RChmapInfo ∷ []
 
 -- the request with a code; ControlLaws: it is the decision of `codes`
-unfoldable pub request_by : ℕ → FoundRequest
-request_by n = pick (among n request_codes) (found.Is (slice_index_or requests (place_of n request_codes) RJackInfo)) found.InvalidParam
+unfoldable pub request_by : ℕ → Result RequestCode Refusal
+request_by n = pick (among n request_codes) (Ok (slice_index_or requests (place_of n request_codes) RJackInfo)) (Err InvalidParam)
 
-abbrev pub answer_found : FoundRequest → List ℕ → Device → Outcome
-answer_found (found.Is code) request d = answer_by code request d
-answer_found found.InvalidParam request d = bad d
+abbrev pub answer_found : Result RequestCode Refusal → List ℕ → Device → Outcome
+answer_found (Ok code) request d = answer_by code request d
+answer_found (Err r) request d = bad d
 
 unfoldable pub outcome_of : List ℕ → Device → Outcome
 outcome_of request d = pick (nat_le 4 (length request)) (answer_found (request_by (num_at 0 4 request)) request d) (bad d)

@@ -1,17 +1,19 @@
 -- The laws of control requests: what each test and each call of the code comes to in the definitions.
 -- Assumes nothing.
-use Rattle.std.specs.Prelude.{◌≡◌, ℕ, ◌+◌, ◌<◌, ◌≤◌, Bool, true, ◌&&◌, List, [], ◌∷◌, length, ◌==◌, nat_le, nat_lt, slice_index, refl}
+use Rattle.std.specs.Prelude.{◌≡◌, ℕ, Ok, ◌+◌, ◌<◌, ◌≤◌, Bool, true, ◌&&◌, List, [], ◌∷◌, length, ◌==◌, nat_le, nat_lt, slice_index, refl, Result, Err}
 use Rattle.std.proofs.Common.{sym, ap, ◌∙◌, arith, leb-true, le-leb, eq-eqb}
 use Rattle.std.proofs.lemmas.Bool.{lt-leb}
 use Rattle.layout.specs.Bytes.{num_at}
 use Rattle.layout.specs.Layout.{size, read}
 use Rattle.codes.specs.Says.{says, pick}
 use Rattle.codes.specs.SaysLaws.{picks, skips, took, refused}
+use Rattle.codes.specs.RefusalLaws.{refusal-is}
 use Rattle.codes.specs.Codes.{among, code_says}
 use Rattle.codes.specs.Rates.{place_of}
 use Rattle.codes.specs.Requests.{request_codes, request_code, says_request}
-use Rattle.model.specs.Types.{RequestCode, RJackInfo, RJackRemap, RPcmInfo, RPcmSetParams, RPcmPrepare, RPcmRelease, RPcmStart, RPcmStop, RChmapInfo, FoundRequest, Query, SetParameters, Device, Answer}
-use Rattle.codes.specs.declared.requests.FoundRequest.TheVariants as found
+use Rattle.model.specs.Types.{RequestCode, RJackInfo, RJackRemap, RPcmInfo, RPcmSetParams, RPcmPrepare, RPcmRelease, RPcmStart, RPcmStop, RChmapInfo, Query, SetParameters, Device}
+use Rattle.codes.specs.declared.answers.Refusal.TheVariants.{InvalidParam}
+use Rattle.codes.specs.declared.answers.Refusal.{Refusal}
 use Rattle.records.specs.Records.{query, query_values, set_parameters, set_parameters_values, query_of, set_parameters_of}
 use Rattle.records.specs.Slice.{read_says}
 use Rattle.records.specs.SliceLaws.{read_is}
@@ -23,9 +25,9 @@ use Rattle.model.specs.Control.{Outcome, Given, given, Laid, answering, bad, ok,
 pub gives : {o o' : Outcome} {g : Given} (page : List ℕ) → o ≡ o' → g ≡ answering o' page → g ≡ answering o page
 gives page e p = p ∙ ap (λ (o : Outcome). answering o page) (sym e)
 
-pub laid-gives : (d : Device) (b page after : List ℕ) (n : ℕ) → Laid b page n after → given (record { device = d; said = Answer n }) after ≡ answering (record { device = d; bytes = b }) page
+pub laid-gives : (d : Device) (b page after : List ℕ) (n : ℕ) → Laid b page n after → given (record { device = d; said = Ok n }) after ≡ answering (record { device = d; bytes = b }) page
 unfolding answering
-laid-gives d b page after n p = λ i. given (record { device = d; said = Answer (p.0 i) }) (p.1 i)
+laid-gives d b page after n p = λ i. given (record { device = d; said = Ok (p.0 i) }) (p.1 i)
 
 -- ---- a query
 
@@ -75,7 +77,7 @@ setting-by s d p h e =
 
 -- ---- THE DECISION OVER A CODE is that of `codes`
 
-by-own : (c : RequestCode) → request_by (request_code c) ≡ found.Is c
+by-own : (c : RequestCode) → request_by (request_code c) ≡ Ok c
 unfolding request_by place_of
 by-own RJackInfo = refl
 by-own RJackRemap = refl
@@ -87,23 +89,23 @@ by-own RPcmStart = refl
 by-own RPcmStop = refl
 by-own RChmapInfo = refl
 
-pub request-by : (r : FoundRequest) (n : ℕ) → says_request r ≡ code_says request_codes 1 n → request_by n ≡ r
+pub request-by : (r : Result RequestCode Refusal) (n : ℕ) → says_request r ≡ code_says request_codes 1 n → request_by n ≡ r
 unfolding request_by
-request-by (found.Is c) n e =
+request-by (Ok c) n e =
     let w : request_code c ≡ n = ap (λ (l : List ℕ). slice_index l 0) (took (among n request_codes) 0 (n ∷ []) (request_code c ∷ []) e).1 in
     ap request_by (sym w) ∙ by-own c
-request-by found.InvalidParam n e = skips _ _ _ (refused (among n request_codes) 0 (n ∷ []) e)
+request-by (Err r) n e = let f = refusal-is (among n request_codes) (n ∷ []) r InvalidParam e in skips _ _ _ f.0 ∙ ap Err (sym f.1)
 
 -- ---- one request
 
 pub outcome-code : (s : List ℕ) (d : Device) (c : RequestCode) → 4 ≤ length s → num_at 0 4 s ≡ request_code c → outcome_of s d ≡ answer_by c s d
 unfolding outcome_of
-outcome-code s d c h e = picks _ _ _ (le-leb 4 (length s) h) ∙ ap (λ (f : FoundRequest). answer_found f s d) (ap request_by e ∙ by-own c)
+outcome-code s d c h e = picks _ _ _ (le-leb 4 (length s) h) ∙ ap (λ (f : Result RequestCode Refusal). answer_found f s d) (ap request_by e ∙ by-own c)
 
 pub outcome-short : (s : List ℕ) (d : Device) → length s < 4 → outcome_of s d ≡ bad d
 unfolding outcome_of
 outcome-short s d h = skips _ _ _ (lt-leb 4 (length s) h)
 
-pub outcome-by : (s : List ℕ) (d : Device) (r : FoundRequest) (n : ℕ) → 4 ≤ length s → says_request r ≡ code_says request_codes 1 n → n ≡ num_at 0 4 s → outcome_of s d ≡ answer_found r s d
+pub outcome-by : (s : List ℕ) (d : Device) (r : Result RequestCode Refusal) (n : ℕ) → 4 ≤ length s → says_request r ≡ code_says request_codes 1 n → n ≡ num_at 0 4 s → outcome_of s d ≡ answer_found r s d
 unfolding outcome_of
-outcome-by s d r n h e k = picks _ _ _ (le-leb 4 (length s) h) ∙ ap (λ (f : FoundRequest). answer_found f s d) (ap request_by (sym k) ∙ request-by r n e)
+outcome-by s d r n h e k = picks _ _ _ (le-leb 4 (length s) h) ∙ ap (λ (f : Result RequestCode Refusal). answer_found f s d) (ap request_by (sym k) ∙ request-by r n e)

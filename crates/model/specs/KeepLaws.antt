@@ -1,12 +1,12 @@
 -- What no request changes: the counts, the tables, and how many streams are kept count of. A control request plays nothing, and a transfer sets nothing.
 -- Assumes nothing.
-use Rattle.std.specs.Prelude.{◌≡◌, ℕ, ◌+◌, ◌-◌, ◌%◌, ◌^◌, Bool, true, false, ◌&&◌, List, length, ◌==◌, nat_le, nat_lt, slice_index, refl}
+use Rattle.std.specs.Prelude.{◌≡◌, ℕ, ◌+◌, ◌-◌, ◌%◌, ◌^◌, Bool, true, false, ◌&&◌, List, length, ◌==◌, nat_le, nat_lt, slice_index, refl, Result, Ok, Err}
 use Rattle.std.proofs.Common.{length-set}
 use Rattle.layout.specs.Bytes.{num_at}
 use Rattle.layout.specs.Layout.{size, read}
 use Rattle.codes.specs.Says.{pick}
-use Rattle.model.specs.Types.{RequestCode, RJackInfo, RJackRemap, RPcmInfo, RPcmSetParams, RPcmPrepare, RPcmRelease, RPcmStart, RPcmStop, RChmapInfo, FoundRequest, SetParameters, Device}
-use Rattle.codes.specs.declared.requests.FoundRequest.TheVariants as found
+use Rattle.codes.specs.declared.answers.Refusal.{Refusal}
+use Rattle.model.specs.Types.{RequestCode, RJackInfo, RJackRemap, RPcmInfo, RPcmSetParams, RPcmPrepare, RPcmRelease, RPcmStart, RPcmStop, RChmapInfo, SetParameters, Device}
 use Rattle.records.specs.Records.{query, pcm_command, set_parameters, transfer, jack_info, pcm_info, channel_map, query_of, set_parameters_of, jack_bytes, pcm_bytes, map_bytes}
 use Rattle.model.specs.Control.{Outcome, bad, ok, query_fits, rows_in, table, kept_by, setting_of, command_of, answer_by, answer_found, request_by, outcome_of}
 use Rattle.model.specs.Transfer.{stream_of, plays, played_by, device_after}
@@ -59,9 +59,9 @@ module _ (P : Device → Type 0) (s : List ℕ) (d : Device) (p : P d) where
     by_code RPcmStop = command-leaves
     by_code RChmapInfo = table-leaves map_bytes (size channel_map) d.counts.maps d.maps
 
-    by-found : (f : FoundRequest) → Leaves (answer_found f s d)
-    by-found (found.Is c) = by_code c
-    by-found found.InvalidParam = p
+    by-found : (f : Result RequestCode Refusal) → Leaves (answer_found f s d)
+    by-found (Ok c) = by_code c
+    by-found (Err r) = p
 
     pub control-leaves : P (outcome_of s d).device
     unfolding outcome_of

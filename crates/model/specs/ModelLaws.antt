@@ -1,7 +1,7 @@
 -- What a driver gets from the model: its queries are answered with the tables and these read back, the parameters that it sets are held, and what it
 -- plays is counted and shown. Each `Fit` holds of every value of a Rattle struct: each field is a machine number of its width.
 -- Assumes nothing.
-use Rattle.std.specs.Prelude.{◌≡◌, ℕ, ◌+◌, ◌-◌, ◌*◌, ◌%◌, ◌^◌, ◌<◌, ◌≤◌, true, List, [], ◌∷◌, ◌++◌, length, take, ◌≢◌, nat_lt, slice_index, slice_index_or, refl}
+use Rattle.std.specs.Prelude.{◌≡◌, ℕ, Ok, ◌+◌, ◌-◌, ◌*◌, ◌%◌, ◌^◌, ◌<◌, ◌≤◌, true, List, [], ◌∷◌, ◌++◌, length, take, ◌≢◌, nat_lt, slice_index, slice_index_or, refl}
 use Rattle.std.proofs.Common.{sym, ap, ◌∙◌, append-nil, zero-add, arith, lit<, length-append, ext_get_or, get_or-take, get_or-set_same, get_or-set_other, length-take-le, drop_at, le-leb, lt-ltb, eq-eqb}
 use Rattle.layout.specs.Lent.{page_size}
 use Rattle.layout.specs.Bytes.{le}
@@ -13,7 +13,7 @@ use Rattle.layout.specs.RowsLaws.{length-rows, rows-at}
 use Rattle.codes.specs.Says.{says, pick}
 use Rattle.codes.specs.SaysLaws.{picks, passes}
 use Rattle.codes.specs.Requests.{request_code}
-use Rattle.model.specs.Types.{RequestCode, RJackInfo, RPcmInfo, RPcmSetParams, RChmapInfo, SetParameters, Device, Answer}
+use Rattle.model.specs.Types.{RequestCode, RJackInfo, RPcmInfo, RPcmSetParams, RChmapInfo, SetParameters, Device}
 use Rattle.records.specs.Records.{query, pcm_command, set_parameters, set_parameters_values, jack_info, jack_info_values, pcm_info, pcm_info_values, channel_map, channel_map_values, transfer, transfer_status, jack_info_of, pcm_info_of, channel_map_of}
 use Rattle.records.specs.SliceLaws.{read-long}
 use Rattle.model.specs.Device.{most_jacks, most_streams, most_maps, within_of, nothing, stream_ok, held_says, params_says, played_says}
@@ -26,7 +26,7 @@ use Rattle.model.specs.ControlLaws.{asked_by, table-rows, setting-by, outcome-co
 -- ---- the calls, on a page or an answer slice of the right length
 
 pub control-answers : (d : Device) (s page : List ℕ) → length page ≡ page_size → within_of d.counts ≡ true
-    → control_of d s page ≡ given (record { device = (outcome_of s d).device; said = Answer (length (outcome_of s d).bytes) }) (laid (outcome_of s d).bytes page)
+    → control_of d s page ≡ given (record { device = (outcome_of s d).device; said = Ok (length (outcome_of s d).bytes) }) (laid (outcome_of s d).bytes page)
 unfolding control_of answering
 control-answers d s page h w = sym (passes _ _ _ (eq-eqb (length page) page_size h) (passes _ _ _ w refl))
 

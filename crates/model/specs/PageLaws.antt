@@ -24,6 +24,15 @@ front page b h = sets-eq b page 0 (omega arith) ∙ ap (λ (n : ℕ). b ++ drop 
 pub status-laid : (status : ℕ) (page after : List ℕ) → 4 ≤ length page → after ≡ sets page 0 (le 4 status) → Laid (le 4 status) page 4 after
 status-laid status page after h e = let n = length-le 4 status in (sym n, e ∙ front page (le 4 status) (rw n h))
 
+-- bytes that are stored in the part `&mut page[a..a + n]`, which they fill
+pub stored_in : (page part : List ℕ) (a n : ℕ) → a + n ≤ length page → length part ≡ n → put_mid a n page part ≡ sets page a part
+stored_in page part a n h e =
+    ap (λ (l : List ℕ). take a page ++ (part ++ l)) (drop-drop n a page)
+    ∙ sym
+    (sets-eq part page a (rw e h)
+    ∙ ap (λ (m : ℕ). take a page ++ part ++ drop (a + m) page) e
+    ∙ append_assoc (take a page) part (drop (a + n) page))
+
 -- a record that is written in the part `&mut page[a..]`
 pub written_in : (ws vs page part : List ℕ) (a : ℕ) → a + size ws ≤ length page → part ≡ written ws vs (mid_of a (length page - a) page) → put_mid a (length page - a) page part ≡ sets page a (write ws vs)
 written_in ws vs page part a h e =
@@ -39,41 +48,43 @@ written_in ws vs page part a h e =
     ∙ ap (λ (m : ℕ). take a page ++ b ++ drop (a + m) page) (length-write ws vs)
     ∙ append_assoc (take a page) b (drop (a + size ws) page))
 
--- THE LAW OF THE THREE LOOPS: a turn writes one record more of the range that begins at `start`
-pub row_more : {A : Type 0} (ws : List ℕ) (values : A → List ℕ) (rows : List A) (d : A) (start i : ℕ) (page₀ page part : List ℕ) → start + i < length rows → 4 + i * size ws + size ws ≤ length page
-    → page ≡ sets page₀ 4 (rows_bytes (λ (x : A). write ws (values x)) (take i (drop start rows)))
-    → part ≡ written ws (values (slice_index_or rows (start + i) d)) (mid_of (4 + i * size ws) (length page - (4 + i * size ws)) page)
-    → (length (put_mid (4 + i * size ws) (length page - (4 + i * size ws)) page part) ≡ length page₀)
-    × (put_mid (4 + i * size ws) (length page - (4 + i * size ws)) page part ≡ sets page₀ 4 (rows_bytes (λ (x : A). write ws (values x)) (take (i + 1) (drop start rows))))
-row_more {A} ws values rows d start i page₀ page part h k e p =
+-- THE LAW OF THE LOOP: a turn writes one record more, at its place `at`
+pub row_more : {A : Type 0} (ws : List ℕ) (values : A → List ℕ) (rows : List A) (d : A) (i at : ℕ) (page₀ page part : List ℕ) → i < length rows → at ≡ 4 + i * size ws → at + size ws ≤ length page
+    → page ≡ sets page₀ 4 (rows_bytes (λ (x : A). write ws (values x)) (take i rows))
+    → part ≡ written ws (values (slice_index_or rows i d)) (mid_of at (length page - at) page)
+    → (length (put_mid at (length page - at) page part) ≡ length page₀)
+    × (put_mid at (length page - at) page part ≡ sets page₀ 4 (rows_bytes (λ (x : A). write ws (values x)) (take (i + 1) rows)))
+row_more {A} ws values rows d i at page₀ page part h place k e p =
     let g : A → List ℕ = λ x. write ws (values x) in
-    let q = put_mid (4 + i * size ws) (length page - (4 + i * size ws)) page part in
-    let all : q ≡ sets page₀ 4 (rows_bytes g (take (i + 1) (drop start rows))) =
-    rows_bytes-more g (size ws) (λ x. length-write ws (values x)) page₀ 4 i (drop start rows) d page q (simp length-drop (omega arith)) e
-    (written_in ws (values (slice_index_or rows (start + i) d)) page part (4 + i * size ws) k p ∙ ap (λ (x : A). sets page (4 + i * size ws) (g x)) (sym (get_or-drop start rows i d))) in
-    (ap length all ∙ length-sets page₀ 4 (rows_bytes g (take (i + 1) (drop start rows))), all)
+    let q = put_mid at (length page - at) page part in
+    let all : q ≡ sets page₀ 4 (rows_bytes g (take (i + 1) rows)) =
+    rows_bytes-more g (size ws) (λ x. length-write ws (values x)) page₀ 4 i rows d page q h e
+    (written_in ws (values (slice_index_or rows i d)) page part at k p ∙ ap (λ (o : ℕ). sets page o (g (slice_index_or rows i d))) place) in
+    (ap length all ∙ length-sets page₀ 4 (rows_bytes g (take (i + 1) rows)), all)
+
+module _ {A : Type 0} (ws : List ℕ) (values : A → List ℕ) (rows : List A) where
+  length-headed : length (le 4 0x8000 ++ rows_bytes (λ (x : A). write ws (values x)) rows) ≡ 4 + length rows * size ws
+  length-headed =
+      let g : A → List ℕ = λ x. write ws (values x) in
+      length-append (le 4 0x8000) (rows_bytes g rows) ∙ (λ i. length-le 4 0x8000 i + length-rows_bytes g (size ws) (λ x. length-write ws (values x)) rows i)
+
+  -- the header and all records were stored
+  pub rows-laid : (page₀ page after : List ℕ) (at : ℕ) → at ≡ 4 + length rows * size ws → at ≤ length page₀
+      → page ≡ sets page₀ 0 (le 4 0x8000) → after ≡ sets page 4 (rows_bytes (λ (x : A). write ws (values x)) rows)
+      → Laid (le 4 0x8000 ++ rows_bytes (λ (x : A). write ws (values x)) rows) page₀ at after
+  rows-laid page₀ page after at e k p q =
+      let b = rows_bytes (λ (x : A). write ws (values x)) rows in (
+        e ∙ sym length-headed,
+        q
+            ∙ ap (λ (z : List ℕ). sets z 4 b) p
+            ∙ sets_then page₀ 0 4 (le 4 0x8000) b (sym (zero-add (length (le 4 0x8000)) ∙ length-le 4 0x8000))
+            ∙ front page₀ (le 4 0x8000 ++ b) (rw (length-headed, ← e) k),
+      )
 
 module _ {A : Type 0} (ws : List ℕ) (values : A → List ℕ) (rows : List A) (start count : ℕ) (h : start + count ≤ length rows) where
   pub length-rows_in : length (rows_in (λ (x : A). write ws (values x)) start count rows) ≡ 4 + count * size ws
   length-rows_in =
-      let g : A → List ℕ = λ x. write ws (values x) in
-      let rs = take count (drop start rows) in
-      let m : length rs ≡ count = length-take-le count (drop start rows) (simp length-drop (omega arith)) in
-      length-append (le 4 0x8000) (rows_bytes g rs)
-      ∙ (λ i. length-le 4 0x8000 i + (length-rows_bytes g (size ws) (λ x. length-write ws (values x)) rs ∙ ap (λ (z : ℕ). z * size ws) m) i)
-
-  -- the header and the whole range were stored
-  pub rows-laid : (page₀ page after : List ℕ) → 4 + count * size ws ≤ length page₀
-      → page ≡ sets page₀ 0 (le 4 0x8000) → after ≡ sets page 4 (rows_bytes (λ (x : A). write ws (values x)) (take count (drop start rows)))
-      → Laid (rows_in (λ (x : A). write ws (values x)) start count rows) page₀ (4 + count * size ws) after
-  rows-laid page₀ page after k p q =
-      let b = rows_bytes (λ (x : A). write ws (values x)) (take count (drop start rows)) in (
-        sym length-rows_in,
-        q
-            ∙ ap (λ (z : List ℕ). sets z 4 b) p
-            ∙ sets_then page₀ 0 4 (le 4 0x8000) b (sym (zero-add (length (le 4 0x8000)) ∙ length-le 4 0x8000))
-            ∙ front page₀ (le 4 0x8000 ++ b) (rw length-rows_in k),
-      )
+      length-headed ws values (take count (drop start rows)) ∙ ap (λ (n : ℕ). 4 + n * size ws) (length-take-le count (drop start rows) (simp length-drop (omega arith)))
 
   -- record i of the range stands at 4 + i × size, whatever follows
   pub row_back : (i : ℕ) (d : A) (rest : List ℕ) → i < count → Fit ws (values (slice_index_or rows (start + i) d))

@@ -1,13 +1,13 @@
 -- One transfer, one status: the stream's count grows by the payload's length, modulo 2^64. Under 4 bytes or a stream too high: 0x8001 and nothing changes.
 -- Assumes nothing.
-use Rattle.std.specs.Prelude.{ℕ, ◌+◌, ◌-◌, ◌%◌, ◌^◌, Bool, ◌&&◌, List, [], ◌++◌, length, drop, nat_le, nat_lt, slice_index, slice_set}
+use Rattle.std.specs.Prelude.{ℕ, Ok, ◌+◌, ◌-◌, ◌%◌, ◌^◌, Bool, ◌&&◌, List, [], ◌++◌, length, drop, nat_le, nat_lt, slice_index, slice_set}
 use Rattle.layout.specs.Layout.{size, read, write}
 use Rattle.codes.specs.Says.{pick, guard}
 use Rattle.codes.specs.declared.answers.Refusal.TheVariants.{InvalidParam, BadLength}
 use Rattle.records.specs.Records.{transfer, transfer_status, transfer_status_values, transfer_of}
 use Rattle.model.specs.Device.{within_of}
 use Rattle.model.specs.Control.{Given, given, refusing}
-use Rattle.model.specs.Types.{Counts, Device, Answer}
+use Rattle.model.specs.Types.{Counts, Device}
 
 abbrev pub stream_of : List ℕ → ℕ
 stream_of request = (transfer_of (read transfer request)).stream
@@ -42,7 +42,7 @@ abbrev pub status_in : ℕ → List ℕ → List ℕ
 status_in status answer = write transfer_status (transfer_status_values (record { status = status; latency = 0 })) ++ drop (size transfer_status) answer
 
 abbrev pub status_given : Device → ℕ → List ℕ → Given
-status_given d status answer = given (record { device = d; said = Answer (size transfer_status) }) (status_in status answer)
+status_given d status answer = given (record { device = d; said = Ok (size transfer_status) }) (status_in status answer)
 
 -- the call: an answer slice of 8 bytes or more, else 10; a device with larger tables gets 1
 unfoldable pub transfer_call : Device → List ℕ → List ℕ → Given

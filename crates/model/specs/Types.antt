@@ -3,7 +3,6 @@
 -- Assumes nothing.
 pub use Rattle.codes.specs.declared.requests.RequestCode.{RequestCode}
 pub use Rattle.codes.specs.declared.requests.RequestCode.TheVariants.{RJackInfo, RJackRemap, RPcmInfo, RPcmSetParams, RPcmPrepare, RPcmRelease, RPcmStart, RPcmStop, RChmapInfo}
-pub use Rattle.codes.specs.declared.requests.FoundRequest.{FoundRequest}
 pub use Rattle.records.specs.declared.control.Query.{Query}
 pub use Rattle.records.specs.declared.control.SetParameters.{SetParameters}
 pub use Rattle.records.specs.declared.info.JackInfo.{JackInfo}
@@ -12,10 +11,5 @@ pub use Rattle.records.specs.declared.info.ChannelMap.{ChannelMap}
 pub use Rattle.model.specs.declared.device.Counts.{Counts}
 pub use Rattle.model.specs.declared.device.Held.{Held}
 pub use Rattle.model.specs.declared.device.Device.{Device}
-pub use Rattle.model.specs.declared.device.HeldRead.{HeldRead}
-pub use Rattle.model.specs.declared.device.Count.{Count}
-pub use Rattle.model.specs.declared.said.Control.{Control}
-pub use Rattle.model.specs.declared.said.Control.TheVariants.{Answer, Refused}
 pub use Rattle.model.specs.declared.said.Answered.{Answered}
 pub use Rattle.model.specs.declared.control.Range.{Range}
-pub use Rattle.model.specs.declared.control.Range.TheVariants.{Of, Bad}

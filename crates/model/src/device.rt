@@ -1,7 +1,8 @@
 // The model device by value.
 ghost use Rattle.std.specs.Prelude.{◌≡◌};
-ghost use Rattle.model.specs.Device.{new_device, few_of, within_of, stream_ok, says_held, params_says, says_count, played_says};
+ghost use Rattle.model.specs.Device.{new_device, few_of, within_of, stream_ok, says_held, params_says, says_count, played_says, place_of};
 
+use codes::Refusal;
 use records::{ChannelMap, JackInfo, PcmInfo, SetParameters};
 
 // How many records each table has at the most: as many as a page holds.
@@ -20,6 +21,8 @@ pub struct Counts {
 }
 
 // The parameters that a stream was set to, all 24 bytes as received; `known` is 0 where it never was.
+// It is no Option: `known` is the byte that a store keeps, and a store that is read and written
+// again has to keep each of its bytes.
 #[derive(Clone, Copy)]
 pub struct Held {
     pub known: u8,
@@ -37,31 +40,11 @@ pub struct Device {
     pub played: [u64; 127],
 }
 
-// What a stream holds.
-#[derive(Clone, Copy)]
-pub enum HeldRead {
-    Is(SetParameters),
-    Nothing,
-    InvalidParam,
-}
-
-#[derive(Clone, Copy)]
-pub enum Count {
-    Is(u64),
-    InvalidParam,
-}
-
 // Counts of tables that a page holds each.
 pub fn few(jacks: usize, streams: usize, maps: usize) -> bool
     ensures { result ≡ few_of jacks streams maps }
 {
-    if JACKS < jacks {
-        return false;
-    }
-    if STREAMS < streams {
-        return false;
-    }
-    maps <= MAPS
+    jacks <= JACKS && streams <= STREAMS && maps <= MAPS
 }
 
 // A device with larger tables than a page holds is refused, but for `payload`, which only shows a
@@ -76,7 +59,17 @@ pub fn within(n: Counts) -> bool
 pub fn stream_ok(n: Counts, stream: u32) -> bool
     ensures { result ≡ stream_ok n stream }
 {
-    if within(n) { stream < n.streams } else { false }
+    within(n) && stream < n.streams
+}
+
+// The place of a stream in the tables by stream.
+fn place(n: Counts, stream: u32) -> Result<usize, Refusal>
+    ensures { result ≡ place_of n stream }
+{
+    if stream_ok(n, stream) {
+        return Ok(stream as usize);
+    }
+    Err(Refusal::InvalidParam)
 }
 
 impl Device {
@@ -114,31 +107,20 @@ impl Device {
     }
 
     // The parameters of a stream.
-    pub fn params(self, stream: u32) -> HeldRead
+    pub fn params(self, stream: u32) -> Result<Option<SetParameters>, Refusal>
         ensures { says_held result ≡ params_says self stream }
     {
-        let counts = self.counts;
-        if stream_ok(counts, stream) {
-            let i = stream as usize;
-            let held = self.params[i];
-            if held.known == 0 {
-                return HeldRead::Nothing;
-            }
-            let set = held.set;
-            return HeldRead::Is(set);
+        let held = self.params[place(self.counts, stream)?];
+        if held.known == 0 {
+            return Ok(None);
         }
-        HeldRead::InvalidParam
+        Ok(Some(held.set))
     }
 
     // How many bytes a stream has played, modulo 2^64.
-    pub fn played(self, stream: u32) -> Count
+    pub fn played(self, stream: u32) -> Result<u64, Refusal>
         ensures { says_count result ≡ played_says self stream }
     {
-        let counts = self.counts;
-        if stream_ok(counts, stream) {
-            let i = stream as usize;
-            return Count::Is(self.played[i]);
-        }
-        Count::InvalidParam
+        Ok(self.played[place(self.counts, stream)?])
     }
 }

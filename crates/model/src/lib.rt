@@ -4,9 +4,10 @@
 
 pub mod control;
 mod device;
+mod row;
 mod said;
 pub mod transfer;
 
 pub use control::Range;
-pub use device::{Count, Counts, Device, Held, HeldRead, few, stream_ok, within};
-pub use said::{Answered, Control};
+pub use device::{Counts, Device, Held, few, stream_ok, within};
+pub use said::Answered;

@@ -2,16 +2,10 @@
 use crate::device::Device;
 use codes::Refusal;
 
-// An answer of so many bytes stands in the lent slice, or nothing was looked at.
-#[derive(Clone, Copy)]
-pub enum Control {
-    Answer(usize),
-    Refused(Refusal),
-}
-
-// What a request or a transfer leaves, and what was said.
+// What a request or a transfer leaves, and what was said: an answer of so many bytes stands in the
+// lent slice, or nothing was looked at.
 #[derive(Clone, Copy)]
 pub struct Answered {
     pub device: Device,
-    pub said: Control,
+    pub said: Result<usize, Refusal>,
 }

@@ -7,7 +7,7 @@ ghost use Rattle.model.specs.Control.{given};
 ghost use Rattle.model.specs.Transfer.{plays, payload_of, status_given, status_by, device_after, transfer_call};
 
 use crate::device::{Counts, Device, within};
-use crate::said::{Answered, Control};
+use crate::said::Answered;
 use codes::{Refusal, StatusCode};
 use records::{Transfer, TransferStatus};
 use std::num::wrapping_add_u64;
@@ -28,10 +28,10 @@ fn tell(d: Device, status: u32, answer: &mut [u8]) -> Answered
     ensures { given result answer.new ≡ status_given d status answer.old }
 {
     let t = TransferStatus { status, latency: 0 };
-    t.write(answer);
+    let _ = t.write(answer);
     Answered {
         device: d,
-        said: Control::Answer(TransferStatus::SIZE),
+        said: Ok(TransferStatus::SIZE),
     }
 }
 
@@ -57,7 +57,7 @@ pub fn transfer(d: Device, request: &[u8], answer: &mut [u8]) -> Answered
     if answer.len() < TransferStatus::SIZE {
         return Answered {
             device: d,
-            said: Control::Refused(Refusal::BadLength),
+            said: Err(Refusal::BadLength),
         };
     }
     let counts = d.counts;
@@ -66,7 +66,7 @@ pub fn transfer(d: Device, request: &[u8], answer: &mut [u8]) -> Answered
     }
     Answered {
         device: d,
-        said: Control::Refused(Refusal::InvalidParam),
+        said: Err(Refusal::InvalidParam),
     }
 }
 

@@ -1,6 +1,6 @@
 -- A control request on a store: what each of the code's returns comes to.
 -- Assumes nothing.
-use Rattle.std.specs.Prelude.{◌≡◌, ℕ, ◌<◌, ◌≤◌, true, false, List, length, ◌≢◌}
+use Rattle.std.specs.Prelude.{◌≡◌, ℕ, Ok, ◌<◌, ◌≤◌, true, false, List, length, ◌≢◌}
 use Rattle.std.proofs.Math.Path.{refl, ap}
 use Rattle.std.proofs.Common.{sym, ◌∙◌, append-nil, le-leb, eq-eqb, ne_eqb}
 use Rattle.std.proofs.Math.Seq.{sets}
@@ -10,7 +10,6 @@ use Rattle.layout.specs.Rows.{rows_bytes}
 use Rattle.layout.specs.Lent.{result_size, page_size}
 use Rattle.codes.specs.SaysLaws.{passes, stops}
 use Rattle.codes.specs.declared.answers.Refusal.TheVariants.{InvalidParam, BadLength}
-use Rattle.model_store.specs.Types.{Answer}
 use Rattle.model.specs.Device.{within_of}
 use Rattle.model.specs.DeviceLaws.{and-passes, and-stops}
 use Rattle.model.specs.Control.{Given, given, refusing, laid, answering, outcome_of, control_of}
@@ -69,4 +68,4 @@ module _ (s request page r : List ℕ) where
           let o = outcome_of request (device_of s) in
           let k = length o.bytes in
           (λ i. told 0 after (g.written i) ((e ∙ ap (λ (m : ℕ). sets r 0 (le 8 m)) g.told ∙ ap (sets r 0) (sym (append-nil (le 8 k)))) i))
-          ∙ control-by (given (record { device = o.device; said = Answer k }) (laid o.bytes page)) after (passes _ _ _ (eq-eqb (length page) page_size h) (passes _ _ _ (ap within_of (counts_of s) ∙ w) refl)) g.device
+          ∙ control-by (given (record { device = o.device; said = Ok k }) (laid o.bytes page)) after (passes _ _ _ (eq-eqb (length page) page_size h) (passes _ _ _ (ap within_of (counts_of s) ∙ w) refl)) g.device

@@ -1,6 +1,6 @@
 -- A new device by place: a table is its bytes as they came and zeros, and all that follows the tables is zeros.
 -- Assumes nothing.
-use Rattle.std.specs.Prelude.{◌≡◌, ℕ, zero, suc, ◌+◌, ◌-◌, ◌*◌, ◌/◌, ◌%◌, ◌<◌, ◌≤◌, true, false, List, [], ◌∷◌, ◌++◌, length, replicate, ◌≢◌, slice_set}
+use Rattle.std.specs.Prelude.{◌≡◌, ℕ, zero, suc, ◌+◌, ◌-◌, ◌*◌, ◌/◌, ◌%◌, ◌<◌, ◌≤◌, true, false, List, [], ◌++◌, length, replicate, ◌≢◌}
 use Rattle.std.proofs.Math.Path.{refl, sym, ap}
 use Rattle.std.proofs.Common.{◌∙◌, append_assoc, zero-add, add-zero, zero-mul, suc-mul, add_comm, mul_comm, mul-le-mul_right, div-add-mod', arith, length-append}
 use Rattle.std.proofs.Math.Nat.{mul-sub}
@@ -38,14 +38,6 @@ zeros-add n m = replicate-append-replicate n m 0
 
 length-padded : (room : ℕ) (rows : List ℕ) → length rows ≤ room → length (padded room rows) ≡ room
 length-padded room rows h = length-append rows (zeros (room - length rows)) ∙ ap (λ (n : ℕ). length rows + n) (length-zeros (room - length rows)) ∙ omega arith
-
--- a turn of the loop that clears
-pub clear-more : (s : List ℕ) (o n : ℕ) (s₁ : List ℕ) → s₁ ≡ sets s o (zeros n) → slice_set s₁ (o + n) 0 ≡ sets s o (zeros (n + 1))
-unfolding zeros
-clear-more s o n s₁ e =
-    ap (λ (l : List ℕ). sets l (o + n) (0 ∷ [])) e
-    ∙ sets_then s o (o + n) (zeros n) (0 ∷ []) (ap (λ (k : ℕ). o + k) (sym (length-zeros n)))
-    ∙ ap (sets s o) (zeros-add n 1)
 
 -- a copy, then zeros
 pub filled : (s s₁ s₂ rows : List ℕ) (place room : ℕ) → s₁ ≡ sets s place (bytes_at 0 (length rows) rows) → s₂ ≡ sets s₁ (place + length rows) (zeros (room - length rows)) → s₂ ≡ sets s place (padded room rows)

@@ -7,4 +7,3 @@ pub use Rattle.records.specs.declared.info.ChannelMap.{ChannelMap}
 pub use Rattle.model.specs.declared.device.Counts.{Counts}
 pub use Rattle.model.specs.declared.device.Held.{Held}
 pub use Rattle.model.specs.declared.device.Device.{Device}
-pub use Rattle.model.specs.declared.said.Control.TheVariants.{Answer}

@@ -11,7 +11,7 @@ ghost use Rattle.model_store.specs.Store.{device_size, counts_at, device_of};
 ghost use Rattle.model_store.specs.Private.{range_bytes, Gave};
 
 use crate::place::{HELD, JACKS, MAPS, PARAMS, PCMS, copy};
-use codes::{FoundRequest, RequestCode, StatusCode};
+use codes::{RequestCode, StatusCode};
 use model::control::{HEADER, asked};
 use model::{Counts, Range};
 use records::{ChannelMap, JackInfo, PcmCommand, PcmInfo, SetParameters};
@@ -34,7 +34,7 @@ fn rows(device: &[u8], place: usize, size: usize, n: u32, request: &[u8], page: 
     requires { (length page.old ≡ page_size) × (4 + n * size ≤ page_size) × (place + n * size ≤ length device.now) }
     ensures { Laid (range_bytes request.now size n place device.now) page.old result page.new }
 {
-    let Range::Of(start, count) = asked(request, size, n) else {
+    let Some(Range { start, count }) = asked(request, size, n) else {
         return tell(StatusCode::BAD_MSG, page);
     };
     layout::put_u32(page, 0, StatusCode::OK);
@@ -98,7 +98,7 @@ pub(crate) fn outcome(counts: Counts, device: &mut [u8], request: &[u8], page: &
     if request.len() < HEADER {
         return tell(StatusCode::BAD_MSG, page);
     }
-    let FoundRequest::Is(code) = RequestCode::from_code(layout::get_u32(request, 0)) else {
+    let Ok(code) = RequestCode::try_from(layout::get_u32(request, 0)) else {
         return tell(StatusCode::BAD_MSG, page);
     };
     answer(code, counts, device, request, page)

@@ -12,9 +12,10 @@ ghost use Rattle.std.proofs.lemmas.List.Edits.{sets};
 ghost use Rattle.layout.specs.Layout.{write};
 ghost use Rattle.layout.specs.Lent.{made, shown};
 ghost use Rattle.model_store.specs.Store.{device_size};
-ghost use Rattle.model_store.specs.Calls.{new_in, told, control_in, transferred, transfer_in, payload_in, params_in, played_in};
+ghost use Rattle.model_store.specs.Calls.{new_in, roomy_in, told, control_in, transferred, transfer_in, payload_in, params_in, played_in};
 
 use answer::outcome;
+use codes::words::{BAD_LENGTH, INVALID_PARAM};
 use made::make;
 use model::control::PAGE;
 use model::transfer::plays;
@@ -29,12 +30,15 @@ pub const SIZE: usize = 16427;
 // The least length of a result slice.
 const RESULT: usize = 512;
 
-// What a call says, by its number.
+// What a call says, by its number: that is what the C entries hand out.
 const OK: u64 = 0;
 
-const INVALID_PARAM: u64 = 1;
-
-const BAD_LENGTH: u64 = 10;
+// A store and a result slice that are long enough.
+fn roomy(device: &[u8], res: &[u8]) -> bool
+    ensures { result ≡ roomy_in device.now res.now }
+{
+    SIZE <= device.len() && RESULT <= res.len()
+}
 
 pub fn size() -> u64
     ensures { result ≡ device_size }
@@ -78,10 +82,7 @@ pub fn new(device: &mut [u8], jacks: &[u8], pcms: &[u8], maps: &[u8]) -> u64
 pub fn control(device: &mut [u8], request: &[u8], page: &mut [u8], res: &mut [u8]) -> u64
     ensures { told result device.new page.new res.new ≡ control_in device.old request.now page.old res.old }
 {
-    if device.len() < SIZE {
-        return BAD_LENGTH;
-    }
-    if res.len() < RESULT {
+    if !roomy(&device[..], &res[..]) {
         return BAD_LENGTH;
     }
     if page.len() != PAGE {
@@ -110,7 +111,7 @@ pub fn transfer(device: &mut [u8], request: &[u8], answer: &mut [u8]) -> u64
     if within(counts) {
         let status = play(counts, device, request);
         let told = TransferStatus { status, latency: 0 };
-        told.write(answer);
+        let _ = told.write(answer);
         return OK;
     }
     INVALID_PARAM
@@ -128,10 +129,7 @@ fn put_part(res: &mut [u8], offset: u64, length: u64)
 pub fn payload(device: &[u8], request: &[u8], res: &mut [u8]) -> u64
     ensures { shown result res.new ≡ payload_in device.now request.now res.old }
 {
-    if device.len() < SIZE {
-        return BAD_LENGTH;
-    }
-    if res.len() < RESULT {
+    if !roomy(device, &res[..]) {
         return BAD_LENGTH;
     }
     let counts = counts_at(device);
@@ -151,10 +149,7 @@ pub fn payload(device: &[u8], request: &[u8], res: &mut [u8]) -> u64
 pub fn params(device: &[u8], stream: u32, res: &mut [u8]) -> u64
     ensures { shown result res.new ≡ params_in device.now stream res.old }
 {
-    if device.len() < SIZE {
-        return BAD_LENGTH;
-    }
-    if res.len() < RESULT {
+    if !roomy(device, &res[..]) {
         return BAD_LENGTH;
     }
     let counts = counts_at(device);
@@ -175,10 +170,7 @@ pub fn params(device: &[u8], stream: u32, res: &mut [u8]) -> u64
 pub fn played(device: &[u8], stream: u32, res: &mut [u8]) -> u64
     ensures { shown result res.new ≡ played_in device.now stream res.old }
 {
-    if device.len() < SIZE {
-        return BAD_LENGTH;
-    }
-    if res.len() < RESULT {
+    if !roomy(device, &res[..]) {
         return BAD_LENGTH;
     }
     let counts = counts_at(device);

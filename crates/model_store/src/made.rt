@@ -13,11 +13,7 @@ fn clear(to: &mut [u8], at: usize, n: usize)
     requires { at + n ≤ length to.old }
     ensures { to.new ≡ sets to.old at (zeros n) }
 {
-    let mut i: usize = 0;
-    while i < n {
-        to[at + i] = 0;
-        i += 1;
-    }
+    to[at..at + n].fill(0);
 }
 
 // A table's rows, then zeros up to its room.

@@ -6,7 +6,7 @@ use records::{Config, Event, Notice, latest_notification_in};
 use std::io;
 
 fn config_fields(rt: &impl Print) -> io::Result<()> {
-    show::size(rt, b"config", Config::SIZE_CTLS as u64)?;
+    show::size(rt, "config", Config::SIZE_CTLS)?;
     let mut b = [0u8; 16];
     let r = Config {
         jacks: 0,
@@ -14,26 +14,26 @@ fn config_fields(rt: &impl Print) -> io::Result<()> {
         chmaps: 0,
         controls: 0xFFFF_FFFF,
     };
-    r.write(true, &mut b);
-    show::field(rt, b"config.controls", &b)
+    let _ = r.write(true, &mut b);
+    show::field(rt, "config", "controls", &b)
 }
 
 // Two bytes that were read, each of which holds its own place.
-fn places(rt: &impl Print, name: &[u8], value: u16) -> io::Result<()> {
+fn places(rt: &impl Print, name: &str, value: u16) -> io::Result<()> {
     let mut b = [0u8; 32];
     layout::put_u8(&mut b, (value % 256) as usize, 0xFF);
     layout::put_u8(&mut b, (value / 256) as usize, 0xFF);
-    show::field(rt, name, &b)
+    show::field(rt, "ctl_event", name, &b)
 }
 
 fn event_fields(rt: &impl Print) -> io::Result<()> {
-    show::size(rt, b"ctl_event", Event::SIZE as u64)?;
+    show::size(rt, "ctl_event", Event::SIZE)?;
     let b = [0x00u8, 0x12, 0, 0, 4, 5, 6, 7];
-    let Notice::Control(id, mask) = latest_notification_in(&b, true) else {
+    let Ok(Some(Notice::Control(id, mask))) = latest_notification_in(&b, true) else {
         return Ok(());
     };
-    places(rt, b"ctl_event.control_id", id)?;
-    places(rt, b"ctl_event.mask", mask)
+    places(rt, "control_id", id)?;
+    places(rt, "mask", mask)
 }
 
 pub(crate) fn all(rt: &impl Print) -> io::Result<()> {

@@ -1,5 +1,7 @@
 // The size of each record, and the place and width of each field: each is shown by writing a record
 // with that one field all ones.
+ghost use Rattle.std.specs.Prelude.{◌≤◌};
+
 use crate::show;
 use records::{
     ChannelMap, Config, Event, JackInfo, PcmCommand, PcmInfo, Query, Remap, SetParameters,
@@ -11,74 +13,97 @@ const ALL: u32 = 0xFFFF_FFFF;
 
 const LONG: u64 = 0xFFFF_FFFF_FFFF_FFFF;
 
-fn query(rt: &impl Print, name: &[u8], r: Query) -> io::Result<()> {
-    let mut b = [0u8; 32];
-    r.write(&mut b);
-    show::field(rt, name, &b)
+// The size of a record, and each of its fields: beside its name stands the record to write.
+fn fields<R: Copy, F: Fn(R, &mut [u8])>(
+    rt: &impl Print,
+    record: &str,
+    size: usize,
+    cases: &[(&str, R)],
+    write: F,
+) -> io::Result<()>
+    requires { (size ≤ 32) × (F.IsAlwaysCallable write) }
+{
+    show::size(rt, record, size)?;
+    for (name, r) in cases {
+        let mut bytes = [0u8; 32];
+        write(*r, &mut bytes[..size]);
+        show::field(rt, record, name, &bytes[..size])?;
+    }
+    Ok(())
 }
 
 fn query_fields(rt: &impl Print) -> io::Result<()> {
-    show::size(rt, b"query_info", Query::SIZE as u64)?;
     let z = Query {
         code: 0,
         start: 0,
         count: 0,
         size: 0,
     };
-    query(rt, b"query_info.hdr.code", Query { code: ALL, ..z })?;
-    query(rt, b"query_info.start_id", Query { start: ALL, ..z })?;
-    query(rt, b"query_info.count", Query { count: ALL, ..z })?;
-    query(rt, b"query_info.size", Query { size: ALL, ..z })
-}
-
-fn remap(rt: &impl Print, name: &[u8], r: Remap) -> io::Result<()> {
-    let mut b = [0u8; 32];
-    r.write(&mut b);
-    show::field(rt, name, &b)
+    let cases = [
+        ("hdr.code", Query { code: ALL, ..z }),
+        ("start_id", Query { start: ALL, ..z }),
+        ("count", Query { count: ALL, ..z }),
+        ("size", Query { size: ALL, ..z }),
+    ];
+    fields(
+        rt,
+        "query_info",
+        Query::SIZE,
+        &cases,
+        |r: Query, out: &mut [u8]| {
+            let _ = r.write(out);
+        },
+    )
 }
 
 fn remap_fields(rt: &impl Print) -> io::Result<()> {
-    show::size(rt, b"jack_remap", Remap::SIZE as u64)?;
     let z = Remap {
         code: 0,
         jack: 0,
         association: 0,
         sequence: 0,
     };
-    remap(rt, b"jack_remap.hdr.hdr.code", Remap { code: ALL, ..z })?;
-    remap(rt, b"jack_remap.hdr.jack_id", Remap { jack: ALL, ..z })?;
-    remap(
+    let cases = [
+        ("hdr.hdr.code", Remap { code: ALL, ..z }),
+        ("hdr.jack_id", Remap { jack: ALL, ..z }),
+        (
+            "association",
+            Remap {
+                association: ALL,
+                ..z
+            },
+        ),
+        ("sequence", Remap { sequence: ALL, ..z }),
+    ];
+    fields(
         rt,
-        b"jack_remap.association",
-        Remap {
-            association: ALL,
-            ..z
+        "jack_remap",
+        Remap::SIZE,
+        &cases,
+        |r: Remap, out: &mut [u8]| {
+            let _ = r.write(out);
         },
-    )?;
-    remap(rt, b"jack_remap.sequence", Remap { sequence: ALL, ..z })
-}
-
-fn command(rt: &impl Print, name: &[u8], r: PcmCommand) -> io::Result<()> {
-    let mut b = [0u8; 32];
-    r.write(&mut b);
-    show::field(rt, name, &b)
+    )
 }
 
 fn command_fields(rt: &impl Print) -> io::Result<()> {
-    show::size(rt, b"pcm_hdr", PcmCommand::SIZE as u64)?;
     let z = PcmCommand { code: 0, stream: 0 };
-    command(rt, b"pcm_hdr.hdr.code", PcmCommand { code: ALL, ..z })?;
-    command(rt, b"pcm_hdr.stream_id", PcmCommand { stream: ALL, ..z })
-}
-
-fn parameters(rt: &impl Print, name: &[u8], r: SetParameters) -> io::Result<()> {
-    let mut b = [0u8; 32];
-    r.write(&mut b);
-    show::field(rt, name, &b)
+    let cases = [
+        ("hdr.code", PcmCommand { code: ALL, ..z }),
+        ("stream_id", PcmCommand { stream: ALL, ..z }),
+    ];
+    fields(
+        rt,
+        "pcm_hdr",
+        PcmCommand::SIZE,
+        &cases,
+        |r: PcmCommand, out: &mut [u8]| {
+            let _ = r.write(out);
+        },
+    )
 }
 
 fn parameters_fields(rt: &impl Print) -> io::Result<()> {
-    show::size(rt, b"pcm_set_params", SetParameters::SIZE as u64)?;
     let z = SetParameters {
         code: 0,
         stream: 0,
@@ -90,57 +115,31 @@ fn parameters_fields(rt: &impl Print) -> io::Result<()> {
         rate: 0,
         zero: 0,
     };
-    parameters(
+    let cases = [
+        ("hdr.hdr.code", SetParameters { code: ALL, ..z }),
+        ("hdr.stream_id", SetParameters { stream: ALL, ..z }),
+        ("buffer_bytes", SetParameters { buffer: ALL, ..z }),
+        ("period_bytes", SetParameters { period: ALL, ..z }),
+        ("features", SetParameters { features: ALL, ..z }),
+        (
+            "channels",
+            SetParameters {
+                channels: 0xFF,
+                ..z
+            },
+        ),
+        ("format", SetParameters { format: 0xFF, ..z }),
+        ("rate", SetParameters { rate: 0xFF, ..z }),
+        ("padding", SetParameters { zero: 0xFF, ..z }),
+    ];
+    fields(
         rt,
-        b"pcm_set_params.hdr.hdr.code",
-        SetParameters { code: ALL, ..z },
-    )?;
-    parameters(
-        rt,
-        b"pcm_set_params.hdr.stream_id",
-        SetParameters { stream: ALL, ..z },
-    )?;
-    parameters(
-        rt,
-        b"pcm_set_params.buffer_bytes",
-        SetParameters { buffer: ALL, ..z },
-    )?;
-    parameters(
-        rt,
-        b"pcm_set_params.period_bytes",
-        SetParameters { period: ALL, ..z },
-    )?;
-    parameters(
-        rt,
-        b"pcm_set_params.features",
-        SetParameters { features: ALL, ..z },
-    )?;
-    parameters_bytes(rt, z)
-}
-
-fn parameters_bytes(rt: &impl Print, z: SetParameters) -> io::Result<()> {
-    parameters(
-        rt,
-        b"pcm_set_params.channels",
-        SetParameters {
-            channels: 0xFF,
-            ..z
+        "pcm_set_params",
+        SetParameters::SIZE,
+        &cases,
+        |r: SetParameters, out: &mut [u8]| {
+            let _ = r.write(out);
         },
-    )?;
-    parameters(
-        rt,
-        b"pcm_set_params.format",
-        SetParameters { format: 0xFF, ..z },
-    )?;
-    parameters(
-        rt,
-        b"pcm_set_params.rate",
-        SetParameters { rate: 0xFF, ..z },
-    )?;
-    parameters(
-        rt,
-        b"pcm_set_params.padding",
-        SetParameters { zero: 0xFF, ..z },
     )
 }
 
@@ -151,14 +150,7 @@ pub(crate) fn control(rt: &impl Print) -> io::Result<()> {
     parameters_fields(rt)
 }
 
-fn jack(rt: &impl Print, name: &[u8], r: JackInfo) -> io::Result<()> {
-    let mut b = [0u8; 32];
-    r.write(&mut b);
-    show::field(rt, name, &b)
-}
-
 fn jack_fields(rt: &impl Print) -> io::Result<()> {
-    show::size(rt, b"jack_info", JackInfo::SIZE as u64)?;
     let z = JackInfo {
         node: 0,
         features: 0,
@@ -169,42 +161,40 @@ fn jack_fields(rt: &impl Print) -> io::Result<()> {
         padding4: 0,
         padding6: 0,
     };
-    jack(rt, b"jack_info.hdr.hda_fn_nid", JackInfo { node: ALL, ..z })?;
-    jack(rt, b"jack_info.features", JackInfo { features: ALL, ..z })?;
-    jack(
+    let cases = [
+        ("hdr.hda_fn_nid", JackInfo { node: ALL, ..z }),
+        ("features", JackInfo { features: ALL, ..z }),
+        ("hda_reg_defconf", JackInfo { defconf: ALL, ..z }),
+        ("hda_reg_caps", JackInfo { caps: ALL, ..z }),
+        (
+            "connected",
+            JackInfo {
+                connected: 0xFF,
+                ..z
+            },
+        ),
+        (
+            "padding",
+            JackInfo {
+                padding: ALL,
+                padding4: 0xFFFF,
+                padding6: 0xFF,
+                ..z
+            },
+        ),
+    ];
+    fields(
         rt,
-        b"jack_info.hda_reg_defconf",
-        JackInfo { defconf: ALL, ..z },
-    )?;
-    jack(rt, b"jack_info.hda_reg_caps", JackInfo { caps: ALL, ..z })?;
-    jack(
-        rt,
-        b"jack_info.connected",
-        JackInfo {
-            connected: 0xFF,
-            ..z
-        },
-    )?;
-    jack(
-        rt,
-        b"jack_info.padding",
-        JackInfo {
-            padding: ALL,
-            padding4: 0xFFFF,
-            padding6: 0xFF,
-            ..z
+        "jack_info",
+        JackInfo::SIZE,
+        &cases,
+        |r: JackInfo, out: &mut [u8]| {
+            let _ = r.write(out);
         },
     )
 }
 
-fn pcm(rt: &impl Print, name: &[u8], r: PcmInfo) -> io::Result<()> {
-    let mut b = [0u8; 32];
-    r.write(&mut b);
-    show::field(rt, name, &b)
-}
-
 fn pcm_fields(rt: &impl Print) -> io::Result<()> {
-    show::size(rt, b"pcm_info", PcmInfo::SIZE as u64)?;
     let z = PcmInfo {
         node: 0,
         features: 0,
@@ -216,39 +206,41 @@ fn pcm_fields(rt: &impl Print) -> io::Result<()> {
         padding: 0,
         padding4: 0,
     };
-    pcm(rt, b"pcm_info.hdr.hda_fn_nid", PcmInfo { node: ALL, ..z })?;
-    pcm(rt, b"pcm_info.features", PcmInfo { features: ALL, ..z })?;
-    pcm(rt, b"pcm_info.formats", PcmInfo { formats: LONG, ..z })?;
-    pcm(rt, b"pcm_info.rates", PcmInfo { rates: LONG, ..z })?;
-    pcm(
+    let cases = [
+        ("hdr.hda_fn_nid", PcmInfo { node: ALL, ..z }),
+        ("features", PcmInfo { features: ALL, ..z }),
+        ("formats", PcmInfo { formats: LONG, ..z }),
+        ("rates", PcmInfo { rates: LONG, ..z }),
+        (
+            "direction",
+            PcmInfo {
+                direction: 0xFF,
+                ..z
+            },
+        ),
+        ("channels_min", PcmInfo { min: 0xFF, ..z }),
+        ("channels_max", PcmInfo { max: 0xFF, ..z }),
+        (
+            "padding",
+            PcmInfo {
+                padding: ALL,
+                padding4: 0xFF,
+                ..z
+            },
+        ),
+    ];
+    fields(
         rt,
-        b"pcm_info.direction",
-        PcmInfo {
-            direction: 0xFF,
-            ..z
-        },
-    )?;
-    pcm(rt, b"pcm_info.channels_min", PcmInfo { min: 0xFF, ..z })?;
-    pcm(rt, b"pcm_info.channels_max", PcmInfo { max: 0xFF, ..z })?;
-    pcm(
-        rt,
-        b"pcm_info.padding",
-        PcmInfo {
-            padding: ALL,
-            padding4: 0xFF,
-            ..z
+        "pcm_info",
+        PcmInfo::SIZE,
+        &cases,
+        |r: PcmInfo, out: &mut [u8]| {
+            let _ = r.write(out);
         },
     )
 }
 
-fn map(rt: &impl Print, name: &[u8], r: ChannelMap) -> io::Result<()> {
-    let mut b = [0u8; 32];
-    r.write(&mut b);
-    show::field(rt, name, &b)
-}
-
 fn map_fields(rt: &impl Print) -> io::Result<()> {
-    show::size(rt, b"chmap_info", ChannelMap::SIZE as u64)?;
     let z = ChannelMap {
         node: 0,
         direction: 0,
@@ -257,35 +249,39 @@ fn map_fields(rt: &impl Print) -> io::Result<()> {
         positions8: 0,
         positions16: 0,
     };
-    map(
+    let cases = [
+        ("hdr.hda_fn_nid", ChannelMap { node: ALL, ..z }),
+        (
+            "direction",
+            ChannelMap {
+                direction: 0xFF,
+                ..z
+            },
+        ),
+        (
+            "channels",
+            ChannelMap {
+                channels: 0xFF,
+                ..z
+            },
+        ),
+        (
+            "positions",
+            ChannelMap {
+                positions: LONG,
+                positions8: LONG,
+                positions16: 0xFFFF,
+                ..z
+            },
+        ),
+    ];
+    fields(
         rt,
-        b"chmap_info.hdr.hda_fn_nid",
-        ChannelMap { node: ALL, ..z },
-    )?;
-    map(
-        rt,
-        b"chmap_info.direction",
-        ChannelMap {
-            direction: 0xFF,
-            ..z
-        },
-    )?;
-    map(
-        rt,
-        b"chmap_info.channels",
-        ChannelMap {
-            channels: 0xFF,
-            ..z
-        },
-    )?;
-    map(
-        rt,
-        b"chmap_info.positions",
-        ChannelMap {
-            positions: LONG,
-            positions8: LONG,
-            positions16: 0xFFFF,
-            ..z
+        "chmap_info",
+        ChannelMap::SIZE,
+        &cases,
+        |r: ChannelMap, out: &mut [u8]| {
+            let _ = r.write(out);
         },
     )
 }
@@ -296,72 +292,77 @@ pub(crate) fn info(rt: &impl Print) -> io::Result<()> {
     map_fields(rt)
 }
 
-fn header(rt: &impl Print, name: &[u8], r: Transfer) -> io::Result<()> {
-    let mut b = [0u8; 32];
-    r.write(&mut b);
-    show::field(rt, name, &b)
-}
-
 fn header_fields(rt: &impl Print) -> io::Result<()> {
-    show::size(rt, b"pcm_xfer", Transfer::SIZE as u64)?;
-    let z = Transfer { stream: 0 };
-    header(rt, b"pcm_xfer.stream_id", Transfer { stream: ALL })
-}
-
-fn status(rt: &impl Print, name: &[u8], r: TransferStatus) -> io::Result<()> {
-    let mut b = [0u8; 32];
-    r.write(&mut b);
-    show::field(rt, name, &b)
+    let cases = [("stream_id", Transfer { stream: ALL })];
+    fields(
+        rt,
+        "pcm_xfer",
+        Transfer::SIZE,
+        &cases,
+        |r: Transfer, out: &mut [u8]| {
+            let _ = r.write(out);
+        },
+    )
 }
 
 fn status_fields(rt: &impl Print) -> io::Result<()> {
-    show::size(rt, b"pcm_status", TransferStatus::SIZE as u64)?;
     let z = TransferStatus {
         status: 0,
         latency: 0,
     };
-    status(
+    let cases = [
+        ("status", TransferStatus { status: ALL, ..z }),
+        ("latency_bytes", TransferStatus { latency: ALL, ..z }),
+    ];
+    fields(
         rt,
-        b"pcm_status.status",
-        TransferStatus { status: ALL, ..z },
-    )?;
-    status(
-        rt,
-        b"pcm_status.latency_bytes",
-        TransferStatus { latency: ALL, ..z },
+        "pcm_status",
+        TransferStatus::SIZE,
+        &cases,
+        |r: TransferStatus, out: &mut [u8]| {
+            let _ = r.write(out);
+        },
     )
 }
 
-fn event(rt: &impl Print, name: &[u8], r: Event) -> io::Result<()> {
-    let mut b = [0u8; 32];
-    r.write(&mut b);
-    show::field(rt, name, &b)
-}
-
 fn event_fields(rt: &impl Print) -> io::Result<()> {
-    show::size(rt, b"event", Event::SIZE as u64)?;
     let z = Event { code: 0, data: 0 };
-    event(rt, b"event.hdr.code", Event { code: ALL, ..z })?;
-    event(rt, b"event.data", Event { data: ALL, ..z })
-}
-
-fn config(rt: &impl Print, name: &[u8], r: Config) -> io::Result<()> {
-    let mut b = [0u8; 12];
-    r.write(false, &mut b);
-    show::field(rt, name, &b)
+    let cases = [
+        ("hdr.code", Event { code: ALL, ..z }),
+        ("data", Event { data: ALL, ..z }),
+    ];
+    fields(
+        rt,
+        "event",
+        Event::SIZE,
+        &cases,
+        |r: Event, out: &mut [u8]| {
+            let _ = r.write(out);
+        },
+    )
 }
 
 fn config_fields(rt: &impl Print) -> io::Result<()> {
-    show::size(rt, b"config", Config::SIZE as u64)?;
     let z = Config {
         jacks: 0,
         streams: 0,
         chmaps: 0,
         controls: 0,
     };
-    config(rt, b"config.jacks", Config { jacks: ALL, ..z })?;
-    config(rt, b"config.streams", Config { streams: ALL, ..z })?;
-    config(rt, b"config.chmaps", Config { chmaps: ALL, ..z })
+    let cases = [
+        ("jacks", Config { jacks: ALL, ..z }),
+        ("streams", Config { streams: ALL, ..z }),
+        ("chmaps", Config { chmaps: ALL, ..z }),
+    ];
+    fields(
+        rt,
+        "config",
+        Config::SIZE,
+        &cases,
+        |r: Config, out: &mut [u8]| {
+            let _ = r.write(false, out);
+        },
+    )
 }
 
 pub(crate) fn transfer(rt: &impl Print) -> io::Result<()> {

@@ -13,6 +13,14 @@ pub(crate) fn number(rt: &impl Print, name: &[u8], value: u64) -> io::Result<()>
     plain(rt, name, value)
 }
 
+// Such constants, one after the other.
+pub(crate) fn numbers(rt: &impl Print, table: &[(&str, u64)]) -> io::Result<()> {
+    for (name, value) in table {
+        number(rt, name.as_bytes(), *value)?;
+    }
+    Ok(())
+}
+
 // A bit of a mask.
 pub(crate) fn mask(rt: &impl Print, name: &[u8], value: u64) -> io::Result<()> {
     rt.write_all(b"1 << ")?;
@@ -20,41 +28,13 @@ pub(crate) fn mask(rt: &impl Print, name: &[u8], value: u64) -> io::Result<()> {
 }
 
 // The size of a record.
-pub(crate) fn size(rt: &impl Print, name: &[u8], value: u64) -> io::Result<()> {
-    rt.write_all(b"virtio_snd_")?;
-    plain(rt, name, value)
+pub(crate) fn size(rt: &impl Print, record: &str, bytes: usize) -> io::Result<()> {
+    println!(rt; "virtio_snd_{record} {bytes}")
 }
 
-// `NAME OFFSET WIDTH`, of a record that was written with this one field all ones.
-pub(crate) fn field(rt: &impl Print, name: &[u8], record: &[u8]) -> io::Result<()> {
-    let first = first(record);
-    let ones = ones(record);
-    rt.write_all(b"virtio_snd_")?;
-    rt.write_all(name)?;
-    println!(rt; " {first} {ones}")
-}
-
-// The place of the first byte that is not 0.
-fn first(s: &[u8]) -> usize {
-    let mut i = 0;
-    while i < s.len() {
-        if s[i] != 0 {
-            return i;
-        }
-        i += 1;
-    }
-    i
-}
-
-// How many bytes are all ones.
-fn ones(s: &[u8]) -> usize {
-    let mut n = 0;
-    let mut i = 0;
-    while i < s.len() {
-        if s[i] == 255 {
-            n += 1;
-        }
-        i += 1;
-    }
-    n
+// `RECORD.FIELD OFFSET WIDTH`, of a record that was written with this one field all ones.
+pub(crate) fn field(rt: &impl Print, record: &str, name: &str, bytes: &[u8]) -> io::Result<()> {
+    let first = bytes.iter().position(|b| *b != 0).unwrap_or(bytes.len());
+    let ones = bytes.iter().filter(|b| **b == 255).count();
+    println!(rt; "virtio_snd_{record}.{name} {first} {ones}")
 }

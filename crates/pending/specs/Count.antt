@@ -9,6 +9,7 @@ use Rattle.codes.specs.SaysLaws.{guarded-by}
 use Rattle.pending.specs.Types.{Token, Pending, Judged}
 use Rattle.pending.specs.Table.{free_token, waits, marked, pending_at, put, weight_of, count_of, count_in, none_in, bound_of, lowest_in, mark_of, finish_of}
 use Rattle.pending.specs.TableLaws.{few, put_other, waits-pending}
+use Rattle.pending.specs.LowestLaws.{light, count_most}
 use Rattle.pending.specs.CallLaws.{mark-by, finish-by}
 use Rattle.pending.specs.Full.{NoRoom, full-then, full-if}
 use Rattle.pending.specs.Ledger.{Op, submits, completes, finishes, After, taken_after, does, table_after}
@@ -43,14 +44,6 @@ count_none (t ∷ ts) h =
     let w : weight_of t ≡ 0 = weighs-not (eqb t.state 0) (h 0 (omega arith)) in
     let r = count_none ts (λ k i. h (suc k) (omega arith)) in
     omega arith
-
-light : (b : Bool) → one b ≤ 1
-light true = omega arith
-light false = omega arith
-
-count_most : (l : List Token) → count_of l ≤ length l
-count_most [] = omega arith
-count_most (t ∷ ts) = let w = light (eqb t.state 0) in let r = count_most ts in omega arith
 
 heavy : (b : Bool) → one b ≡ 1 → not b ≡ true
 heavy true e = absurd (omega arith)

@@ -1,6 +1,6 @@
 -- "Over any sequence, what is pending is what was submitted and not finished."
 -- Assumes nothing.
-use Rattle.std.specs.Prelude.{ℕ, ◌≡◌, Bool, false, List, [], ◌∷◌, ltb, eqb, length}
+use Rattle.std.specs.Prelude.{ℕ, ◌≡◌, Bool, false, List, [], ◌∷◌, ltb, eqb, length, Result, Ok, Err}
 use Rattle.std.proofs.Common.{arith, ap, sym, ◌∙◌}
 use Rattle.std.proofs.Math.Path.{refl}
 use Rattle.std.proofs.Math.Bool.{true}
@@ -9,7 +9,7 @@ use borrow.Author.Tests.{ltb-true, eqb-true}
 use Rattle.codes.specs.Says.{pick, guard}
 use Rattle.codes.specs.Answers.{says_refusal}
 use Rattle.codes.specs.SaysLaws.{guarded-by}
-use Rattle.pending.specs.Types.{Status, IoError, Token, Pending, Outcome, Done, Refused, Judged}
+use Rattle.pending.specs.Types.{Status, Refusal, IoError, Token, Pending, Judged}
 use Rattle.pending.specs.Table.{free_token, waits, marked, new_pending, token_at, pending_at, put, bound_of, lowest_in, mark_token, mark_of, finish_token, finish_of}
 use Rattle.pending.specs.TableLaws.{few, put_other, put-notes, pending-in, waits-pending}
 use Rattle.pending.specs.CallLaws.{mark-by, finish-by}
@@ -36,9 +36,9 @@ taken_after p places = guard (ltb (lowest_in p places) (bound_of places)) (recor
     (record { table = put p (lowest_in p places) waits; entry = took (lowest_in p places) })
 
 -- Ok and 2 give the token back
-abbrev pub ends_entry : Outcome → ℕ → Entry
-ends_entry Done token = freed token
-ends_entry (Refused r) token = pick (eqb (says_refusal r).number 2) (freed token) neither
+abbrev pub ends_entry : Result (Unit {0}) Refusal → ℕ → Entry
+ends_entry (Ok _) token = freed token
+ends_entry (Err r) token = pick (eqb (says_refusal r).number 2) (freed token) neither
 
 abbrev pub finished_after : ℕ → Judged → After
 finished_after token j = record { table = j.table; entry = ends_entry j.said token }
@@ -88,7 +88,7 @@ module _ (p : Pending) (size : length p.tokens ≡ 32) (k : ℕ) where
   pub completes-notes : (token status : ℕ) → pending_at (mark_of p token status).table k ≡ pending_at p k
   completes-notes token status = mark-by (λ (m : Judged). pending_at m.table k ≡ pending_at p k) p token status (λ e. marks-by token status (waits-pending p token e) (eqb token k) refl) refl
 
-  ends-notes : (token status : ℕ) (b : Bool) → ends_entry (pick b Done (Refused (IoError (Status status)))) token ≡ freed token
+  ends-notes : (token status : ℕ) (b : Bool) → ends_entry (pick b (Ok tt) (Err (IoError (Status status)))) token ≡ freed token
   ends-notes token status true = refl
   ends-notes token status false = refl
 

@@ -4,8 +4,7 @@ use Rattle.std.specs.Prelude.{List, ◌++◌, ℕ, ◌+◌, ◌*◌, ◌/◌, lt
 use Rattle.std.proofs.lemmas.List.Edits.{sets}
 use Rattle.layout.specs.Bytes.{le}
 use Rattle.codes.specs.Says.{guard}
-use Rattle.codes.specs.declared.answers.Refusal.TheVariants.{InvalidParam}
-use Rattle.pending.specs.Types.{Refusal, BadLength, Full}
+use Rattle.pending.specs.Types.{Refusal, InvalidParam, BadLength, Full}
 
 -- the bytes of each of so many places: rounded down (of no places, 0), so that the last bytes of the store may belong to none
 abbrev pub size_of : ℕ → ℕ → ℕ

@@ -1,9 +1,9 @@
 -- The pending table: a submission takes the lowest free place, a completion marks its token, finishing frees it.
 -- Assumes nothing.
-use Rattle.std.specs.Prelude.{Bool, not, List, [], ◌∷◌, ℕ, suc, ◌+◌, ltb, eqb, get_or, set, take, replicate}
-use Rattle.codes.specs.Says.{Says, says, pick, guard}
-use Rattle.codes.specs.Answers.{says_refusal}
-use Rattle.pending.specs.Types.{Status, IoError, WrongToken, NotYet, Token, Pending, Seen, Outcome, Done, Refused, Told, Judged}
+use Rattle.std.specs.Prelude.{Bool, not, List, [], ◌∷◌, ℕ, suc, ◌+◌, ltb, eqb, get_or, set, take, replicate, Result, Ok, Err}
+use Rattle.codes.specs.Says.{Says, pick, guard}
+use Rattle.codes.specs.Answers.{says_result}
+use Rattle.pending.specs.Types.{Status, Refusal, InvalidParam, IoError, WrongToken, NotYet, Token, Pending, Seen, Told, Judged}
 use Rattle.pending.specs.declared.table.Seen.TheVariants as seen
 
 -- ---- a token
@@ -66,24 +66,24 @@ lowest_in p places = lowest_of (take (bound_of places) p.tokens)
 
 -- ---- WHAT BECOMES OF A TOKEN, and what is said of it
 
-abbrev pub told : Token → Outcome → Told
+abbrev pub told : Token → Result (Unit {0}) Refusal → Told
 told t x = record { token = t; said = x }
 
 -- "A completion reading marks its token"; "a token not pending, or completed twice, gives 6"
 unfoldable pub mark_token : Token → ℕ → Told
 mark_token t status =
-    guard (eqb t.state 1) (told t (Refused WrongToken))
-    (told (marked status) Done)
+    guard (eqb t.state 1) (told t (Err WrongToken))
+    (told (marked status) (Ok tt))
 
 -- "and answers Ok, or 2 for a status not ok": 2 carries the status
-abbrev pub end_of : ℕ → Outcome
-end_of status = pick (eqb status 0x8000) Done (Refused (IoError (Status status)))
+abbrev pub end_of : ℕ → Result (Unit {0}) Refusal
+end_of status = pick (eqb status 0x8000) (Ok tt) (Err (IoError (Status status)))
 
 -- "finish takes marked tokens in any order, frees the place, ..": "a token not pending .. gives 6, finishing one not marked 16 NotYet"
 unfoldable pub finish_token : Token → Told
 finish_token t =
-    guard (not (eqb t.state 0)) (told t (Refused WrongToken))
-    (guard (not (eqb t.state 1)) (told t (Refused NotYet))
+    guard (not (eqb t.state 0)) (told t (Err WrongToken))
+    (guard (not (eqb t.state 1)) (told t (Err NotYet))
     (told free_token (end_of t.status)))
 
 -- what a reader is told
@@ -104,17 +104,19 @@ mark_of p token status = judged_at p token (mark_token (token_at p token) status
 abbrev pub finish_of : Pending → ℕ → Judged
 finish_of p token = judged_at p token (finish_token (token_at p token))
 
-unfoldable pub seen_of : Pending → ℕ → Seen
-seen_of p token = guard (ltb token 32) seen.InvalidParam
-    (seen_token (token_at p token))
+unfoldable pub seen_of : Pending → ℕ → Result Seen Refusal
+seen_of p token = guard (ltb token 32) (Err InvalidParam)
+    (Ok (seen_token (token_at p token)))
 
 -- the number and the values of each answer
-abbrev pub says_outcome : Outcome → Says
-says_outcome Done = says 0 []
-says_outcome (Refused r) = says_refusal r
+abbrev pub says_outcome : Result (Unit {0}) Refusal → Says
+says_outcome = says_result (λ _. [])
 
-abbrev pub says_seen : Seen → Says
-says_seen seen.Free = says 0 (0 ∷ 0 ∷ [])
-says_seen seen.Waits = says 0 (1 ∷ 0 ∷ [])
-says_seen (seen.Marked status) = says 0 (2 ∷ status ∷ [])
-says_seen seen.InvalidParam = says 1 []
+-- 0 free, 1 waits, 2 marked, and its status
+abbrev pub seen_values : Seen → List ℕ
+seen_values seen.Free = 0 ∷ 0 ∷ []
+seen_values seen.Waits = 1 ∷ 0 ∷ []
+seen_values (seen.Marked status) = 2 ∷ status ∷ []
+
+abbrev pub says_seen : Result Seen Refusal → Says
+says_seen = says_result seen_values

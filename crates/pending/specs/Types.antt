@@ -2,13 +2,9 @@
 -- Assumes nothing.
 pub use Rattle.codes.specs.declared.answers.Cause.TheVariants.{Status}
 pub use Rattle.codes.specs.declared.answers.Refusal.{Refusal}
-pub use Rattle.codes.specs.declared.answers.Refusal.TheVariants.{IoError, WrongToken, BadLength, Full, NotYet}
+pub use Rattle.codes.specs.declared.answers.Refusal.TheVariants.{InvalidParam, IoError, WrongToken, BadLength, Full, NotYet}
 pub use Rattle.pending.specs.declared.table.Token.{Token}
 pub use Rattle.pending.specs.declared.table.Pending.{Pending}
 pub use Rattle.pending.specs.declared.table.Seen.{Seen}
-pub use Rattle.pending.specs.declared.calls.Outcome.{Outcome}
-pub use Rattle.pending.specs.declared.calls.Outcome.TheVariants.{Done, Refused}
 pub use Rattle.pending.specs.declared.calls.Told.{Told}
 pub use Rattle.pending.specs.declared.calls.Judged.{Judged}
-pub use Rattle.pending.specs.declared.place.Spot.{Spot}
-pub use Rattle.pending.specs.declared.place.Spot.TheVariants.{Shut, Place}

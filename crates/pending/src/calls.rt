@@ -4,25 +4,20 @@ ghost use Rattle.std.specs.Prelude.{◌≡◌, set};
 ghost use Rattle.pending.specs.Table.{put, waits, mark_token, finish_token, judged_at, mark_of, finish_of, end_of};
 
 use crate::table::{Pending, Token, token_at};
-use codes::{Cause, Refusal, StatusCode};
+use codes::{Cause, Refusal, status_is_ok};
 
-// What a completion, or finishing, comes to.
-#[derive(Clone, Copy)]
-pub enum Outcome {
-    Done,
-    Refused(Refusal),
-}
-
+// What becomes of a token, and what is said of it: a status that is not ok frees its token too.
 #[derive(Clone, Copy)]
 pub struct Told {
     pub token: Token,
-    pub said: Outcome,
+    pub said: Result<(), Refusal>,
 }
 
+// The same of a table.
 #[derive(Clone, Copy)]
 pub struct Judged {
     pub table: Pending,
-    pub said: Outcome,
+    pub said: Result<(), Refusal>,
 }
 
 // The table with one token new; past its end nothing is stored.
@@ -63,26 +58,25 @@ pub fn mark_token(t: Token, status: u32) -> Told
     if t.state != 1 {
         return Told {
             token: t,
-            said: Outcome::Refused(Refusal::WrongToken),
+            said: Err(Refusal::WrongToken),
         };
     }
     let marked = Token { state: 2, status };
     Told {
         token: marked,
-        said: Outcome::Done,
+        said: Ok(()),
     }
 }
 
 // What the device said of a submission.
-fn ended(status: u32) -> Outcome
+fn ended(status: u32) -> Result<(), Refusal>
     ensures { result ≡ end_of status }
 {
-    let found = StatusCode::from_code(status);
-    let ok = found.is_ok();
+    let ok = status_is_ok(status);
     if ok {
-        return Outcome::Done;
+        return Ok(());
     }
-    Outcome::Refused(Refusal::IoError(Cause::Status(status)))
+    Err(Refusal::IoError(Cause::Status(status)))
 }
 
 // Finishing frees a token that is marked.
@@ -92,13 +86,13 @@ pub fn finish_token(t: Token) -> Told
     if t.state == 0 {
         return Told {
             token: t,
-            said: Outcome::Refused(Refusal::WrongToken),
+            said: Err(Refusal::WrongToken),
         };
     }
     if t.state == 1 {
         return Told {
             token: t,
-            said: Outcome::Refused(Refusal::NotYet),
+            said: Err(Refusal::NotYet),
         };
     }
     let free = Token {

@@ -6,6 +6,6 @@ mod calls;
 mod place;
 mod table;
 
-pub use calls::{Judged, Outcome, Told, finish, finish_token, hold, mark, mark_token};
-pub use place::{INDIRECT_PLACES, PLACES, Spot, find_spot, place_size, placed};
+pub use calls::{Judged, Told, finish, finish_token, hold, mark, mark_token};
+pub use place::{INDIRECT_PLACES, PLACES, find_spot, place_size, placed};
 pub use table::{Pending, Seen, Token, count, is_none, look, lowest, seen_token};

@@ -1,7 +1,6 @@
 // The places of a lent store: as many as there are tokens, of equal length, and what the last bytes leave over.
-ghost use Rattle.std.specs.Prelude.{◌≡◌, length};
+ghost use Rattle.std.specs.Prelude.{◌≡◌, length, Ok, Err};
 ghost use Rattle.pending.specs.Places.{size_of, placed_in, spot_by};
-ghost use Rattle.pending.specs.declared.place.Spot.TheVariants.{Shut, Place};
 
 use codes::Refusal;
 use layout::{put_bytes, put_u32};
@@ -11,13 +10,6 @@ pub const PLACES: usize = 16;
 
 // And where they are indirect, one to each.
 pub const INDIRECT_PLACES: usize = 32;
-
-// The place of a submission, or why it gets none.
-#[derive(Clone, Copy)]
-pub enum Spot {
-    Shut(Refusal),
-    Place(usize),
-}
 
 // The bytes of each of so many places in a store of this length; of no places, 0.
 pub fn place_size(len: usize, places: usize) -> usize
@@ -29,22 +21,29 @@ pub fn place_size(len: usize, places: usize) -> usize
     len / places
 }
 
-// The payload's length, then the place's, then whether one is free: `k` is the lowest free one.
-pub fn find_spot(places: usize, k: usize, payload: usize, store: usize, period: u32) -> Spot
-    ensures { result ≡ spot_by places k payload store period Shut Place }
+// The place of a submission: `k`, the lowest free one. The payload's length is tested, then the
+// place's, then whether one is free.
+pub fn find_spot(
+    places: usize,
+    k: usize,
+    payload: usize,
+    store: usize,
+    period: u32,
+) -> Result<usize, Refusal>
+    ensures { result ≡ spot_by places k payload store period Err Ok }
 {
     let size = place_size(store, places);
     let whole = period as usize;
     if payload != whole {
-        return Spot::Shut(Refusal::InvalidParam);
+        return Err(Refusal::InvalidParam);
     }
     if size < whole + 4 {
-        return Spot::Shut(Refusal::BadLength);
+        return Err(Refusal::BadLength);
     }
     if places <= k {
-        return Spot::Shut(Refusal::Full);
+        return Err(Refusal::Full);
     }
-    Spot::Place(k)
+    Ok(k)
 }
 
 // Stores a stream's number and a payload in one of so many places.

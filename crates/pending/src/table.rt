@@ -1,9 +1,12 @@
 // The table of tokens, and its reads. Every content of its bytes is a table: there is no test of its own.
-ghost use Rattle.std.specs.Prelude.{◌≡◌, get_or};
-ghost use Rattle.pending.specs.Table.{free_token, new_pending, token_at, count_of, lowest_in, count_in, none_in, weight_of, seen_token, seen_of, bound_of};
+ghost use Rattle.std.specs.Prelude.{◌≡◌};
+ghost use Rattle.pending.specs.Table.{new_pending, token_at, lowest_in, count_in, none_in, weight_of, seen_token, seen_of, bound_of};
+
+use codes::Refusal;
 
 // `state` is 0 where the token is free, 1 where its submission waits for the completion, and any other
-// number where it is completed, with this status.
+// number where it is completed, with this status. It stays a number, since any four bytes of the
+// lent store are one: an enum would have to keep which number stood there.
 #[derive(Clone, Copy)]
 pub struct Token {
     pub state: u32,
@@ -21,7 +24,6 @@ pub enum Seen {
     Free,
     Waits,
     Marked(u32),
-    InvalidParam,
 }
 
 impl Pending {
@@ -40,30 +42,21 @@ impl Pending {
 }
 
 // A token; past the table it is free.
-fn token_in(tokens: [Token; 32], k: usize) -> Token
-    ensures { result ≡ get_or tokens k free_token }
-{
-    if 32 <= k {
-        return Token {
-            state: 0,
-            status: 0,
-        };
-    }
-    tokens[k]
-}
-
 pub(crate) fn token_at(p: Pending, k: usize) -> Token
     ensures { result ≡ token_at p k }
 {
-    let tokens = p.tokens;
-    token_in(tokens, k)
+    let free = Token {
+        state: 0,
+        status: 0,
+    };
+    p.tokens.get(k).copied().unwrap_or(free)
 }
 
 // So many places as the table has tokens for.
 pub(crate) fn bound(places: usize) -> usize
     ensures { result ≡ bound_of places }
 {
-    if places < 32 { places } else { 32 }
+    places.min(32)
 }
 
 // The lowest free of so many places; as many as there are where none is.
@@ -71,15 +64,8 @@ pub fn lowest(p: Pending, places: usize) -> usize
     ensures { result ≡ lowest_in p places }
 {
     let n = bound(places);
-    let mut k: usize = 0;
-    while k < n {
-        let t = p.tokens[k];
-        if t.state == 0 {
-            return k;
-        }
-        k += 1;
-    }
-    n
+    let free = p.tokens.iter().take(n).position(|t| t.state == 0);
+    free.unwrap_or(n)
 }
 
 // 1 where a token is pending, else 0.
@@ -90,25 +76,10 @@ fn weight(t: Token) -> u32
 }
 
 // How many tokens are pending, marked or not.
-fn count_in(tokens: [Token; 32]) -> u32
-    ensures { result ≡ count_of tokens }
-{
-    let mut n: u32 = 0;
-    let mut k: usize = 0;
-    while k < 32 {
-        let t = tokens[k];
-        let one = weight(t);
-        n = n + one;
-        k += 1;
-    }
-    n
-}
-
 pub fn count(p: Pending) -> u32
     ensures { result ≡ count_in p }
 {
-    let tokens = p.tokens;
-    count_in(tokens)
+    p.tokens.iter().map(|t| weight(*t)).sum()
 }
 
 // Nothing is pending.
@@ -133,13 +104,13 @@ pub fn seen_token(t: Token) -> Seen
 }
 
 // The same of a token by its number; 32 or more is none.
-pub fn look(p: Pending, token: u32) -> Seen
+pub fn look(p: Pending, token: u32) -> Result<Seen, Refusal>
     ensures { result ≡ seen_of p token }
 {
     let k = token as usize;
     if 32 <= k {
-        return Seen::InvalidParam;
+        return Err(Refusal::InvalidParam);
     }
     let t = token_at(p, k);
-    seen_token(t)
+    Ok(seen_token(t))
 }

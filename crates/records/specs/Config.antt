@@ -1,12 +1,12 @@
 -- Request 2026-08: "a fourth configuration count, for control elements, where their feature is negotiated". "Decode 12 or 16 configuration bytes": 1.2 is the instance at false.
 -- VirtIO 1.3, 5.14.4: le32 jacks, le32 streams, le32 chmaps, le32 controls.
 -- Assumes nothing.
-use Rattle.std.specs.Prelude.{Bool, List, [], ◌∷◌, ℕ, eqb, length, get_or}
+use Rattle.std.specs.Prelude.{Bool, List, [], ◌∷◌, ℕ, eqb, length, get_or, Result, Ok, Err}
 use Rattle.layout.specs.Layout.{size, write, read}
 use Rattle.codes.specs.Says.{Says, says, pick}
+use Rattle.codes.specs.declared.answers.Refusal.{Refusal}
+use Rattle.codes.specs.declared.answers.Refusal.TheVariants.{BadLength}
 use Rattle.records.specs.declared.config.Config.{Config}
-use Rattle.records.specs.declared.config.ReadConfig.{ReadConfig}
-use Rattle.records.specs.declared.config.ReadConfig.TheVariants as read_config
 
 abbrev pub config_row : Bool → List ℕ
 config_row controls = 4 ∷ 4 ∷ 4 ∷ pick controls (4 ∷ []) []
@@ -24,8 +24,8 @@ config_says controls s = pick (fits controls s) (says 0 (read (config_row contro
 abbrev pub config_of : List ℕ → Config
 config_of vs = record { jacks = get_or vs 0 0; streams = get_or vs 1 0; chmaps = get_or vs 2 0; controls = get_or vs 3 0 }
 
-abbrev pub read_of : Says → ReadConfig
-read_of x = pick (eqb x.number 0) (read_config.Is (config_of x.values)) read_config.BadLength
+abbrev pub read_of : Says → Result Config Refusal
+read_of x = pick (eqb x.number 0) (Ok (config_of x.values)) (Err BadLength)
 
 -- ---- written: the counts of the row
 

@@ -1,6 +1,6 @@
 -- The configuration: each return of its reader and its writer, and both round trips, in both modes.
 -- Assumes nothing.
-use Rattle.std.specs.Prelude.{◌≡◌, refl, Bool, true, false, List, [], ◌++◌, ℕ, length, drop}
+use Rattle.std.specs.Prelude.{◌≡◌, refl, Bool, true, false, List, [], ◌++◌, ℕ, length, drop, Ok, Err}
 use Rattle.std.proofs.Common.{sym, ap, ◌∙◌, append-nil, arith, eq-eqb, ne_eqb}
 use Rattle.std.proofs.lemmas.List.Edits.{sets}
 use Rattle.std.proofs.Math.Seq.{length-sets, drop-length}
@@ -15,7 +15,7 @@ use Rattle.codes.specs.Says.{says}
 use Rattle.codes.specs.SaysLaws.{picks, skips}
 use Rattle.records.specs.Config.{config_row, fits, config_says, config_of, read_of, config_values, config_write_says, config_written}
 use Rattle.records.specs.declared.config.Config.{Config}
-use Rattle.records.specs.declared.config.ReadConfig.TheVariants as read_config
+use Rattle.codes.specs.declared.answers.Refusal.TheVariants.{BadLength}
 
 -- ---- the length is the row's, or another
 
@@ -27,7 +27,7 @@ misfit controls s h = ne_eqb (length s) (size (config_row controls)) h
 
 -- ---- read
 
-pub config-bad : (controls : Bool) (s : List ℕ) → (length s ≡ size (config_row controls) → ⊥) → read_config.BadLength ≡ read_of (config_says controls s)
+pub config-bad : (controls : Bool) (s : List ℕ) → (length s ≡ size (config_row controls) → ⊥) → Err BadLength ≡ read_of (config_says controls s)
 config-bad controls s h = sym (ap read_of (skips _ _ _ (misfit controls s h)))
 
 -- the fourth number of 12 bytes is 0
@@ -37,10 +37,10 @@ four true s h = refl
 four false s h = λ i. record { jacks = num_at 0 4 s; streams = num_at 4 4 s; chmaps = num_at 8 4 s; controls = num_at-out 12 4 s (omega arith) i }
 
 pub config-is : (controls : Bool) (s : List ℕ) (a b c d : ℕ) → length s ≡ size (config_row controls) → a ≡ num_at 0 4 s → b ≡ num_at 4 4 s → c ≡ num_at 8 4 s → d ≡ num_at 12 4 s
-    → read_config.Is (record { jacks = a; streams = b; chmaps = c; controls = d }) ≡ read_of (config_says controls s)
+    → Ok (record { jacks = a; streams = b; chmaps = c; controls = d }) ≡ read_of (config_says controls s)
 config-is controls s a b c d h p q r t =
-    (λ i. read_config.Is (record { jacks = p i; streams = q i; chmaps = r i; controls = t i }))
-    ∙ ap read_config.Is (four controls s h)
+    (λ i. Ok (record { jacks = p i; streams = q i; chmaps = r i; controls = t i }))
+    ∙ ap Ok (four controls s h)
     ∙ sym (ap read_of (picks _ _ _ (fit controls s h)))
 
 -- ---- written

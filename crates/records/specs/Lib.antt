@@ -8,7 +8,6 @@ pub mod Config
 pub mod Versions
 -- laws
 pub mod SliceLaws
-pub mod BackLaws
 pub mod RoundLaws
 pub mod RowLaws
 pub mod PositionLaws

@@ -1,37 +1,19 @@
 -- The records: "Bytes", document 01. Of each: its row, its layout as a list of widths, its values in the row's order, and what its reader says.
 -- Assumes nothing.
-use Rattle.std.specs.Prelude.{List, [], ◌∷◌, ℕ, get_or}
-use Rattle.codes.specs.Says.{Says, says}
+use Rattle.std.specs.Prelude.{List, [], ◌∷◌, ℕ, get_or, Result}
+use Rattle.codes.specs.Says.{Says}
+use Rattle.codes.specs.Answers.{says_result}
+use Rattle.codes.specs.declared.answers.Refusal.{Refusal}
 use Rattle.records.specs.declared.control.Query.{Query}
-use Rattle.records.specs.declared.control.ReadQuery.{ReadQuery}
-use Rattle.records.specs.declared.control.ReadQuery.TheVariants as read_query
 use Rattle.records.specs.declared.control.Remap.{Remap}
-use Rattle.records.specs.declared.control.ReadRemap.{ReadRemap}
-use Rattle.records.specs.declared.control.ReadRemap.TheVariants as read_remap
 use Rattle.records.specs.declared.control.PcmCommand.{PcmCommand}
-use Rattle.records.specs.declared.control.ReadPcmCommand.{ReadPcmCommand}
-use Rattle.records.specs.declared.control.ReadPcmCommand.TheVariants as read_pcm_command
 use Rattle.records.specs.declared.control.SetParameters.{SetParameters}
-use Rattle.records.specs.declared.control.ReadSetParameters.{ReadSetParameters}
-use Rattle.records.specs.declared.control.ReadSetParameters.TheVariants as read_set_parameters
 use Rattle.records.specs.declared.info.JackInfo.{JackInfo}
-use Rattle.records.specs.declared.info.ReadJackInfo.{ReadJackInfo}
-use Rattle.records.specs.declared.info.ReadJackInfo.TheVariants as read_jack_info
 use Rattle.records.specs.declared.info.PcmInfo.{PcmInfo}
-use Rattle.records.specs.declared.info.ReadPcmInfo.{ReadPcmInfo}
-use Rattle.records.specs.declared.info.ReadPcmInfo.TheVariants as read_pcm_info
 use Rattle.records.specs.declared.info.ChannelMap.{ChannelMap}
-use Rattle.records.specs.declared.info.ReadChannelMap.{ReadChannelMap}
-use Rattle.records.specs.declared.info.ReadChannelMap.TheVariants as read_channel_map
 use Rattle.records.specs.declared.transfer.Transfer.{Transfer}
-use Rattle.records.specs.declared.transfer.ReadTransfer.{ReadTransfer}
-use Rattle.records.specs.declared.transfer.ReadTransfer.TheVariants as read_transfer
 use Rattle.records.specs.declared.transfer.TransferStatus.{TransferStatus}
-use Rattle.records.specs.declared.transfer.ReadTransferStatus.{ReadTransferStatus}
-use Rattle.records.specs.declared.transfer.ReadTransferStatus.TheVariants as read_transfer_status
 use Rattle.records.specs.declared.event.Event.{Event}
-use Rattle.records.specs.declared.event.ReadEvent.{ReadEvent}
-use Rattle.records.specs.declared.event.ReadEvent.TheVariants as read_event
 use Rattle.layout.specs.Layout.{write}
 
 -- "query | 16 | code 4, start 4, count 4, record size 4"
@@ -41,9 +23,8 @@ query = 4 ∷ 4 ∷ 4 ∷ 4 ∷ []
 abbrev pub query_values : Query → List ℕ
 query_values r = r.code ∷ r.start ∷ r.count ∷ r.size ∷ []
 
-abbrev pub says_query : ReadQuery → Says
-says_query (read_query.Is r) = says 0 (query_values r)
-says_query read_query.BadLength = says 10 []
+abbrev pub says_query : Result Query Refusal → Says
+says_query = says_result query_values
 
 -- "remap | 16 | code 4, jack 4, association 4, sequence 4"
 abbrev pub remap : List ℕ
@@ -52,9 +33,8 @@ remap = 4 ∷ 4 ∷ 4 ∷ 4 ∷ []
 abbrev pub remap_values : Remap → List ℕ
 remap_values r = r.code ∷ r.jack ∷ r.association ∷ r.sequence ∷ []
 
-abbrev pub says_remap : ReadRemap → Says
-says_remap (read_remap.Is r) = says 0 (remap_values r)
-says_remap read_remap.BadLength = says 10 []
+abbrev pub says_remap : Result Remap Refusal → Says
+says_remap = says_result remap_values
 
 -- "PCM command | 8 | code 4, stream 4"
 abbrev pub pcm_command : List ℕ
@@ -63,9 +43,8 @@ pcm_command = 4 ∷ 4 ∷ []
 abbrev pub pcm_command_values : PcmCommand → List ℕ
 pcm_command_values r = r.code ∷ r.stream ∷ []
 
-abbrev pub says_pcm_command : ReadPcmCommand → Says
-says_pcm_command (read_pcm_command.Is r) = says 0 (pcm_command_values r)
-says_pcm_command read_pcm_command.BadLength = says 10 []
+abbrev pub says_pcm_command : Result PcmCommand Refusal → Says
+says_pcm_command = says_result pcm_command_values
 
 -- "set parameters | 24 | code 4, stream 4, buffer 4, period 4, features 4, channels 1, format 1, rate 1, zero 1"
 abbrev pub set_parameters : List ℕ
@@ -74,9 +53,8 @@ set_parameters = 4 ∷ 4 ∷ 4 ∷ 4 ∷ 4 ∷ 1 ∷ 1 ∷ 1 ∷ 1 ∷ []
 abbrev pub set_parameters_values : SetParameters → List ℕ
 set_parameters_values r = r.code ∷ r.stream ∷ r.buffer ∷ r.period ∷ r.features ∷ r.channels ∷ r.format ∷ r.rate ∷ r.zero ∷ []
 
-abbrev pub says_set_parameters : ReadSetParameters → Says
-says_set_parameters (read_set_parameters.Is r) = says 0 (set_parameters_values r)
-says_set_parameters read_set_parameters.BadLength = says 10 []
+abbrev pub says_set_parameters : Result SetParameters Refusal → Says
+says_set_parameters = says_result set_parameters_values
 
 -- "jack info | 24 | node 4, features 4, defconf 4, caps 4, connected 1, padding 7"; the padding as 4 + 2 + 1 (RowLaws: it is one of 7)
 abbrev pub jack_info : List ℕ
@@ -85,9 +63,8 @@ jack_info = 4 ∷ 4 ∷ 4 ∷ 4 ∷ 1 ∷ 4 ∷ 2 ∷ 1 ∷ []
 abbrev pub jack_info_values : JackInfo → List ℕ
 jack_info_values r = r.node ∷ r.features ∷ r.defconf ∷ r.caps ∷ r.connected ∷ r.padding ∷ r.padding4 ∷ r.padding6 ∷ []
 
-abbrev pub says_jack_info : ReadJackInfo → Says
-says_jack_info (read_jack_info.Is r) = says 0 (jack_info_values r)
-says_jack_info read_jack_info.BadLength = says 10 []
+abbrev pub says_jack_info : Result JackInfo Refusal → Says
+says_jack_info = says_result jack_info_values
 
 -- "PCM info | 32 | node 4, features 4, formats 8, rates 8, direction 1, min 1, max 1, padding 5"; the padding as 4 + 1 (RowLaws: it is one of 5)
 abbrev pub pcm_info : List ℕ
@@ -96,9 +73,8 @@ pcm_info = 4 ∷ 4 ∷ 8 ∷ 8 ∷ 1 ∷ 1 ∷ 1 ∷ 4 ∷ 1 ∷ []
 abbrev pub pcm_info_values : PcmInfo → List ℕ
 pcm_info_values r = r.node ∷ r.features ∷ r.formats ∷ r.rates ∷ r.direction ∷ r.min ∷ r.max ∷ r.padding ∷ r.padding4 ∷ []
 
-abbrev pub says_pcm_info : ReadPcmInfo → Says
-says_pcm_info (read_pcm_info.Is r) = says 0 (pcm_info_values r)
-says_pcm_info read_pcm_info.BadLength = says 10 []
+abbrev pub says_pcm_info : Result PcmInfo Refusal → Says
+says_pcm_info = says_result pcm_info_values
 
 -- "channel map | 24 | node 4, direction 1, channels 1, positions 18"; the positions as 8 + 8 + 2 (RowLaws: they are one field of 18)
 abbrev pub channel_map : List ℕ
@@ -107,9 +83,8 @@ channel_map = 4 ∷ 1 ∷ 1 ∷ 8 ∷ 8 ∷ 2 ∷ []
 abbrev pub channel_map_values : ChannelMap → List ℕ
 channel_map_values r = r.node ∷ r.direction ∷ r.channels ∷ r.positions ∷ r.positions8 ∷ r.positions16 ∷ []
 
-abbrev pub says_channel_map : ReadChannelMap → Says
-says_channel_map (read_channel_map.Is r) = says 0 (channel_map_values r)
-says_channel_map read_channel_map.BadLength = says 10 []
+abbrev pub says_channel_map : Result ChannelMap Refusal → Says
+says_channel_map = says_result channel_map_values
 
 -- "transfer | 4 + payload | stream 4"
 abbrev pub transfer : List ℕ
@@ -118,9 +93,8 @@ transfer = 4 ∷ []
 abbrev pub transfer_values : Transfer → List ℕ
 transfer_values r = r.stream ∷ []
 
-abbrev pub says_transfer : ReadTransfer → Says
-says_transfer (read_transfer.Is r) = says 0 (transfer_values r)
-says_transfer read_transfer.BadLength = says 10 []
+abbrev pub says_transfer : Result Transfer Refusal → Says
+says_transfer = says_result transfer_values
 
 -- "transfer status | 8 | status 4, latency 4"
 abbrev pub transfer_status : List ℕ
@@ -129,9 +103,8 @@ transfer_status = 4 ∷ 4 ∷ []
 abbrev pub transfer_status_values : TransferStatus → List ℕ
 transfer_status_values r = r.status ∷ r.latency ∷ []
 
-abbrev pub says_transfer_status : ReadTransferStatus → Says
-says_transfer_status (read_transfer_status.Is r) = says 0 (transfer_status_values r)
-says_transfer_status read_transfer_status.BadLength = says 10 []
+abbrev pub says_transfer_status : Result TransferStatus Refusal → Says
+says_transfer_status = says_result transfer_status_values
 
 -- "event | 8 | code 4, data 4"
 abbrev pub event : List ℕ
@@ -140,9 +113,8 @@ event = 4 ∷ 4 ∷ []
 abbrev pub event_values : Event → List ℕ
 event_values r = r.code ∷ r.data ∷ []
 
-abbrev pub says_event : ReadEvent → Says
-says_event (read_event.Is r) = says 0 (event_values r)
-says_event read_event.BadLength = says 10 []
+abbrev pub says_event : Result Event Refusal → Says
+says_event = says_result event_values
 
 -- ---- the way back: from the numbers of a row to the record
 

@@ -9,7 +9,11 @@ use Rattle.layout.specs.BytesLaws.{bytes_at-part}
 use Rattle.layout.specs.LayoutLaws.{length-write, read-write, write_read, read-part}
 use Rattle.layout.specs.ChainLaws.{Got, Stored, got, stored-front}
 use Rattle.codes.specs.Says.{says}
-use Rattle.codes.specs.SaysLaws.{picks, skips, took, refused}
+use Rattle.codes.specs.SaysLaws.{picks, skips, took}
+use Rattle.codes.specs.Answers.{says_refusal}
+use Rattle.codes.specs.RefusalLaws.{refusal-is}
+use Rattle.codes.specs.declared.answers.Refusal.{Refusal}
+use Rattle.codes.specs.declared.answers.Refusal.TheVariants.{BadLength}
 use Rattle.records.specs.Slice.{read_says, write_says, written}
 
 -- ---- a slice that is too short for the record, and one that is not
@@ -48,8 +52,8 @@ stores-none ws vs l h = (sym (write-short ws l h), sym (written-short ws vs l h)
 pub read_is : (ws s vs : List ℕ) → says 0 vs ≡ read_says ws s → (size ws ≤ length s) × (vs ≡ read ws s)
 read_is ws s vs e = let r = took (leb (size ws) (length s)) 9 (read ws s) vs e in (leb-true (size ws) (length s) r.0, r.1)
 
-pub read-bad : (ws s : List ℕ) → says 10 [] ≡ read_says ws s → length s < size ws
-read-bad ws s e = leb-false (size ws) (length s) (refused (leb (size ws) (length s)) 9 (read ws s) e)
+pub read-bad : (ws s : List ℕ) (r : Refusal) → says_refusal r ≡ read_says ws s → length s < size ws
+read-bad ws s r e = leb-false (size ws) (length s) (refusal-is (leb (size ws) (length s)) (read ws s) r BadLength e).0
 
 -- ---- a record in a part of a slice
 

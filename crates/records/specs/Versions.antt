@@ -1,6 +1,6 @@
 -- Request 2026-08: what VirtIO 1.2 and 1.3 share, and what they do not. "State shared rules once over both": each definition takes one Boolean, `controls`.
 -- Assumes nothing.
-use Rattle.std.specs.Prelude.{◌≡◌, refl, Bool, true, false, List, [], ◌∷◌, ℕ, eqb, length, take}
+use Rattle.std.specs.Prelude.{◌≡◌, refl, Bool, true, false, List, [], ◌∷◌, ℕ, eqb, length, take, Ok}
 use Rattle.std.proofs.Common.{sym, ap, ◌∙◌, lit<, length-take-le, arith, eq-eqb, ne_eqb}
 use Rattle.layout.specs.Bytes.{le, num_at, un, bytes_at, zeros, Bytes}
 use Rattle.layout.specs.Layout.{size, read, Fit}
@@ -17,7 +17,6 @@ use Rattle.records.specs.Config.{config_row, config_says, config_of, read_of, co
 use Rattle.records.specs.ConfigLaws.{fit, write-then-config, config-then-write}
 use Rattle.records.specs.Notice.{ctl_event, event_row, notice_says, notice_says_of}
 use Rattle.records.specs.declared.config.Config.{Config}
-use Rattle.records.specs.declared.config.ReadConfig.TheVariants as read_config
 
 -- ---- the mode
 
@@ -81,8 +80,8 @@ same-record false c h = λ i. record { jacks = c.jacks; streams = c.streams; chm
 
 -- "Writing a record and reading it gives it back"; `Fit` holds of every value of a Rattle struct
 pub config-back : (controls : Bool) (c : Config) (l : List ℕ) → length l ≡ size (config_row controls) → Fit (config_row controls) (config_values controls c) → (controls ≡ false → c.controls ≡ 0)
-    → read_of (config_says controls (config_written controls c l)) ≡ read_config.Is c
-config-back controls c l h f z = ap read_of (write-then-config controls c l h f) ∙ ap read_config.Is (same-record controls c z)
+    → read_of (config_says controls (config_written controls c l)) ≡ Ok c
+config-back controls c l h f z = ap read_of (write-then-config controls c l h f) ∙ ap Ok (same-record controls c z)
 
 -- "reading then writing gives the bytes"
 pub config-same : (controls : Bool) (s : List ℕ) → length s ≡ size (config_row controls) → Bytes s → config_written controls (config_of (read (config_row controls) s)) s ≡ s
@@ -126,7 +125,7 @@ pub counts-written : (config_written true counts (zeros 16) ≡ sixteen) × (con
 unfolding le zeros
 counts-written = (refl, refl, refl)
 
-pub counts-back : read_of (config_says true (config_written true counts (zeros 16))) ≡ read_config.Is counts
+pub counts-back : read_of (config_says true (config_written true counts (zeros 16))) ≡ Ok counts
 unfolding zeros
 counts-back = config-back true counts (zeros 16) refl (lit< tt, (lit< tt, (lit< tt, (lit< tt, tt)))) (λ e. absurd (no_such e))
   where

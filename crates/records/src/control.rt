@@ -1,9 +1,10 @@
-// Records of the control queue: the requests.
+// Records of the control queue: the requests. Each field is written out at its place, as in the
+// standard, since a record is nothing but its places.
 ghost use Rattle.std.specs.Prelude.{◌≡◌};
 ghost use Rattle.records.specs.Slice.{read_says, write_says, written, says_written};
 ghost use Rattle.records.specs.Records.{query, query_values, says_query, remap, remap_values, says_remap, pcm_command, pcm_command_values, says_pcm_command, set_parameters, set_parameters_values, says_set_parameters};
 
-use crate::written::Written;
+use codes::Refusal;
 
 // VirtIOSndQueryInfo: asks for `count` records of `size` bytes, from number `start` on.
 #[derive(Clone, Copy)]
@@ -14,35 +15,31 @@ pub struct Query {
     pub size: u32,
 }
 
-#[derive(Clone, Copy)]
-pub enum ReadQuery {
-    Is(Query),
-    BadLength,
-}
-
 impl Query {
     pub const SIZE: usize = 16;
 
-    pub fn write(self, out: &mut [u8]) -> Written
+    // Writes the record at the front of a slice.
+    pub fn write(self, out: &mut [u8]) -> Result<(), Refusal>
         ensures { (says_written result ≡ write_says query out.old) × (out.new ≡ written query (query_values self) out.old) }
     {
         if out.len() < Query::SIZE {
-            return Written::BadLength;
+            return Err(Refusal::BadLength);
         }
         layout::put_u32(out, 0, self.code);
         layout::put_u32(out, 4, self.start);
         layout::put_u32(out, 8, self.count);
         layout::put_u32(out, 12, self.size);
-        Written::Done
+        Ok(())
     }
 
-    pub fn read(s: &[u8]) -> ReadQuery
+    // The record at the front of a slice.
+    pub fn read(s: &[u8]) -> Result<Query, Refusal>
         ensures { says_query result ≡ read_says query s.now }
     {
         if s.len() < Query::SIZE {
-            return ReadQuery::BadLength;
+            return Err(Refusal::BadLength);
         }
-        ReadQuery::Is(Query {
+        Ok(Query {
             code: layout::get_u32(s, 0),
             start: layout::get_u32(s, 4),
             count: layout::get_u32(s, 8),
@@ -60,37 +57,33 @@ pub struct Remap {
     pub sequence: u32,
 }
 
-#[derive(Clone, Copy)]
-pub enum ReadRemap {
-    Is(Remap),
-    BadLength,
-}
-
 impl Remap {
     pub const SIZE: usize = 16;
 
     pub const CODE: u32 = 0x0002;
 
-    pub fn write(self, out: &mut [u8]) -> Written
+    // Writes the record at the front of a slice.
+    pub fn write(self, out: &mut [u8]) -> Result<(), Refusal>
         ensures { (says_written result ≡ write_says remap out.old) × (out.new ≡ written remap (remap_values self) out.old) }
     {
         if out.len() < Remap::SIZE {
-            return Written::BadLength;
+            return Err(Refusal::BadLength);
         }
         layout::put_u32(out, 0, self.code);
         layout::put_u32(out, 4, self.jack);
         layout::put_u32(out, 8, self.association);
         layout::put_u32(out, 12, self.sequence);
-        Written::Done
+        Ok(())
     }
 
-    pub fn read(s: &[u8]) -> ReadRemap
+    // The record at the front of a slice.
+    pub fn read(s: &[u8]) -> Result<Remap, Refusal>
         ensures { says_remap result ≡ read_says remap s.now }
     {
         if s.len() < Remap::SIZE {
-            return ReadRemap::BadLength;
+            return Err(Refusal::BadLength);
         }
-        ReadRemap::Is(Remap {
+        Ok(Remap {
             code: layout::get_u32(s, 0),
             jack: layout::get_u32(s, 4),
             association: layout::get_u32(s, 8),
@@ -106,12 +99,6 @@ pub struct PcmCommand {
     pub stream: u32,
 }
 
-#[derive(Clone, Copy)]
-pub enum ReadPcmCommand {
-    Is(PcmCommand),
-    BadLength,
-}
-
 impl PcmCommand {
     pub const SIZE: usize = 8;
 
@@ -123,24 +110,26 @@ impl PcmCommand {
 
     pub const STOP: u32 = 0x0105;
 
-    pub fn write(self, out: &mut [u8]) -> Written
+    // Writes the record at the front of a slice.
+    pub fn write(self, out: &mut [u8]) -> Result<(), Refusal>
         ensures { (says_written result ≡ write_says pcm_command out.old) × (out.new ≡ written pcm_command (pcm_command_values self) out.old) }
     {
         if out.len() < PcmCommand::SIZE {
-            return Written::BadLength;
+            return Err(Refusal::BadLength);
         }
         layout::put_u32(out, 0, self.code);
         layout::put_u32(out, 4, self.stream);
-        Written::Done
+        Ok(())
     }
 
-    pub fn read(s: &[u8]) -> ReadPcmCommand
+    // The record at the front of a slice.
+    pub fn read(s: &[u8]) -> Result<PcmCommand, Refusal>
         ensures { says_pcm_command result ≡ read_says pcm_command s.now }
     {
         if s.len() < PcmCommand::SIZE {
-            return ReadPcmCommand::BadLength;
+            return Err(Refusal::BadLength);
         }
-        ReadPcmCommand::Is(PcmCommand {
+        Ok(PcmCommand {
             code: layout::get_u32(s, 0),
             stream: layout::get_u32(s, 4),
         })
@@ -162,22 +151,17 @@ pub struct SetParameters {
     pub zero: u8,
 }
 
-#[derive(Clone, Copy)]
-pub enum ReadSetParameters {
-    Is(SetParameters),
-    BadLength,
-}
-
 impl SetParameters {
     pub const SIZE: usize = 24;
 
     pub const CODE: u32 = 0x0101;
 
-    pub fn write(self, out: &mut [u8]) -> Written
+    // Writes the record at the front of a slice.
+    pub fn write(self, out: &mut [u8]) -> Result<(), Refusal>
         ensures { (says_written result ≡ write_says set_parameters out.old) × (out.new ≡ written set_parameters (set_parameters_values self) out.old) }
     {
         if out.len() < SetParameters::SIZE {
-            return Written::BadLength;
+            return Err(Refusal::BadLength);
         }
         layout::put_u32(out, 0, self.code);
         layout::put_u32(out, 4, self.stream);
@@ -188,16 +172,17 @@ impl SetParameters {
         layout::put_u8(out, 21, self.format);
         layout::put_u8(out, 22, self.rate);
         layout::put_u8(out, 23, self.zero);
-        Written::Done
+        Ok(())
     }
 
-    pub fn read(s: &[u8]) -> ReadSetParameters
+    // The record at the front of a slice.
+    pub fn read(s: &[u8]) -> Result<SetParameters, Refusal>
         ensures { says_set_parameters result ≡ read_says set_parameters s.now }
     {
         if s.len() < SetParameters::SIZE {
-            return ReadSetParameters::BadLength;
+            return Err(Refusal::BadLength);
         }
-        ReadSetParameters::Is(SetParameters {
+        Ok(SetParameters {
             code: layout::get_u32(s, 0),
             stream: layout::get_u32(s, 4),
             buffer: layout::get_u32(s, 8),

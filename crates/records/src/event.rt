@@ -4,8 +4,7 @@ ghost use Rattle.records.specs.Slice.{read_says, write_says, written, says_writt
 ghost use Rattle.records.specs.Records.{event, event_values, says_event};
 ghost use Rattle.records.specs.Notice.{says_notice, notice_says};
 
-use crate::written::Written;
-use codes::{FoundNotification, NotificationType};
+use codes::{NotificationType, Refusal};
 
 // VirtIOSndEvent: a notification's code and its data.
 #[derive(Clone, Copy)]
@@ -14,61 +13,52 @@ pub struct Event {
     pub data: u32,
 }
 
-#[derive(Clone, Copy)]
-pub enum ReadEvent {
-    Is(Event),
-    BadLength,
-}
-
 impl Event {
     pub const SIZE: usize = 8;
 
-    pub fn write(self, out: &mut [u8]) -> Written
+    // Writes the record at the front of a slice.
+    pub fn write(self, out: &mut [u8]) -> Result<(), Refusal>
         ensures { (says_written result ≡ write_says event out.old) × (out.new ≡ written event (event_values self) out.old) }
     {
         if out.len() < Event::SIZE {
-            return Written::BadLength;
+            return Err(Refusal::BadLength);
         }
         layout::put_u32(out, 0, self.code);
         layout::put_u32(out, 4, self.data);
-        Written::Done
+        Ok(())
     }
 
-    pub fn read(s: &[u8]) -> ReadEvent
+    // The record at the front of a slice.
+    pub fn read(s: &[u8]) -> Result<Event, Refusal>
         ensures { says_event result ≡ read_says event s.now }
     {
         if s.len() < Event::SIZE {
-            return ReadEvent::BadLength;
+            return Err(Refusal::BadLength);
         }
-        ReadEvent::Is(Event {
+        Ok(Event {
             code: layout::get_u32(s, 0),
             data: layout::get_u32(s, 4),
         })
     }
 }
 
-// What an event says: its kind and its data, or that its code is unknown.
+// What an event says: its kind and its data.
 #[derive(Clone, Copy)]
 pub enum Notice {
-    Is(NotificationType, u32),
+    Event(NotificationType, u32),
     // A change of a control element: which, and the mask of what changed.
     Control(u16, u16),
-    IoError,
-    Nothing,
 }
 
-// Only a slice of an event's length is an event.
-pub fn latest_notification(s: &[u8]) -> Notice
+// Only a slice of an event's length is an event, and one of another length says nothing. A code
+// that is unknown is refused.
+pub fn latest_notification(s: &[u8]) -> Result<Option<Notice>, Refusal>
     ensures { says_notice result ≡ notice_says s.now }
 {
     if s.len() != Event::SIZE {
-        return Notice::Nothing;
+        return Ok(None);
     }
-    let ReadEvent::Is(event) = Event::read(s) else {
-        return Notice::Nothing;
-    };
-    let FoundNotification::Is(kind) = NotificationType::from_code(event.code) else {
-        return Notice::IoError;
-    };
-    Notice::Is(kind, event.data)
+    let event = Event::read(s)?;
+    let kind = NotificationType::try_from(event.code)?;
+    Ok(Some(Notice::Event(kind, event.data)))
 }

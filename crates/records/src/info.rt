@@ -1,15 +1,15 @@
 // Records of the three tables: what a device answers to a query. CODE is the query's code.
 //
-// A reader's answer is an enum, and an enum holds no array. So a padding and the channel positions
-// are kept as several machine numbers that fill their bytes exactly: each value of a struct then
-// fits, and no byte is lost. `padding4` begins at byte 4 of the padding, and so the others.
+// A padding and the channel positions are kept as several machine numbers that fill their bytes
+// exactly, and not as arrays: all ten records are then a list of widths, and no law needs a length.
+// `padding4` begins at byte 4 of the padding, and so the others.
 ghost use Rattle.std.specs.Prelude.{◌≡◌, get_or};
 ghost use Rattle.records.specs.Slice.{read_says, write_says, written, says_written};
 ghost use Rattle.records.specs.Records.{jack_info, jack_info_values, says_jack_info, pcm_info, pcm_info_values, says_pcm_info, channel_map, channel_map_values, says_channel_map};
 ghost use Rattle.layout.specs.Bytes.{le};
 ghost use Rattle.records.specs.Positions.{says_position, position_says};
 
-use crate::written::Written;
+use codes::Refusal;
 
 // VirtIOSndJackInfo: a jack. 7 bytes of padding.
 #[derive(Clone, Copy)]
@@ -24,22 +24,17 @@ pub struct JackInfo {
     pub padding6: u8,
 }
 
-#[derive(Clone, Copy)]
-pub enum ReadJackInfo {
-    Is(JackInfo),
-    BadLength,
-}
-
 impl JackInfo {
     pub const SIZE: usize = 24;
 
     pub const CODE: u32 = 0x0001;
 
-    pub fn write(self, out: &mut [u8]) -> Written
+    // Writes the record at the front of a slice.
+    pub fn write(self, out: &mut [u8]) -> Result<(), Refusal>
         ensures { (says_written result ≡ write_says jack_info out.old) × (out.new ≡ written jack_info (jack_info_values self) out.old) }
     {
         if out.len() < JackInfo::SIZE {
-            return Written::BadLength;
+            return Err(Refusal::BadLength);
         }
         layout::put_u32(out, 0, self.node);
         layout::put_u32(out, 4, self.features);
@@ -49,16 +44,17 @@ impl JackInfo {
         layout::put_u32(out, 17, self.padding);
         layout::put_u16(out, 21, self.padding4);
         layout::put_u8(out, 23, self.padding6);
-        Written::Done
+        Ok(())
     }
 
-    pub fn read(s: &[u8]) -> ReadJackInfo
+    // The record at the front of a slice.
+    pub fn read(s: &[u8]) -> Result<JackInfo, Refusal>
         ensures { says_jack_info result ≡ read_says jack_info s.now }
     {
         if s.len() < JackInfo::SIZE {
-            return ReadJackInfo::BadLength;
+            return Err(Refusal::BadLength);
         }
-        ReadJackInfo::Is(JackInfo {
+        Ok(JackInfo {
             node: layout::get_u32(s, 0),
             features: layout::get_u32(s, 4),
             defconf: layout::get_u32(s, 8),
@@ -85,22 +81,17 @@ pub struct PcmInfo {
     pub padding4: u8,
 }
 
-#[derive(Clone, Copy)]
-pub enum ReadPcmInfo {
-    Is(PcmInfo),
-    BadLength,
-}
-
 impl PcmInfo {
     pub const SIZE: usize = 32;
 
     pub const CODE: u32 = 0x0100;
 
-    pub fn write(self, out: &mut [u8]) -> Written
+    // Writes the record at the front of a slice.
+    pub fn write(self, out: &mut [u8]) -> Result<(), Refusal>
         ensures { (says_written result ≡ write_says pcm_info out.old) × (out.new ≡ written pcm_info (pcm_info_values self) out.old) }
     {
         if out.len() < PcmInfo::SIZE {
-            return Written::BadLength;
+            return Err(Refusal::BadLength);
         }
         layout::put_u32(out, 0, self.node);
         layout::put_u32(out, 4, self.features);
@@ -111,16 +102,17 @@ impl PcmInfo {
         layout::put_u8(out, 26, self.max);
         layout::put_u32(out, 27, self.padding);
         layout::put_u8(out, 31, self.padding4);
-        Written::Done
+        Ok(())
     }
 
-    pub fn read(s: &[u8]) -> ReadPcmInfo
+    // The record at the front of a slice.
+    pub fn read(s: &[u8]) -> Result<PcmInfo, Refusal>
         ensures { says_pcm_info result ≡ read_says pcm_info s.now }
     {
         if s.len() < PcmInfo::SIZE {
-            return ReadPcmInfo::BadLength;
+            return Err(Refusal::BadLength);
         }
-        ReadPcmInfo::Is(PcmInfo {
+        Ok(PcmInfo {
             node: layout::get_u32(s, 0),
             features: layout::get_u32(s, 4),
             formats: layout::get_u64(s, 8),
@@ -132,13 +124,6 @@ impl PcmInfo {
             padding4: layout::get_u8(s, 31),
         })
     }
-}
-
-// What a channel's position is.
-#[derive(Clone, Copy)]
-pub enum FoundPosition {
-    Is(u8),
-    InvalidParam,
 }
 
 // 256 to the power of the place.
@@ -174,12 +159,6 @@ pub struct ChannelMap {
     pub positions16: u16,
 }
 
-#[derive(Clone, Copy)]
-pub enum ReadChannelMap {
-    Is(ChannelMap),
-    BadLength,
-}
-
 impl ChannelMap {
     pub const SIZE: usize = 24;
 
@@ -187,11 +166,12 @@ impl ChannelMap {
 
     pub const POSITIONS: usize = 18;
 
-    pub fn write(self, out: &mut [u8]) -> Written
+    // Writes the record at the front of a slice.
+    pub fn write(self, out: &mut [u8]) -> Result<(), Refusal>
         ensures { (says_written result ≡ write_says channel_map out.old) × (out.new ≡ written channel_map (channel_map_values self) out.old) }
     {
         if out.len() < ChannelMap::SIZE {
-            return Written::BadLength;
+            return Err(Refusal::BadLength);
         }
         layout::put_u32(out, 0, self.node);
         layout::put_u8(out, 4, self.direction);
@@ -199,16 +179,17 @@ impl ChannelMap {
         layout::put_u64(out, 6, self.positions);
         layout::put_u64(out, 14, self.positions8);
         layout::put_u16(out, 22, self.positions16);
-        Written::Done
+        Ok(())
     }
 
-    pub fn read(s: &[u8]) -> ReadChannelMap
+    // The record at the front of a slice.
+    pub fn read(s: &[u8]) -> Result<ChannelMap, Refusal>
         ensures { says_channel_map result ≡ read_says channel_map s.now }
     {
         if s.len() < ChannelMap::SIZE {
-            return ReadChannelMap::BadLength;
+            return Err(Refusal::BadLength);
         }
-        ReadChannelMap::Is(ChannelMap {
+        Ok(ChannelMap {
             node: layout::get_u32(s, 0),
             direction: layout::get_u8(s, 4),
             channels: layout::get_u8(s, 5),
@@ -219,18 +200,18 @@ impl ChannelMap {
     }
 
     // Position `i` of the 18: the speaker of channel `i`.
-    pub fn position(self, i: usize) -> FoundPosition
+    pub fn position(self, i: usize) -> Result<u8, Refusal>
         ensures { says_position result ≡ position_says self i }
     {
         if i < 8 {
-            return FoundPosition::Is(byte_of(self.positions, i));
+            return Ok(byte_of(self.positions, i));
         }
         if i < 16 {
-            return FoundPosition::Is(byte_of(self.positions8, i - 8));
+            return Ok(byte_of(self.positions8, i - 8));
         }
         if i < ChannelMap::POSITIONS {
-            return FoundPosition::Is(byte_of(self.positions16 as u64, i - 16));
+            return Ok(byte_of(self.positions16 as u64, i - 16));
         }
-        FoundPosition::InvalidParam
+        Err(Refusal::InvalidParam)
     }
 }

@@ -3,7 +3,7 @@ ghost use Rattle.std.specs.Prelude.{◌≡◌};
 ghost use Rattle.records.specs.Slice.{read_says, write_says, written, says_written};
 ghost use Rattle.records.specs.Records.{transfer, transfer_values, says_transfer, transfer_status, transfer_status_values, says_transfer_status};
 
-use crate::written::Written;
+use codes::Refusal;
 
 // VirtIOSndPcmXfer: the head of a transfer; the payload follows it.
 #[derive(Clone, Copy)]
@@ -11,32 +11,28 @@ pub struct Transfer {
     pub stream: u32,
 }
 
-#[derive(Clone, Copy)]
-pub enum ReadTransfer {
-    Is(Transfer),
-    BadLength,
-}
-
 impl Transfer {
     pub const SIZE: usize = 4;
 
-    pub fn write(self, out: &mut [u8]) -> Written
+    // Writes the record at the front of a slice.
+    pub fn write(self, out: &mut [u8]) -> Result<(), Refusal>
         ensures { (says_written result ≡ write_says transfer out.old) × (out.new ≡ written transfer (transfer_values self) out.old) }
     {
         if out.len() < Transfer::SIZE {
-            return Written::BadLength;
+            return Err(Refusal::BadLength);
         }
         layout::put_u32(out, 0, self.stream);
-        Written::Done
+        Ok(())
     }
 
-    pub fn read(s: &[u8]) -> ReadTransfer
+    // The record at the front of a slice.
+    pub fn read(s: &[u8]) -> Result<Transfer, Refusal>
         ensures { says_transfer result ≡ read_says transfer s.now }
     {
         if s.len() < Transfer::SIZE {
-            return ReadTransfer::BadLength;
+            return Err(Refusal::BadLength);
         }
-        ReadTransfer::Is(Transfer {
+        Ok(Transfer {
             stream: layout::get_u32(s, 0),
         })
     }
@@ -49,33 +45,29 @@ pub struct TransferStatus {
     pub latency: u32,
 }
 
-#[derive(Clone, Copy)]
-pub enum ReadTransferStatus {
-    Is(TransferStatus),
-    BadLength,
-}
-
 impl TransferStatus {
     pub const SIZE: usize = 8;
 
-    pub fn write(self, out: &mut [u8]) -> Written
+    // Writes the record at the front of a slice.
+    pub fn write(self, out: &mut [u8]) -> Result<(), Refusal>
         ensures { (says_written result ≡ write_says transfer_status out.old) × (out.new ≡ written transfer_status (transfer_status_values self) out.old) }
     {
         if out.len() < TransferStatus::SIZE {
-            return Written::BadLength;
+            return Err(Refusal::BadLength);
         }
         layout::put_u32(out, 0, self.status);
         layout::put_u32(out, 4, self.latency);
-        Written::Done
+        Ok(())
     }
 
-    pub fn read(s: &[u8]) -> ReadTransferStatus
+    // The record at the front of a slice.
+    pub fn read(s: &[u8]) -> Result<TransferStatus, Refusal>
         ensures { says_transfer_status result ≡ read_says transfer_status s.now }
     {
         if s.len() < TransferStatus::SIZE {
-            return ReadTransferStatus::BadLength;
+            return Err(Refusal::BadLength);
         }
-        ReadTransferStatus::Is(TransferStatus {
+        Ok(TransferStatus {
             status: layout::get_u32(s, 0),
             latency: layout::get_u32(s, 4),
         })

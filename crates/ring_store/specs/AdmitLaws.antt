@@ -35,7 +35,7 @@ module _ (P : Step → Type 0) (t : Track) (refused : (r : Refusal) → P (refus
   admitted capture len rest f =
       guarded-by P _ _ _ (λ _. guarded-by P _ _ _ (λ c. guarded-by P _ _ _ (λ on. f c (runs_on capture t on)) (λ _. refused _)) (λ _. refused _)) (λ _. refused _)
 
-  pub readied : (period budget : ℕ) (rest : Step) → (consistent_of t ≡ true → P rest) → P (ready t period budget rest)
+  pub readied : (period budget : ℕ) (rest : Step) → (consistent_of t ≡ true → P rest) → P (ready t period budget (λ r. refused_of r t) rest)
   readied period budget rest f =
       guarded-by P _ _ _ (λ c. guarded-by P _ _ _ (λ _. guarded-by P _ _ _ (λ _. guarded-by P _ _ _ (λ _. f c) (λ _. refused _)) (λ _. refused _)) (λ _. refused _)) (λ _. refused _)
 

@@ -1,13 +1,14 @@
 -- The calls on a ring that stands in a lent byte store: the call by value on the ring that the store holds, and the ring that it leaves, written
 -- over it. A store or a result slice that is too short gets 10. A refusal leaves every byte as it was.
 -- Assumes nothing.
-use Rattle.std.specs.Prelude.{Bool, ◌&&◌, List, [], ◌∷◌, ℕ, leb, eqb, length}
+use Rattle.std.specs.Prelude.{Bool, ◌&&◌, List, [], ◌∷◌, ℕ, leb, eqb, length, Result, Ok, Err, Some, None}
 use Rattle.std.proofs.lemmas.List.Edits.{sets}
 use Rattle.layout.specs.Bytes.{le}
 use Rattle.layout.specs.Rows.{rows_bytes}
 use Rattle.layout.specs.Lent.{Made, made, Shown, shown, result_size}
 use Rattle.codes.specs.Says.{Says, says, pick, guard}
 use Rattle.codes.specs.Answers.{refusal_word}
+use Rattle.codes.specs.declared.answers.Refusal.{Refusal}
 use Rattle.turns.specs.Ring.{new_ring, said_word, is_refused}
 use Rattle.turns.specs.Reads.{read_of}
 use Rattle.turns.specs.Calls.{start_call, start_traced, started_of, turned_of, offer_call, says_sent}
@@ -15,9 +16,7 @@ use Rattle.turns.specs.Capture.{catch_of, capture_call, recording_after, capture
 use Rattle.turns.specs.InPlace.{turn_words, drain_words}
 use Rattle.turns.specs.Script.{reading_of}
 use Rattle.trace.specs.Writer.{writing_call, room_after}
-use Rattle.turns.specs.declared.calls.Offer.{Offer}
-use Rattle.turns.specs.declared.calls.Offer.TheVariants as offer
-use Rattle.ring_store.specs.Types.{Track, Turned, Sent, Nothing, Period, Step}
+use Rattle.ring_store.specs.Types.{Track, Turned, Sent, Step}
 use Rattle.ring_store.specs.Store.{ring_size, track_at, ring_of, ring_bytes}
 
 -- ---- calls that change the ring
@@ -98,17 +97,17 @@ told_in s r x =
     (shown x.number (sets r 0 (words x.values)))
 
 -- what an offer says here: a refusal by its word
-abbrev pub offer_word : (Sent → Says) → Offer → Says
-offer_word told (offer.Is sent) = told sent
-offer_word told (offer.Refused x) = says (refusal_word x) []
+abbrev pub offer_word : (Sent → Says) → Result Sent Refusal → Says
+offer_word told (Ok sent) = told sent
+offer_word told (Err x) = says (refusal_word x) []
 
 abbrev pub offer_in : List ℕ → ℕ → List ℕ → Shown
 offer_in s len r = told_in s r (offer_word says_sent (offer_call (track_at s) len))
 
 -- what a capture submits has no offset: 1, slot and length; or three zeros
 abbrev pub says_room : Sent → Says
-says_room Nothing = says 0 (0 ∷ 0 ∷ 0 ∷ [])
-says_room (Period slot offset len) = says 0 (1 ∷ slot ∷ len ∷ [])
+says_room None = says 0 (0 ∷ 0 ∷ 0 ∷ [])
+says_room (Some p) = says 0 (1 ∷ p.slot ∷ p.len ∷ [])
 
 abbrev pub capture_offer_in : List ℕ → ℕ → List ℕ → Shown
 capture_offer_in s len r = told_in s r (offer_word says_room (capture_offer (track_at s) len))

@@ -1,6 +1,6 @@
 -- The calls on a store, by what their code does.
 -- Assumes nothing.
-use Rattle.std.specs.Prelude.{◌≡◌, Bool, true, false, not, ◌&&◌, ◌||◌, List, ℕ, ◌≤◌, ◌<◌, leb, eqb, length}
+use Rattle.std.specs.Prelude.{◌≡◌, Bool, true, false, not, ◌&&◌, ◌||◌, List, ℕ, ◌≤◌, ◌<◌, leb, eqb, length, Err}
 use Rattle.std.proofs.Math.Path.{refl, ap}
 use Rattle.std.proofs.Common.{sym, ◌∙◌, le-leb, eq-eqb, ne_eqb}
 use Rattle.std.proofs.lemmas.Bool.{lt-leb}
@@ -12,7 +12,6 @@ use Rattle.turns.specs.Ring.{new_ring, said_word, is_refused}
 use Rattle.turns.specs.Calls.{refused_of, runs_as, traced_call, turn_call, turned_of, offer_as}
 use Rattle.turns.specs.CallLaws.{no-transfer, offer-unsound, offer-other}
 use Rattle.turns.specs.Consistent.{consistent_of}
-use Rattle.turns.specs.declared.calls.Offer.TheVariants as offer
 use Rattle.turns.specs.Capture.{catch_of, capture_call, recording_after}
 use Rattle.turns.specs.Script.{reading_of}
 use Rattle.trace.specs.Writer.{writing_call, room_after}
@@ -77,10 +76,10 @@ module _ (t : Track) (len : ℕ) (reading : Reading) (e : t.running ≡ true) wh
         ends false c x r h = stops false _ _ refl refl
 
 -- and of an offer
-pub offer-unfit : (capture : Bool) (t : Track) (len : ℕ) → t.running ≡ true → len ≡ t.lent → (consistent_of t && runs_as capture t) ≡ false → offer.Refused InvalidParam ≡ offer_as capture t len
+pub offer-unfit : (capture : Bool) (t : Track) (len : ℕ) → t.running ≡ true → len ≡ t.lent → (consistent_of t && runs_as capture t) ≡ false → Err InvalidParam ≡ offer_as capture t len
 offer-unfit capture t len e l f = by (consistent_of t) refl f
   where
-    by : (b : Bool) → consistent_of t ≡ b → (b && runs_as capture t) ≡ false → offer.Refused InvalidParam ≡ offer_as capture t len
+    by : (b : Bool) → consistent_of t ≡ b → (b && runs_as capture t) ≡ false → Err InvalidParam ≡ offer_as capture t len
     by true c h = offer-other capture t len e l c h
     by false c h = offer-unsound capture t len e l c
 

@@ -1,6 +1,6 @@
 -- THE STORE HOLDS what the call by value leaves: of every number it is known that it fits its width, so nothing is cut off.
 -- Assumes nothing.
-use Rattle.std.specs.Prelude.{◌≡◌, refl, Bool, true, List, ℕ, zero, suc, ◌*◌, ◌≤◌, ◌<◌, ◌^◌, leb, length, replicate}
+use Rattle.std.specs.Prelude.{◌≡◌, refl, Bool, true, List, ℕ, zero, suc, ◌*◌, ◌≤◌, ◌<◌, ◌^◌, leb, length, replicate, Some, None}
 use Rattle.std.proofs.Math.Path.{sym, ap}
 use Rattle.std.proofs.Common.{◌∙◌, subst, arith, le-leb, leb-false}
 use Rattle.std.proofs.Math.Bool.{false}
@@ -27,7 +27,7 @@ use Rattle.turns.specs.InPlace.{turn_words, drain_words}
 use Rattle.trace.specs.Writer.{writing_call, room_after}
 use Rattle.trace.specs.TracedLaws.{writing-refused}
 use Rattle.turns.specs.Script.{reading_of}
-use Rattle.ring_store.specs.Types.{Slot, Track, Sent, Nothing, Period, Said, Going, Done, Ended, Refused, Step, Reading, Quiet, Completed, Choice, Submit, Finish, Wait, Outcome, Catch}
+use Rattle.ring_store.specs.Types.{Slot, Track, Sent, Said, Going, Done, Ended, Refused, Step, Reading, Choice, Submit, Finish, Wait, Outcome, Catch}
 use Rattle.ring_store.specs.Store.{track_size, slot_size, side_place, ring_size, track_row, track_values, side_row, side_values, track_at, slot_row, slot_at, ring_of, ring_bytes}
 use Rattle.ring_store.specs.Calls.{new_in, turn_in, drain_in, start_in, Caught, caught_in, capture_step, capture_in, capture_start_in, writing_step, turn_traced_in, start_traced_in}
 use Rattle.ring_store.specs.StoreLaws.{slots-long}
@@ -39,8 +39,8 @@ abbrev pub TrackFits : Track → Type 0
 TrackFits t = Fit track_row (track_values t) × Fit side_row (side_values t)
 
 abbrev pub SentFits : Sent → Type 0
-SentFits Nothing = Unit {0}
-SentFits (Period slot offset len) = SlotFits (record { offset = offset; len = len })
+SentFits None = Unit {0}
+SentFits (Some p) = SlotFits (record { offset = p.offset; len = p.len })
 
 -- ---- what was read fits
 
@@ -56,8 +56,8 @@ track-fits s b c =
 -- ---- a step that fits is held
 
 carry-fits : (slots : List Slot) (sent : Sent) → SlotsFit slots → SentFits sent → SlotsFit (carry slots sent)
-carry-fits slots Nothing p q = p
-carry-fits slots (Period slot offset len) p q = set-ok SlotFits slots slot (record { offset = offset; len = len }) p q
+carry-fits slots None p q = p
+carry-fits slots (Some p₁) p q = set-ok SlotFits slots p₁.slot (record { offset = p₁.offset; len = p₁.len }) p q
 
 -- where it was not refused
 abbrev StepFits : Step → Type 0
@@ -118,7 +118,7 @@ sent-fits t f =
 act-fits : (c : Choice) (t : Track) (o : Outcome) (reading : Reading) → TrackFits t → SentFits (act c t o reading).sent
 act-fits Submit t o reading f = hear-cases (λ x. SentFits x.sent) (sent_of t) (submit t) o reading (λ _ _. sent-fits t f) (λ _ _ _ _ _ _ _. sent-fits t f)
 act-fits Finish t o reading f = tt
-act-fits Wait t o reading f = hear-cases (λ x. SentFits x.sent) Nothing t o reading (λ _ _. tt) (λ _ _ _ _ _ _ _. tt)
+act-fits Wait t o reading f = hear-cases (λ x. SentFits x.sent) None t o reading (λ _ _. tt) (λ _ _ _ _ _ _ _. tt)
 
 counted-sent : (t : Track) (o : Outcome) (reading : Reading) → TrackFits t → SentFits (counted_of (turn_of t.descriptors t o reading)).sent
 unfolding turn_of
@@ -162,8 +162,8 @@ module _ (t : Track) (f : consistent_of t ≡ true → TrackFits t) where
   release-fits f = ((f.0.0, (f.0.1.0, (omega arith, (omega arith, f.0.1.1.1.1)))), f.1)
 
   drained-fits : (reading : Reading) → TrackFits t → StepFits (drained t reading)
-  drained-fits Quiet f = λ _. (f, tt)
-  drained-fits (Completed slot status) f = guarded-by StepFits _ _ _ (λ _ _. (release-fits f, tt)) (λ _ _. (f, tt))
+  drained-fits None f = λ _. (f, tt)
+  drained-fits (Some c) f = guarded-by StepFits _ _ _ (λ _ _. (release-fits f, tt)) (λ _ _. (f, tt))
 
   drain-step-fits : (reading : Reading) → StepFits (drain_call t reading)
   unfolding drain_call

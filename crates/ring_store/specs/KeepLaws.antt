@@ -1,6 +1,6 @@
 -- What calls leave: a store that holds a ring again, and after a refusal the very bytes that stood there.
 -- Assumes nothing.
-use Rattle.std.specs.Prelude.{◌≡◌, refl, Bool, true, false, ◌⊎◌, List, ℕ, ◌+◌, ◌*◌, ◌≤◌, ◌<◌, leb, eqb, length}
+use Rattle.std.specs.Prelude.{◌≡◌, refl, Bool, true, false, ◌⊎◌, List, ℕ, ◌+◌, ◌*◌, ◌≤◌, ◌<◌, leb, eqb, length, Ok, Err, Some, None}
 use Rattle.std.proofs.Common.{sym, ap, ◌∙◌, subst, inl, inr, arith, leb-true, leb-false, length-set}
 use Rattle.std.proofs.lemmas.List.Edits.{sets}
 use Rattle.layout.specs.Bytes.{num_at}
@@ -25,7 +25,7 @@ use Rattle.turns.specs.InPlace.{turn_words, drain_words}
 use Rattle.trace.specs.Writer.{ink_of, writes_none, writing_call, room_after}
 use Rattle.trace.specs.InkLaws.{none-ran}
 use Rattle.turns.specs.Script.{reading_of}
-use Rattle.ring_store.specs.Types.{Slot, Track, Sent, Nothing, Period, Said, Going, Done, Ended, Refused, Step, Reading, Quiet, Completed, Choice, Submit, Finish, Wait, Outcome, Fine, Fails, Verdict, WrongSlot, Good, Bad, Catch}
+use Rattle.ring_store.specs.Types.{Slot, Track, Sent, Said, Going, Done, Ended, Refused, Step, Reading, Choice, Submit, Finish, Wait, Outcome, Verdict, WrongSlot, Good, Bad, Catch}
 use Rattle.ring_store.specs.Store.{ring_size, track_at, ring_of}
 use Rattle.ring_store.specs.Calls.{changed, new_in, turn_in, drain_in, start_in, Caught, caught_in, capture_step, capture_in, capture_start_in, writing_step, turn_traced_in, start_traced_in}
 use Rattle.ring_store.specs.StoreLaws.{slots-long}
@@ -102,8 +102,8 @@ unless-whole true old new p q = p
 unless-whole false old new p q = q
 
 pub carry-long : (slots : List Slot) (sent : Sent) → length slots ≡ 32 → length (carry slots sent) ≡ 32
-carry-long slots Nothing e = e
-carry-long slots (Period slot offset len) e = length-set slots slot (record { offset = offset; len = len }) ∙ e
+carry-long slots None e = e
+carry-long slots (Some p) e = length-set slots p.slot (record { offset = p.offset; len = p.len }) ∙ e
 
 left-fits : (s : List ℕ) (x : Step) → whole_at s ≡ true → Whole (leaves s x)
 left-fits s x p =
@@ -190,10 +190,10 @@ refused-unchanged s x p =
 
 -- what a completion comes to has another number too: 2 or 17
 abbrev Comes : Outcome → Type 0
-Comes Fine = Unit {0}
-Comes (Fails r) = Barred (refusal_word r) → ⊥
+Comes (Ok tt) = Unit {0}
+Comes (Err r) = Barred (refusal_word r) → ⊥
 
-comes-by : (status : ℕ) (ok : Bool) → Comes (pick ok Fine (Fails (IoError (Status status))))
+comes-by : (status : ℕ) (ok : Bool) → Comes (pick ok (Ok tt) (Err (IoError (Status status))))
 comes-by status true = tt
 comes-by status false = other (2 + 4294967296 * status) (λ e. omega arith) (λ e. omega arith)
 
@@ -201,7 +201,7 @@ played-comes : (status : ℕ) → Comes (played_of status)
 unfolding played_of
 played-comes status = comes-by status (eqb status 0x8000)
 
-good-comes : (status : ℕ) (good : Bool) → Comes (pick good (played_of status) (Fails BadCapture))
+good-comes : (status : ℕ) (good : Bool) → Comes (pick good (played_of status) (Err BadCapture))
 good-comes status true = played-comes status
 good-comes status false = other 17 (λ e. omega arith) (λ e. omega arith)
 
@@ -210,8 +210,8 @@ unfolding captured_of
 captured-comes period written status = good-comes status (length_good period written)
 
 comes : (judge : ℕ → Outcome) → ((status : ℕ) → Comes (judge status)) → (reading : Reading) → Comes (comes_to judge reading)
-comes judge h Quiet = tt
-comes judge h (Completed slot status) = h status
+comes judge h None = tt
+comes judge h (Some c) = h c.status
 
 settle-tells : (v : Verdict) (sent : Sent) (t : Track) (slot status : ℕ) (o : Outcome) → Comes o → Judged t slot o v → Telling (settle v sent t slot status).said
 settle-tells WrongSlot sent t slot status o k j = other 6 (λ e. omega arith) (λ e. omega arith)
@@ -219,13 +219,13 @@ settle-tells Good sent t slot status o k j = tt
 settle-tells (Bad r) sent t slot status o k j = subst Comes j.2 k
 
 hear-tells : (sent : Sent) (t : Track) (o : Outcome) (reading : Reading) → Comes o → Telling (hear o sent t reading).said
-hear-tells sent t o Quiet k = tt
-hear-tells sent t o (Completed slot status) k = settle-tells (judge_of t slot o) sent t slot status o k (judged t slot o)
+hear-tells sent t o None k = tt
+hear-tells sent t o (Some c) k = settle-tells (judge_of t c.slot o) sent t c.slot c.status o k (judged t c.slot o)
 
 act-tells : (c : Choice) (t : Track) (o : Outcome) (reading : Reading) → Comes o → Telling (act c t o reading).said
 act-tells Submit t o reading k = hear-tells (sent_of t) (submit t) o reading k
 act-tells Finish t o reading k = tt
-act-tells Wait t o reading k = hear-tells Nothing t o reading k
+act-tells Wait t o reading k = hear-tells None t o reading k
 
 counted-by : (said : Said) (last : Bool) (x : Step) → Telling said → Telling (counted_by said last x).said
 counted-by Going true x p = other 9 (λ e. omega arith) (λ e. omega arith)
@@ -244,8 +244,8 @@ abbrev Tells : Step → Type 0
 Tells x = Telling x.said
 
 drained-tells : (t : Track) (reading : Reading) → Tells (drained t reading)
-drained-tells t Quiet = tt
-drained-tells t (Completed slot status) = guarded-by Tells _ _ _ (λ _. tt) (λ _. other 6 (λ e. omega arith) (λ e. omega arith))
+drained-tells t None = tt
+drained-tells t (Some c) = guarded-by Tells _ _ _ (λ _. tt) (λ _. other 6 (λ e. omega arith) (λ e. omega arith))
 
 played-tells : (t : Track) (reading : Reading) → Tells (counted_of (turn_of t.descriptors t (comes_to played_of reading) reading))
 played-tells t reading = counted-tells t.descriptors t _ reading (comes played_of played-comes reading)

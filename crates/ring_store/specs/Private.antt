@@ -1,12 +1,12 @@
 -- What the private functions promise, where the public definitions have no name for it: the steps between them.
 -- Assumes nothing.
-use Rattle.std.specs.Prelude.{List, ℕ, ◌+◌, ◌*◌, ltb, leb, length, replicate}
+use Rattle.std.specs.Prelude.{List, ℕ, ◌+◌, ◌*◌, ltb, leb, length, replicate, Some, None}
 use Rattle.std.proofs.lemmas.List.Edits.{sets}
 use Rattle.layout.specs.Rows.{rows_bytes}
 use Rattle.layout.specs.Lent.{Made, made}
 use Rattle.codes.specs.Says.{pick, guard}
 use Rattle.turns.specs.Ring.{blank_slot, said_word, is_refused}
-use Rattle.ring_store.specs.Types.{Slot, Track, Sent, Nothing, Period, Step}
+use Rattle.ring_store.specs.Types.{Slot, Track, Sent, Step}
 use Rattle.ring_store.specs.Store.{track_size, slot_size, side_place, ring_size, slot_bytes, track_bytes, side_bytes, ring_bytes}
 
 -- a track at its two places
@@ -18,8 +18,8 @@ abbrev pub slot_over : List ℕ → ℕ → Slot → List ℕ
 slot_over s slot x = pick (ltb slot 32) (sets s (track_size + slot * slot_size) (slot_bytes x)) s
 
 abbrev pub sent_over : List ℕ → Sent → List ℕ
-sent_over s Nothing = s
-sent_over s (Period slot offset len) = slot_over s slot (record { offset = offset; len = len })
+sent_over s None = s
+sent_over s (Some p) = slot_over s p.slot (record { offset = p.offset; len = p.len })
 
 abbrev pub blank_over : List ℕ → List ℕ
 blank_over s = sets s track_size (rows_bytes slot_bytes (replicate 32 blank_slot))

@@ -1,13 +1,13 @@
 -- The calls that look at a store, by what their code does.
 -- Assumes nothing.
-use Rattle.std.specs.Prelude.{◌≡◌, refl, Bool, true, false, ◌&&◌, List, [], ◌∷◌, ◌++◌, ℕ}
-use Rattle.std.proofs.Common.{sym, ap, ◌∙◌}
+use Rattle.std.specs.Prelude.{◌≡◌, refl, Bool, true, false, ◌&&◌, List, [], ℕ, ◌+◌, ◌*◌, ◌<◌, length, get_or, take}
+use Rattle.std.proofs.Common.{sym, ap, ◌∙◌, zero-add}
 use Rattle.std.proofs.lemmas.List.Edits.{sets}
 use Rattle.layout.specs.Bytes.{le}
-use Rattle.layout.specs.Layout.{write}
 use Rattle.layout.specs.Rows.{rows_bytes}
 use Rattle.layout.specs.Lent.{Shown, shown}
-use Rattle.layout.specs.ChainLaws.{Stored, stored}
+use Rattle.layout.specs.BytesLaws.{length-le}
+use Rattle.layout.specs.RowsLaws.{rows_bytes-more}
 use Rattle.codes.specs.Says.{Says, says, guard}
 use Rattle.codes.specs.SaysLaws.{passes, stops}
 use Rattle.turns.specs.Consistent.{consistent_of}
@@ -28,18 +28,17 @@ pub bare : (s r : List ℕ) (n : ℕ) (x : Says) → roomy_in s r ≡ true → s
 unfolding rows_bytes
 bare s r n x e p = roomy s r (says n []) x e p
 
--- values stored one after the other, 8 bytes each
-abbrev eights : List ℕ → List ℕ
-eights [] = []
-eights (v ∷ vs) = 8 ∷ eights vs
-
-words-written : (vs : List ℕ) → write (eights vs) vs ≡ words vs
+-- values stored one after the other, 8 bytes each: none, one more, all
+pub words-none : (r vs : List ℕ) → r ≡ sets r 0 (words (take 0 vs))
 unfolding rows_bytes
-words-written [] = refl
-words-written (v ∷ vs) = ap (λ (l : List ℕ). le 8 v ++ l) (words-written vs)
+words-none r vs = refl
 
-pub tells : (s r n vs : List ℕ) (x : Says) → roomy_in s r ≡ true → Stored n r 0 (eights vs) vs → says 0 vs ≡ x → shown 0 n ≡ told_in s r x
-tells s r n vs x e p q = ap (shown 0) (stored n r 0 (eights vs) vs p ∙ ap (sets r 0) (words-written vs)) ∙ roomy s r (says 0 vs) x e q
+pub words-more : (r vs r₁ r₂ : List ℕ) (n : ℕ) → n < length vs → r₁ ≡ sets r 0 (words (take n vs)) → r₂ ≡ sets r₁ (n * 8) (le 8 (get_or vs n 0)) → r₂ ≡ sets r 0 (words (take (n + 1) vs))
+words-more r vs r₁ r₂ n h e p =
+    rows_bytes-more (le 8) 8 (length-le 8) r 0 n vs 0 r₁ r₂ h e (p ∙ ap (λ (k : ℕ). sets r₁ k (le 8 (get_or vs n 0))) (sym (zero-add (n * 8))))
+
+pub tells : (s r n vs : List ℕ) (x : Says) → roomy_in s r ≡ true → n ≡ sets r 0 (words vs) → says 0 vs ≡ x → shown 0 n ≡ told_in s r x
+tells s r n vs x e p q = ap (shown 0) p ∙ roomy s r (says 0 vs) x e q
 
 -- ---- from what was told to what is said of the ring
 

@@ -1,6 +1,6 @@
 -- What a host sees, turn by turn, is the log: an offer while a transfer runs is what the turn sends, and an answer is what it says.
 -- Assumes nothing.
-use Rattle.std.specs.Prelude.{ℕ, zero, suc, ◌≤◌, ◌≡◌, refl, Bool, true, false, ◌&&◌, List, [], ◌∷◌, map, leb, eqb, length}
+use Rattle.std.specs.Prelude.{ℕ, zero, suc, ◌≤◌, ◌≡◌, refl, Bool, true, false, ◌&&◌, List, [], ◌∷◌, map, leb, eqb, length, Result, Ok, Err, Some, None}
 use Rattle.std.proofs.Common.{arith, ap, sym, ◌∙◌, subst, eq-eqb, ne_eqb, le-leb}
 use Rattle.std.proofs.lemmas.Bool.{false≢true}
 use Rattle.std.proofs.lemmas.List.Edits.{sets}
@@ -9,6 +9,7 @@ use Rattle.layout.specs.Lent.{shown, result_size}
 use Rattle.codes.specs.Says.{guard}
 use Rattle.codes.specs.SaysLaws.{passes, stops}
 use Rattle.codes.specs.AnswersLaws.{numbered}
+use Rattle.codes.specs.declared.answers.Refusal.{Refusal}
 use Rattle.turns.specs.Ring.{going, said_word, goes_on}
 use Rattle.turns.specs.Rules.{comes_to, played_of, choose_of}
 use Rattle.turns.specs.RefusalLaws.{turn-sent}
@@ -17,10 +18,7 @@ use Rattle.turns.specs.Calls.{turn_call, offer_by, offer_as, offer_call, says_se
 use Rattle.turns.specs.HostLaws.{Runs, admits, call-turns, runs_on}
 use Rattle.turns.specs.InPlace.{turn_words}
 use Rattle.turns.specs.Log.{Line, Ran, onward, loop_of, called, turn_by_turn}
-use Rattle.turns.specs.declared.calls.Offer.{Offer}
-use Rattle.turns.specs.declared.calls.Offer.TheVariants as offer
-use Rattle.turns.specs.declared.ring.Sent.{Sent}
-use Rattle.turns.specs.declared.ring.Sent.TheVariants.{Nothing, Period}
+use Rattle.turns.specs.Types.{Sent}
 use Rattle.turns.specs.declared.ring.Track.{Track}
 use Rattle.ring_store.specs.Types.{Ring, Said, Going, Done, Ended, Refused, Step, Reading}
 use Rattle.ring_store.specs.Store.{ring_size, track_at, ring_of}
@@ -30,25 +28,25 @@ use Rattle.ring_store.specs.Holds.{turn_holds}
 use Rattle.ring_store.specs.Sees.{SeenTurn, sees_in, seen_of}
 
 -- an offer while a transfer runs is what the turn sends
-offer-is : (len : ℕ) (t : Track) (reading : Reading) → Runs len t → offer_call t len ≡ offer.Is (turn_call t len reading).sent
+offer-is : (len : ℕ) (t : Track) (reading : Reading) → Runs len t → offer_call t len ≡ Ok (turn_call t len reading).sent
 unfolding offer_as
 offer-is len t reading r =
-    sym (admits false len t offer.Refused (offer.Is (offer_by (choose_of t.descriptors t) t)) r)
-    ∙ ap offer.Is (sym (turn-sent t.descriptors t (comes_to played_of reading) reading) ∙ ap (λ (s : Step). s.sent) (call-turns len t reading r))
+    sym (admits false len t Err (Ok (offer_by (choose_of t.descriptors t) t)) r)
+    ∙ ap Ok (sym (turn-sent t.descriptors t (comes_to played_of reading) reading) ∙ ap (λ (s : Step). s.sent) (call-turns len t reading r))
 
 both_true : (a b : Bool) → a ≡ true → b ≡ true → (a && b) ≡ true
 both_true a b p q = rw (p, q)
 
 number-zero : (res : List ℕ) (x : Sent) → shown (says_sent x).number (sets res 0 (words (says_sent x).values)) ≡ shown 0 (sets res 0 (words (says_sent x).values))
-number-zero res Nothing = refl
-number-zero res (Period slot offset l) = refl
+number-zero res None = refl
+number-zero res (Some p) = refl
 
 shown-as : (s res : List ℕ) (len : ℕ) (w : Words) → ring_size ≤ length s → result_size ≤ length res → Runs len (track_at s)
     → offer_in s len res ≡ shown 0 (sets res 0 (words (says_sent (turn_call (track_at s) len (reading_by w)).sent).values))
 unfolding told_in
 shown-as s res len w h k r =
     sym (passes _ _ _ (both_true (leb ring_size (length s)) (leb result_size (length res)) (le-leb _ _ h) (le-leb _ _ k)) refl)
-    ∙ ap (λ (o : Offer). let x = offer_word says_sent o in shown x.number (sets res 0 (words x.values))) (offer-is len (track_at s) (reading_by w) r)
+    ∙ ap (λ (o : Result Sent Refusal). let x = offer_word says_sent o in shown x.number (sets res 0 (words x.values))) (offer-is len (track_at s) (reading_by w) r)
     ∙ number-zero res (turn_call (track_at s) len (reading_by w)).sent
 
 never-going : (said : Said) → goes_on said ≡ false → said_word said ≡ going → ⊥

@@ -1,6 +1,6 @@
 -- A store written by place: a track or a slot over a store is the whole ring with that part new.
 -- Assumes nothing.
-use Rattle.std.specs.Prelude.{◌≡◌, refl, Bool, true, false, List, [], ◌∷◌, ◌++◌, ℕ, suc, ◌+◌, ◌*◌, ◌≤◌, ◌<◌, ltb, length, get_or, set, take, drop, replicate}
+use Rattle.std.specs.Prelude.{◌≡◌, refl, Bool, true, false, List, [], ◌∷◌, ◌++◌, ℕ, suc, ◌+◌, ◌*◌, ◌≤◌, ◌<◌, ltb, length, get_or, set, take, drop, replicate, Some, None}
 use Rattle.std.proofs.Common.{sym, ap, ◌∙◌, append_assoc, arith, zero-add, lt-ltb, le-ltb, ltb-true, ltb-false, length-append, length-take-le}
 use Rattle.std.proofs.Math.ListN.{get_or-eq_default}
 use Rattle.std.proofs.lemmas.List.{get_or-replicate}
@@ -8,15 +8,15 @@ use Rattle.std.proofs.lemmas.List.Edits.{sets}
 use Rattle.std.proofs.Math.Seq.{set_out}
 use Rattle.layout.specs.Bytes.{le, num_at, bytes_at, Bytes}
 use Rattle.layout.specs.Rows.{rows_bytes}
-use Rattle.layout.specs.LayoutLaws.{length-write, write_read}
+use Rattle.layout.specs.LayoutLaws.{length-write, write_read, inside}
 use Rattle.layout.specs.StoreLaws.{over, sets-but, sets_then}
 use Rattle.layout.specs.ChainLaws.{Got, Stored, got, stored}
 use Rattle.layout.specs.RowsLaws.{length-rows, length-rows_bytes, rows-at, rows_bytes-more, rows_split, rows-with, rows_same}
 use Rattle.codes.specs.SaysLaws.{picks, skips}
 use Rattle.turns.specs.Ring.{blank_slot}
 use Rattle.turns.specs.Calls.{carry}
-use Rattle.ring_store.specs.Types.{Slot, Track, Ring, Sent, Nothing, Period}
-use Rattle.ring_store.specs.Store.{track_size, slot_size, slots_size, side_place, track_row, track_values, side_row, track_of, track_at, slot_row, slot_bytes, slot_at, ring_of, ring_bytes, track_bytes, side_bytes}
+use Rattle.ring_store.specs.Types.{Slot, Track, Ring, Sent}
+use Rattle.ring_store.specs.Store.{track_size, slot_size, slots_size, side_place, track_row, track_values, side_row, track_of, track_at, slot_row, slot_bytes, slot_at, ring_of, ring_bytes, track_bytes, side_bytes, ring_size}
 use Rattle.ring_store.specs.Private.{track_over, slot_over, sent_over, blank_over}
 
 -- ---- one slot
@@ -90,8 +90,8 @@ slot-sent s t slot x b false e =
 
 -- WHAT A STEP LEAVES: its track, and then what it sent, over a store
 pub sent-over : (s : List ℕ) (t : Track) (sent : Sent) → Bytes s → sent_over (track_over s t) sent ≡ sets s 0 (ring_bytes (record { track = t; slots = carry (ring_of s).slots sent }))
-sent-over s t Nothing b = track-over s t b
-sent-over s t (Period slot offset len) b = slot-sent s t slot (record { offset = offset; len = len }) b (ltb slot 32) refl
+sent-over s t None b = track-over s t b
+sent-over s t (Some p) b = slot-sent s t p.slot (record { offset = p.offset; len = p.len }) b (ltb p.slot 32) refl
 
 -- ---- for the code
 
@@ -99,6 +99,11 @@ sent-over s t (Period slot offset len) b = slot-sent s t slot (record { offset =
 pub track-got : (s vs ws : List ℕ) (t : Track) → t ≡ track_of vs ws → Got s 0 track_row vs → Got s side_place side_row ws → t ≡ track_at s
 unfolding track_at
 track-got s vs ws t e g h = e ∙ (λ i. track_of (got s 0 track_row vs g i) (got s side_place side_row ws h i))
+
+-- a track is read in the store's own bytes alone
+pub track-front : (s : List ℕ) → track_at (take ring_size s) ≡ track_at s
+unfolding track_at
+track-front s = λ i. track_of (inside 0 ring_size 0 track_row s (omega arith) i) (inside side_place ring_size 0 side_row s (omega arith) i)
 
 -- a slot by its two stores
 pub slot-stored : (n s : List ℕ) (slot : ℕ) (x : Slot) → slot < 32 → Stored n s (track_size + slot * slot_size) slot_row (x.offset ∷ x.len ∷ []) → n ≡ slot_over s slot x

@@ -1,7 +1,7 @@
 -- 2026-11 ON THE BYTES: a start in a ring's store that goes on, and the host's turns after it, leave their trace at the front of the room. What stands behind it is as it was, the store tells how
 -- long the trace is, and the judge accepts it.
 -- Assumes nothing.
-use Rattle.std.specs.Prelude.{◌≡◌, refl, List, ◌++◌, map, ℕ, ◌+◌, ◌*◌, ◌≤◌, ◌<◌, ◌^◌, length, take, drop}
+use Rattle.std.specs.Prelude.{◌≡◌, refl, List, ◌++◌, map, ℕ, ◌+◌, ◌*◌, ◌≤◌, ◌<◌, ◌^◌, length, take, drop, Ok}
 use Rattle.std.proofs.Common.{sym, ◌∙◌, arith}
 use Rattle.std.proofs.Math.Path.{ap, subst}
 use Rattle.layout.specs.Bytes.{Bytes}
@@ -21,7 +21,6 @@ use Rattle.turns.specs.Cut.{cut}
 use Rattle.turns.specs.Asked.{NoFault, CompletesWithin, Idle, Whole}
 use Rattle.layout.specs.All.{All}
 use Rattle.ring_store.specs.Captures.{zero-done}
-use Rattle.trace.specs.declared.field.Judgement.TheVariants.{Accepted}
 use Rattle.ring_store.specs.Types.{Ring, Said, Going, Done, Ended, Refused, Step, Reading}
 use Rattle.ring_store.specs.Store.{ring_size, track_at, ring_of}
 use Rattle.ring_store.specs.Calls.{Caught, start_traced_in}
@@ -80,7 +79,7 @@ module _ (s room frames : List ℕ) (stream period budget : ℕ) (script : List 
         (k.0, ap (λ (a : Penned). a.room) held.0 ∙ k.1, ap (λ (a : Penned). a.ring.track.written) held.0 ∙ k.2)
 
     -- "so any our writer emits": the judge in the ring's own mode
-    pub trace-accepted : AllReal readings → let mode = (ring_of s).track.descriptors in judges mode mode (take (track_at ends.ring).written ends.lent) ≡ Accepted
+    pub trace-accepted : AllReal readings → let mode = (ring_of s).track.descriptors in judges mode mode (take (track_at ends.ring).written ends.lent) ≡ Ok tt
     unfolding ring_of
     trace-accepted real =
         let mode = (ring_of s).track.descriptors in

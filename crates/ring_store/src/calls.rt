@@ -9,16 +9,11 @@ ghost use Rattle.ring_store.specs.Private.{step_over, blank_in};
 
 use crate::store;
 use crate::store::SIZE;
-use turns::{Catch, Reading, Ring, Said, Step, Track};
-
-// What a call says of a store that is too short.
-pub(crate) const BAD_LENGTH: u64 = 10;
+use codes::words::{BAD_LENGTH, INVALID_PARAM};
+use turns::{Catch, Completion, Ring, Said, Step, Track};
 
 // What a turn says that goes on.
 const GOING: u64 = 512;
-
-// What a call says of a ring that is not consistent, and a turn where no transfer runs.
-pub(crate) const INVALID_PARAM: u64 = 1;
 
 fn word(said: Said) -> u64
     ensures { result ≡ said_word said }
@@ -34,17 +29,11 @@ fn word(said: Said) -> u64
 fn is_refused(said: Said) -> bool
     ensures { result ≡ is_refused said }
 {
-    match said {
-        Said::Going => false,
-        Said::Done => false,
-        Said::Ended(_) => false,
-        Said::Refused(_) => true,
-    }
+    matches!(said, Said::Refused(_))
 }
 
 // What a step leaves: the track, and the slot that was filled. A refusal changes nothing.
 fn leave(ring: &mut [u8], step: Step) -> u64
-    requires { ring_size ≤ length ring.old }
     ensures { made result ring.new ≡ step_over ring.old step }
 {
     let said = step.said;
@@ -94,11 +83,11 @@ pub fn turn(ring: &mut [u8], len: usize, kind: u32, slot: u32, status: u32) -> u
     if ring.len() < SIZE {
         return BAD_LENGTH;
     }
-    let t = store::get_track(ring);
+    let t = store::track(ring);
     if !t.running {
         return INVALID_PARAM;
     }
-    let reading = Reading::from_words(kind, slot, status);
+    let reading = Completion::from_words(kind, slot, status);
     let step = turns::turn_track(t, len, reading);
     leave(ring, step)
 }
@@ -110,8 +99,8 @@ pub fn drain_turn(ring: &mut [u8], kind: u32, slot: u32, status: u32) -> u64
     if ring.len() < SIZE {
         return BAD_LENGTH;
     }
-    let t = store::get_track(ring);
-    let reading = Reading::from_words(kind, slot, status);
+    let t = store::track(ring);
+    let reading = Completion::from_words(kind, slot, status);
     let step = turns::drain_track(t, reading);
     leave(ring, step)
 }
@@ -123,7 +112,7 @@ pub fn start(ring: &mut [u8], stream: u32, len: usize, period: usize, budget: u6
     if ring.len() < SIZE {
         return BAD_LENGTH;
     }
-    let t = store::get_track(ring);
+    let t = store::track(ring);
     let step = turns::start_track(t, stream, len, period, budget);
     leave(ring, step)
 }
@@ -143,7 +132,7 @@ pub fn start_traced(
     if ring.len() < SIZE {
         return BAD_LENGTH;
     }
-    let t = store::get_track(ring);
+    let t = store::track(ring);
     let step = turns::traced_start_track(t, stream, len, period, budget, room);
     leave(ring, step)
 }
@@ -162,8 +151,8 @@ pub fn turn_traced(
     if ring.len() < SIZE {
         return BAD_LENGTH;
     }
-    let t = store::get_track(ring);
-    let reading = Reading::from_words(kind, slot, status);
+    let t = store::track(ring);
+    let reading = Completion::from_words(kind, slot, status);
     let step = trace::turn_traced(t, len, room, reading);
     leave(ring, step)
 }
@@ -182,7 +171,7 @@ pub fn capture_turn(
     if ring.len() < SIZE {
         return BAD_LENGTH;
     }
-    let t = store::get_track(ring);
+    let t = store::track(ring);
     let c = Catch::from_words(kind, slot, written, bytes);
     let step = turns::capture_track(t, recording.len(), c);
     turns::copy(recording, t, step, bytes);
@@ -203,7 +192,7 @@ pub fn capture_start(
     if ring.len() < SIZE {
         return BAD_LENGTH;
     }
-    let t = store::get_track(ring);
+    let t = store::track(ring);
     let step = turns::capture_start_track(t, stream, periods, period, len, budget);
     leave(ring, step)
 }

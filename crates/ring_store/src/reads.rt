@@ -1,20 +1,21 @@
 // The calls that look at a ring in its store. What they tell stands in the result slice, 8 bytes a
 // value. A store or a result slice that is too short gets 10.
-ghost use Rattle.std.specs.Prelude.{◌≡◌, ◌&&◌, [], ◌∷◌, ltb};
+ghost use Rattle.std.specs.Prelude.{◌≡◌, ◌&&◌, [], ltb};
+ghost use Rattle.std.proofs.lemmas.List.Edits.{sets};
 ghost use Rattle.layout.specs.Lent.{shown};
 ghost use Rattle.codes.specs.Says.{says, guard};
 ghost use Rattle.codes.specs.Answers.{refusal_word};
 ghost use Rattle.turns.specs.Reads.{running_of, in_flight_of, free_of, turns_of, stream_of, kept_read, written_read, accepted_read, carried_of};
 ghost use Rattle.turns.specs.Consistent.{consistent_of};
 ghost use Rattle.ring_store.specs.Store.{track_at, ring_of};
-ghost use Rattle.ring_store.specs.Calls.{roomy_in, told_in, offer_in, says_room, capture_offer_in, oldest_says};
+ghost use Rattle.ring_store.specs.Calls.{words, roomy_in, told_in, offer_in, says_room, capture_offer_in, oldest_says};
 ghost use Rattle.turns.specs.Calls.{says_sent};
 
-use crate::calls::{BAD_LENGTH, INVALID_PARAM};
 use crate::store;
 use crate::store::SIZE;
 use codes::Refusal;
-use turns::{Offer, Sent};
+use codes::words::{BAD_LENGTH, INVALID_PARAM};
+use turns::Period;
 
 // The bytes that a result slice has at the least.
 const RESULT: usize = 512;
@@ -39,69 +40,37 @@ fn tell_refusal(ring: &[u8], refusal: Refusal, res: &mut [u8]) -> u64
     refusal.word()
 }
 
-fn tell_one(ring: &[u8], sound: bool, value: u64, res: &mut [u8]) -> u64
-    ensures { shown result res.new ≡ told_in ring.now res.old (guard sound (says 1 []) (says 0 (value ∷ []))) }
+// Values, 8 bytes each, from the start of the result on.
+fn put_values(values: &[u64], res: &mut [u8])
+    ensures { res.new ≡ sets res.old 0 (words values.now) }
 {
-    let room = roomy(ring, res);
-    if !room {
+    for (i, value) in values.iter().enumerate() {
+        layout::put_u64(res, i * 8, *value);
+    }
+}
+
+// The values that a call tells of a sound ring.
+fn tell(ring: &[u8], sound: bool, values: &[u64], res: &mut [u8]) -> u64
+    ensures { shown result res.new ≡ told_in ring.now res.old (guard sound (says 1 []) (says 0 values.now)) }
+{
+    if !roomy(ring, res) {
         return BAD_LENGTH;
     }
     if !sound {
         return INVALID_PARAM;
     }
-    layout::put_u64(res, 0, value);
+    put_values(values, res);
     0
 }
 
-fn tell_two(ring: &[u8], sound: bool, first: u64, second: u64, res: &mut [u8]) -> u64
-    ensures { shown result res.new ≡ told_in ring.now res.old (guard sound (says 1 []) (says 0 (first ∷ second ∷ []))) }
-{
-    let room = roomy(ring, res);
-    if !room {
-        return BAD_LENGTH;
-    }
-    if !sound {
-        return INVALID_PARAM;
-    }
-    layout::put_u64(res, 0, first);
-    layout::put_u64(res, 8, second);
-    0
-}
-
-fn tell_three(ring: &[u8], flag: u64, slot: u64, len: u64, res: &mut [u8]) -> u64
-    ensures { shown result res.new ≡ told_in ring.now res.old (says 0 (flag ∷ slot ∷ len ∷ [])) }
-{
-    let room = roomy(ring, res);
-    if !room {
-        return BAD_LENGTH;
-    }
-    layout::put_u64(res, 0, flag);
-    layout::put_u64(res, 8, slot);
-    layout::put_u64(res, 16, len);
-    0
-}
-
-fn tell_four(ring: &[u8], flag: u64, slot: u64, offset: u64, len: u64, res: &mut [u8]) -> u64
-    ensures { shown result res.new ≡ told_in ring.now res.old (says 0 (flag ∷ slot ∷ offset ∷ len ∷ [])) }
-{
-    let room = roomy(ring, res);
-    if !room {
-        return BAD_LENGTH;
-    }
-    layout::put_u64(res, 0, flag);
-    layout::put_u64(res, 8, slot);
-    layout::put_u64(res, 16, offset);
-    layout::put_u64(res, 24, len);
-    0
-}
-
-fn tell_sent(ring: &[u8], sent: Sent, res: &mut [u8]) -> u64
+fn tell_sent(ring: &[u8], sent: Option<Period>, res: &mut [u8]) -> u64
     ensures { shown result res.new ≡ told_in ring.now res.old (says_sent sent) }
 {
     match sent {
-        Sent::Nothing => tell_four(ring, 0, 0, 0, 0, res),
-        Sent::Period { slot, offset, len } => {
-            tell_four(ring, 1, slot as u64, offset as u64, len as u64, res)
+        None => tell(ring, true, &[0, 0, 0, 0], res),
+        Some(p) => {
+            let values = [1, p.slot as u64, p.offset as u64, p.len as u64];
+            tell(ring, true, &values, res)
         }
     }
 }
@@ -114,25 +83,21 @@ pub fn offered(ring: &[u8], len: usize, res: &mut [u8]) -> u64
     if !roomy(ring, res) {
         return BAD_LENGTH;
     }
-    let t = store::get_track(ring);
+    let t = store::track(ring);
     let offer = turns::offer_track(t, len);
     match offer {
-        Offer::Is(sent) => tell_sent(ring, sent, res),
-        Offer::Refused(refusal) => tell_refusal(ring, refusal, res),
+        Ok(sent) => tell_sent(ring, sent, res),
+        Err(refusal) => tell_refusal(ring, refusal, res),
     }
 }
 
 // A capture's period has no place in the recording yet.
-fn tell_room(ring: &[u8], sent: Sent, res: &mut [u8]) -> u64
+fn tell_room(ring: &[u8], sent: Option<Period>, res: &mut [u8]) -> u64
     ensures { shown result res.new ≡ told_in ring.now res.old (says_room sent) }
 {
     match sent {
-        Sent::Nothing => tell_three(ring, 0, 0, 0, res),
-        Sent::Period {
-            slot,
-            offset: _,
-            len,
-        } => { tell_three(ring, 1, slot as u64, len as u64, res) }
+        None => tell(ring, true, &[0, 0, 0], res),
+        Some(p) => tell(ring, true, &[1, p.slot as u64, p.len as u64], res),
     }
 }
 
@@ -144,11 +109,11 @@ pub fn capture_offered(ring: &[u8], len: usize, res: &mut [u8]) -> u64
     if !roomy(ring, res) {
         return BAD_LENGTH;
     }
-    let t = store::get_track(ring);
+    let t = store::track(ring);
     let offer = turns::capture_offer(t, len);
     match offer {
-        Offer::Is(sent) => tell_room(ring, sent, res),
-        Offer::Refused(refusal) => tell_refusal(ring, refusal, res),
+        Ok(sent) => tell_room(ring, sent, res),
+        Err(refusal) => tell_refusal(ring, refusal, res),
     }
 }
 
@@ -159,15 +124,16 @@ pub fn running(ring: &[u8], res: &mut [u8]) -> u64
     let t = store::track(ring);
     let sound = turns::is_consistent(t);
     let flag = store::flag_of(t.running);
-    tell_one(ring, sound, flag as u64, res)
+    tell(ring, sound, &[flag as u64], res)
 }
 
+// Slots in flight. This read and those below are one for each name of C.
 pub fn in_flight(ring: &[u8], res: &mut [u8]) -> u64
     ensures { shown result res.new ≡ told_in ring.now res.old (in_flight_of (track_at ring.now)) }
 {
     let t = store::track(ring);
     let sound = turns::is_consistent(t);
-    tell_one(ring, sound, t.inflight as u64, res)
+    tell(ring, sound, &[t.inflight as u64], res)
 }
 
 // The difference is made only of a consistent ring, where it cannot fall below 0.
@@ -177,10 +143,10 @@ pub fn free_descriptors(ring: &[u8], res: &mut [u8]) -> u64
     let t = store::track(ring);
     let sound = turns::is_consistent(t);
     if !sound {
-        return tell_one(ring, false, 0, res);
+        return tell(ring, false, &[0], res);
     }
     let free = 32 - t.inflight * t.descriptors;
-    tell_one(ring, true, free as u64, res)
+    tell(ring, true, &[free as u64], res)
 }
 
 // Turns run in the transfer that runs, or in the last one that ran.
@@ -189,7 +155,7 @@ pub fn turns_run(ring: &[u8], res: &mut [u8]) -> u64
 {
     let t = store::track(ring);
     let sound = turns::is_consistent(t);
-    tell_one(ring, sound, t.turns, res)
+    tell(ring, sound, &[t.turns], res)
 }
 
 pub fn stream(ring: &[u8], res: &mut [u8]) -> u64
@@ -197,7 +163,7 @@ pub fn stream(ring: &[u8], res: &mut [u8]) -> u64
 {
     let t = store::track(ring);
     let sound = turns::is_consistent(t);
-    tell_one(ring, sound, t.stream as u64, res)
+    tell(ring, sound, &[t.stream as u64], res)
 }
 
 // The bytes of its recording that a capture accepted, the one that runs or the last one that ran.
@@ -206,7 +172,7 @@ pub fn kept(ring: &[u8], res: &mut [u8]) -> u64
 {
     let t = store::track(ring);
     let sound = turns::is_consistent(t);
-    tell_one(ring, sound, t.kept as u64, res)
+    tell(ring, sound, &[t.kept as u64], res)
 }
 
 // How long the trace is of the transfer that runs or ran last; 0 where it writes none.
@@ -215,7 +181,7 @@ pub fn trace_length(ring: &[u8], res: &mut [u8]) -> u64
 {
     let t = store::track(ring);
     let sound = turns::is_consistent(t);
-    tell_one(ring, sound, t.written as u64, res)
+    tell(ring, sound, &[t.written as u64], res)
 }
 
 // The good completions of the transfer that runs, or of the last one that ran.
@@ -224,7 +190,7 @@ pub fn accepted(ring: &[u8], res: &mut [u8]) -> u64
 {
     let t = store::track(ring);
     let sound = turns::is_consistent(t);
-    tell_one(ring, sound, t.good, res)
+    tell(ring, sound, &[t.good], res)
 }
 
 // A slot of a consistent ring.
@@ -245,7 +211,7 @@ pub fn carried(ring: &[u8], slot: usize, res: &mut [u8]) -> u64
 {
     let sound = is_slot(ring, slot);
     let found = store::get_slot(ring, slot);
-    tell_two(ring, sound, found.offset as u64, found.len as u64, res)
+    tell(ring, sound, &[found.offset as u64, found.len as u64], res)
 }
 
 // The oldest in flight, which the next completion must name: 1 and its slot, or 0 twice.
@@ -255,7 +221,7 @@ pub fn oldest(ring: &[u8], res: &mut [u8]) -> u64
     let t = store::track(ring);
     let sound = turns::is_consistent(t);
     if t.inflight == 0 {
-        return tell_two(ring, sound, 0, 0, res);
+        return tell(ring, sound, &[0, 0], res);
     }
-    tell_two(ring, sound, 1, t.tail as u64, res)
+    tell(ring, sound, &[1, t.tail as u64], res)
 }

@@ -1,7 +1,7 @@
 -- The checks of a transfer: "Busy (8), set-up, stream range (1), parameters set (2)"; under the guard "12 BadState, right after the stream range check"; a
 -- capture's "stream direction not 1 gives 1, after the range check".
 -- Assumes nothing.
-use Rattle.std.specs.Prelude.{ℕ, Bool, not, ◌&&◌, [], ◌∷◌, ◌==◌, nat_lt}
+use Rattle.std.specs.Prelude.{ℕ, Bool, not, ◌&&◌, [], ◌∷◌, ◌==◌, nat_lt, Result, Ok, Err}
 use Rattle.codes.specs.Says.{Says, says, guard}
 use Rattle.codes.specs.Answers.{says_refusal}
 use Rattle.codes.specs.Life.{takes_of}
@@ -9,7 +9,7 @@ use Rattle.turns.specs.Calls.{idle_of}
 use Rattle.turns.specs.Consistent as ring
 use Rattle.sound_core.specs.Consistent.{consistent_of, stream_ok, held_to, faced}
 use Rattle.sound_core.specs.Plan.{is_idle}
-use Rattle.sound_core.specs.Types.{NoStatus, Refusal, InvalidParam, IoError, Busy, BadLength, BadState, Track, Core, Params, Gate, Shut, SetUp, Open}
+use Rattle.sound_core.specs.Types.{NoStatus, Refusal, InvalidParam, IoError, Busy, BadLength, BadState, Track, Core, Params, Gate, SetUp, Open}
 
 -- what is left of the checks once state and ring are at rest: set-up, range, where the stream is in its lifecycle, a capture's direction, parameters
 abbrev pub rest_by : {A : Type 0} → Bool → Core → Params → ℕ → ℕ → ℕ → (Refusal → A) → A → (ℕ → A) → A
@@ -31,8 +31,12 @@ gate_by capture lengths clear c p life direction t stream refuse set_up go =
     (guard (is_idle c.stage && (idle_of t && clear)) (refuse Busy)
     (rest_by capture c p life direction stream refuse set_up go)))
 
+-- the checks themselves: a refusal, or set-up first, or a transfer by periods
+abbrev pub gate_of : Bool → Bool → Bool → Core → Params → ℕ → ℕ → Track → ℕ → Result Gate Refusal
+gate_of capture lengths clear c p life direction t stream = gate_by capture lengths clear c p life direction t stream Err (Ok SetUp) (λ (period : ℕ). Ok (Open period))
+
 -- its number and values: a refusal's own; where set-up goes first, a request is sent, as for a call; else 0 and the period
-abbrev pub says_gate : Gate → Says
-says_gate (Shut r) = says_refusal r
-says_gate SetUp = says 256 []
-says_gate (Open period) = says 0 (period ∷ [])
+abbrev pub says_gate : Result Gate Refusal → Says
+says_gate (Err r) = says_refusal r
+says_gate (Ok SetUp) = says 256 []
+says_gate (Ok (Open period)) = says 0 (period ∷ [])

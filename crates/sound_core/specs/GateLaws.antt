@@ -1,6 +1,6 @@
 -- The checks of a transfer, in numbers and values: the same tests in the same order, over what each end says.
 -- Assumes nothing.
-use Rattle.std.specs.Prelude.{◌≡◌, ℕ, Bool, true, false, [], ◌∷◌, ◌==◌}
+use Rattle.std.specs.Prelude.{◌≡◌, ℕ, Bool, true, false, [], ◌∷◌, ◌==◌, Ok}
 use Rattle.std.specs.Prelude.{refl}
 use Rattle.std.proofs.Common.{sym, ap, ◌∙◌}
 use Rattle.std.proofs.lemmas.Bool.{false≢true}
@@ -8,8 +8,8 @@ use Rattle.codes.specs.Says.{says, guard}
 use Rattle.codes.specs.SaysLaws.{guard-ap, guarded-by, passes, stops}
 use Rattle.codes.specs.Answers.{says_refusal}
 use Rattle.sound_core.specs.Consistent.{held_to, faced}
-use Rattle.sound_core.specs.Gate.{gate_by, says_gate}
-use Rattle.sound_core.specs.Types.{Track, Core, Params, Shut, SetUp, Open}
+use Rattle.sound_core.specs.Gate.{gate_by, gate_of, says_gate}
+use Rattle.sound_core.specs.Types.{Track, Core, Params, SetUp}
 
 -- ---- a capture's direction, as a test: the same four laws as a guard's
 
@@ -30,7 +30,7 @@ faced-by P true d a b f g = guarded-by P _ a b f (λ _. g)
 faced-by P false d a b f g = f refl
 
 pub gate-says : (capture lengths clear : Bool) (c : Core) (p : Params) (life direction : ℕ) (t : Track) (stream : ℕ)
-    → says_gate (gate_by capture lengths clear c p life direction t stream Shut SetUp Open) ≡ gate_by capture lengths clear c p life direction t stream says_refusal (says_gate SetUp) (λ (n : ℕ). says 0 (n ∷ []))
+    → says_gate (gate_of capture lengths clear c p life direction t stream) ≡ gate_by capture lengths clear c p life direction t stream says_refusal (says_gate (Ok SetUp)) (λ (n : ℕ). says 0 (n ∷ []))
 gate-says capture lengths clear c p life direction t stream =
     guard-ap says_gate _ _ _
     ∙ ap (guard _ _) (guard-ap says_gate _ _ _

@@ -1,13 +1,13 @@
 -- Decide, then do: what a call or an answer leads to is decided on the core and on what one look into a table found, and has one effect on the tables or the parameters.
 -- Assumes nothing.
-use Rattle.std.specs.Prelude.{ℕ, Bool, true, false, not, ◌&&◌, List, ◌==◌, nat_lt}
+use Rattle.std.specs.Prelude.{ℕ, Bool, true, false, not, ◌&&◌, List, ◌==◌, nat_lt, Err, Ok, Result}
 use Rattle.records.specs.Records.{jack_info, pcm_info, channel_map}
 use Rattle.layout.specs.Layout.{size}
 use Rattle.codes.specs.Says.{pick, guard}
 use Rattle.codes.specs.Flags.{has_bit, remap_feature}
 use Rattle.codes.specs.Life.{permits_of, takes_of}
 use Rattle.tables.specs.Tables.{judged, is_good, refused_by}
-use Rattle.tables.specs.declared.verdict.Verdict.TheVariants as verdict
+use Rattle.tables.specs.declared.verdict.Fault.TheVariants as fault
 use Rattle.turns.specs.Calls.{idle_of}
 use Rattle.turns.specs.Consistent as ring
 use Rattle.sound_core.specs.State.{none, with_stage}
@@ -15,25 +15,25 @@ use Rattle.sound_core.specs.Consistent.{period_ok, call_ok, held_to, faced, cons
 use Rattle.sound_core.specs.declared.plan.Request.TheVariants as request
 use Rattle.sound_core.specs.declared.plan.Value.TheVariants as value
 use Rattle.sound_core.specs.declared.plan.Look.TheVariants as look
-use Rattle.sound_core.specs.Types.{Written, Cause, NoStatus, Status, Refusal, InvalidParam, IoError, Unsupported, NoInfo, TooMany, Busy, BadLength, BadState, SetParameters, Verdict, Track, Counts, Params, Kind, Prepare, Release, Start, Stop, Call, SetParams, Command, Remap, Streams, Supported, Xfer, Capture, Stage, Idle, JacksAsked, StreamsAsked, MapsAsked, Sent, Core, Request, Value, Look, Say, Send, Done, Refused, Effect, Nothing, FillJacks, FillStreams, FillMaps, Store, Move, Plan}
+use Rattle.sound_core.specs.Types.{Written, Cause, NoStatus, Status, Refusal, InvalidParam, IoError, Unsupported, NoInfo, TooMany, Busy, BadLength, BadState, SetParameters, Verdict, Track, Counts, Params, Kind, Prepare, Release, Start, Stop, Call, SetParams, Command, Remap, Streams, Supported, Xfer, Capture, Stage, Idle, JacksAsked, StreamsAsked, MapsAsked, Sent, Core, Request, Value, Look, Say, Send, Done, Effect, Nothing, FillJacks, FillStreams, FillMaps, Store, Move, Plan}
 
 -- ---- four ways to go on
 
 -- the request goes out, and the core waits for its answer
 abbrev pub send_of : Core → Stage → Request → Effect → Plan
-send_of c g q e = record { core = with_stage c g; say = Send q; effect = e }
+send_of c g q e = record { core = with_stage c g; say = Ok (Send q); effect = e }
 
 -- the call has its result
-abbrev pub end_of : Core → Say → Effect → Plan
+abbrev pub end_of : Core → Result Say Refusal → Effect → Plan
 end_of c a e = record { core = with_stage c Idle; say = a; effect = e }
 
 -- refused with nothing changed
 abbrev pub refuse_of : Core → Refusal → Plan
-refuse_of c r = record { core = c; say = Refused r; effect = Nothing }
+refuse_of c r = record { core = c; say = Err r; effect = Nothing }
 
 -- "A set-up cut short leaves all three tables empty, and the next call begins it again."
 abbrev pub cut_short_of : Core → Refusal → Plan
-cut_short_of c r = record { core = record { counts = c.counts; guard = c.guard; read = none; ready = false; stage = Idle }; say = Refused r; effect = Nothing }
+cut_short_of c r = record { core = record { counts = c.counts; guard = c.guard; read = none; ready = false; stage = Idle }; say = Err r; effect = Nothing }
 
 -- ---- requests
 
@@ -103,7 +103,7 @@ direction_in (look.Directed l direction) = direction
 -- ---- THE CALL'S OWN PART, once set-up is done: "the call's own checks in the order written here"
 
 abbrev pub refusing : Core → Refusal → Plan
-refusing c r = end_of c (Refused r) Nothing
+refusing c r = end_of c (Err r) Nothing
 
 -- "12 BadState, right after the stream range check": what the lifecycle's table does not permit is not sent, under the guard
 unfoldable pub own_set : Core → ℕ → Params → Look → Plan
@@ -130,7 +130,7 @@ own_remap c jack association sequence look =
 
 -- "stream too high 1, else the stored bits"
 unfoldable pub own_supported : Core → ℕ → Look → Plan
-own_supported c stream look = guard (nat_lt stream c.counts.streams) (refusing c InvalidParam) (end_of c (Done (found_of look)) Nothing)
+own_supported c stream look = guard (nat_lt stream c.counts.streams) (refusing c InvalidParam) (end_of c (Ok (Done (found_of look))) Nothing)
 
 -- a transfer that had to begin set-up, a capture or a playback: in a state that calls left no stream has parameters yet (`Kept`), so it never runs
 unfoldable pub own_xfer : Bool → Core → ℕ → Look → Plan
@@ -144,7 +144,7 @@ abbrev pub own_of : Core → Call → Look → Plan
 own_of c (SetParams stream to) look = own_set c stream to look
 own_of c (Command kind stream) look = own_command c kind stream look
 own_of c (Remap jack association sequence) look = own_remap c jack association sequence look
-own_of c (Streams direction) look = end_of c (Done (value.Streams direction)) Nothing
+own_of c (Streams direction) look = end_of c (Ok (Done (value.Streams direction))) Nothing
 own_of c (Supported field stream) look = own_supported c stream look
 own_of c (Xfer stream) look = own_xfer false c stream look
 own_of c (Capture stream) look = own_xfer true c stream look
@@ -174,15 +174,15 @@ begin_of c t call look =
 
 -- "2 and 3 .. carry the status that caused them, or none": the header's word, where that is not ok
 abbrev pub cause_of : Verdict → Cause
-cause_of verdict.Good = NoStatus
-cause_of (verdict.Status word) = Status word
-cause_of (verdict.Refused r) = NoStatus
+cause_of (Ok _) = NoStatus
+cause_of (Err (fault.Status word)) = Status word
+cause_of (Err (fault.Refused r)) = NoStatus
 
 -- `status` is what a status that is not ok says to the call
 abbrev pub refusal_of : Refusal → Verdict → Refusal
-refusal_of status verdict.Good = status
-refusal_of status (verdict.Status word) = status
-refusal_of status (verdict.Refused r) = r
+refusal_of status (Ok _) = status
+refusal_of status (Err (fault.Status word)) = status
+refusal_of status (Err (fault.Refused r)) = r
 
 -- the core once the jacks, the streams, the maps are read
 abbrev pub read_to : Core → ℕ → ℕ → ℕ → Bool → Core
@@ -242,7 +242,7 @@ status_refusal (Xfer stream) cause = IoError cause
 status_refusal (Capture stream) cause = IoError cause
 
 unfoldable pub after_sent : Core → Call → Verdict → Plan
-after_sent c call v = guard (is_good v) (refusing c (refusal_of (status_refusal call (cause_of v)) v)) (end_of c (Done value.Nothing) (effect_of call))
+after_sent c call v = guard (is_good v) (refusing c (refusal_of (status_refusal call (cause_of v)) v)) (end_of c (Ok (Done value.Nothing)) (effect_of call))
 
 abbrev pub answer_by : Stage → Core → Verdict → Look → Plan
 answer_by Idle c v look = refuse_of c InvalidParam

@@ -55,20 +55,8 @@ pub(crate) fn call_ok(call: Call) -> bool
     ensures { result ≡ call_ok call }
 {
     match call {
-        Call::SetParams { stream: _, to } => numbers_ok(to),
-        Call::Command { kind: _, stream: _ } => true,
-        Call::Remap {
-            jack: _,
-            association: _,
-            sequence: _,
-        } => true,
-        Call::Streams { direction: _ } => true,
-        Call::Supported {
-            field: _,
-            stream: _,
-        } => true,
-        Call::Xfer { stream: _ } => true,
-        Call::Capture { stream: _ } => true,
+        Call::SetParams { to, .. } => numbers_ok(to),
+        _ => true,
     }
 }
 
@@ -85,19 +73,9 @@ fn sent_ok(guard: bool, call: Call, streams: u32) -> bool
 {
     match call {
         Call::SetParams { stream, to } => set_ok(stream, to, streams),
-        Call::Command { kind: _, stream } => held_to(guard, stream < streams),
-        Call::Remap {
-            jack: _,
-            association: _,
-            sequence: _,
-        } => true,
-        Call::Streams { direction: _ } => false,
-        Call::Supported {
-            field: _,
-            stream: _,
-        } => false,
-        Call::Xfer { stream: _ } => false,
-        Call::Capture { stream: _ } => false,
+        Call::Command { stream, .. } => held_to(guard, stream < streams),
+        Call::Remap { .. } => true,
+        _ => false,
     }
 }
 
@@ -106,9 +84,9 @@ fn stage_ok(guard: bool, g: Stage, streams: u32) -> bool
 {
     match g {
         Stage::Idle => true,
-        Stage::JacksAsked(call) => call_ok(call),
-        Stage::StreamsAsked(call) => call_ok(call),
-        Stage::MapsAsked(call) => call_ok(call),
+        Stage::JacksAsked(call) | Stage::StreamsAsked(call) | Stage::MapsAsked(call) => {
+            call_ok(call)
+        }
         Stage::Sent(call) => sent_ok(guard, call, streams),
     }
 }

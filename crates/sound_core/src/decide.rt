@@ -5,7 +5,7 @@ ghost use Rattle.layout.specs.Layout.{size};
 ghost use Rattle.codes.specs.Says.{pick};
 ghost use Rattle.codes.specs.Life.{permits_of};
 ghost use Rattle.sound_core.specs.Consistent.{held_to};
-ghost use Rattle.sound_core.specs.Plan.{send_of, end_of, refuse_of, cut_short_of, query_of, kind_code, kind_life, set_of, life_in, direction_in, own_set, own_command, own_remap, own_supported, own_xfer, own_of, is_idle, set_up_of, begin_of, refusal_of, after_jacks, after_streams, after_maps, stored_of, effect_of, after_sent, answer_by, answer_of, can_remap, found_of, cause_of, status_refusal};
+ghost use Rattle.sound_core.specs.Plan.{send_of, end_of, refusing, refuse_of, cut_short_of, query_of, kind_code, kind_life, set_of, life_in, direction_in, own_set, own_command, own_remap, own_supported, own_xfer, own_of, is_idle, set_up_of, begin_of, refusal_of, after_jacks, after_streams, after_maps, stored_of, effect_of, after_sent, answer_by, answer_of, can_remap, found_of, cause_of, status_refusal};
 ghost use Rattle.sound_core.specs.declared.state.Stage.TheVariants.{JacksAsked};
 ghost use Rattle.sound_core.specs.declared.plan.Effect.TheVariants as done;
 
@@ -14,15 +14,10 @@ use crate::plan::{Effect, Look, Plan, Request, Say, Value};
 use crate::state::{Call, Core, Counts, Kind, Params, Stage};
 use codes::{Cause, JackFeatures, Refusal, both, life};
 use records::{ChannelMap, JackInfo, PcmCommand, PcmInfo, Query, Remap, SetParameters};
-use tables::{Verdict, is_good, refused_by};
+use tables::{Fault, Verdict, is_good, refused_by};
 use turns::{Track, is_consistent, is_idle};
 
-// The refusals by number that a page may have, whatever was asked.
-const TOO_MANY: u32 = 5;
-
-const BAD_LENGTH: u32 = 10;
-
-// ---- four ways to go on
+// ---- the ways to go on
 
 // The request goes out, and the core waits for its answer.
 fn send(c: Core, stage: Stage, q: Request, effect: Effect) -> Plan
@@ -30,13 +25,13 @@ fn send(c: Core, stage: Stage, q: Request, effect: Effect) -> Plan
 {
     Plan {
         core: Core { stage, ..c },
-        say: Say::Send(q),
+        say: Ok(Say::Send(q)),
         effect,
     }
 }
 
 // The call has its result.
-fn end(c: Core, say: Say, effect: Effect) -> Plan
+fn end(c: Core, say: Result<Say, Refusal>, effect: Effect) -> Plan
     ensures { result ≡ end_of c say effect }
 {
     Plan {
@@ -49,13 +44,20 @@ fn end(c: Core, say: Say, effect: Effect) -> Plan
     }
 }
 
+// The call is refused, and is over.
+fn end_refused(c: Core, refusal: Refusal) -> Plan
+    ensures { result ≡ refusing c refusal }
+{
+    end(c, Err(refusal), Effect::Nothing)
+}
+
 // Refused, with nothing changed.
 fn refuse(c: Core, refusal: Refusal) -> Plan
     ensures { result ≡ refuse_of c refusal }
 {
     Plan {
         core: c,
-        say: Say::Refused(refusal),
+        say: Err(refusal),
         effect: Effect::Nothing,
     }
 }
@@ -76,7 +78,7 @@ fn cut_short(c: Core, refusal: Refusal) -> Plan
     };
     Plan {
         core,
-        say: Say::Refused(refusal),
+        say: Err(refusal),
         effect: Effect::Nothing,
     }
 }
@@ -95,6 +97,7 @@ fn query(code: u32, count: u32, size: u32) -> Request
     })
 }
 
+// The code of a command's request. Its twin below is alike in shape alone.
 fn kind_code(kind: Kind) -> u32
     ensures { result ≡ kind_code kind }
 {
@@ -141,11 +144,8 @@ fn life_in(look: Look) -> u8
     ensures { result ≡ life_in look }
 {
     match look {
-        Look::Nothing => 5,
-        Look::Jack { features: _ } => 5,
-        Look::Stream(_) => 5,
-        Look::Life(life) => life,
-        Look::Directed { life, direction: _ } => life,
+        Look::Life(life) | Look::Directed { life, .. } => life,
+        _ => 5,
     }
 }
 
@@ -154,11 +154,8 @@ fn direction_in(look: Look) -> u8
     ensures { result ≡ direction_in look }
 {
     match look {
-        Look::Nothing => 2,
-        Look::Jack { features: _ } => 2,
-        Look::Stream(_) => 2,
-        Look::Life(_) => 2,
-        Look::Directed { life: _, direction } => direction,
+        Look::Directed { direction, .. } => direction,
+        _ => 2,
     }
 }
 
@@ -174,14 +171,14 @@ fn own_set(c: Core, stream: u32, to: Params, look: Look) -> Plan
 {
     let permitted = may(c.guard, look, life::SET_PARAMETERS);
     if !period_ok(to.buffer, to.period) {
-        return end(c, Say::Refused(Refusal::InvalidParam), Effect::Nothing);
+        return end_refused(c, Refusal::InvalidParam);
     }
     let streams = c.counts.streams;
     if streams <= stream {
-        return end(c, Say::Refused(Refusal::InvalidParam), Effect::Nothing);
+        return end_refused(c, Refusal::InvalidParam);
     }
     if !permitted {
-        return end(c, Say::Refused(Refusal::BadState), Effect::Nothing);
+        return end_refused(c, Refusal::BadState);
     }
     let q = Request::Set(set_parameters(stream, to));
     let sent = Stage::Sent(Call::SetParams { stream, to });
@@ -194,10 +191,10 @@ fn own_command(c: Core, kind: Kind, stream: u32, look: Look) -> Plan
     let there = held_to(c.guard, stream < c.counts.streams);
     let permitted = may(c.guard, look, kind_life(kind));
     if !there {
-        return end(c, Say::Refused(Refusal::InvalidParam), Effect::Nothing);
+        return end_refused(c, Refusal::InvalidParam);
     }
     if !permitted {
-        return end(c, Say::Refused(Refusal::BadState), Effect::Nothing);
+        return end_refused(c, Refusal::BadState);
     }
     let q = Request::Command(PcmCommand {
         code: kind_code(kind),
@@ -215,14 +212,8 @@ fn can_remap(look: Look) -> bool
     ensures { result ≡ can_remap look }
 {
     match look {
-        Look::Nothing => false,
         Look::Jack { features } => JackFeatures::from_bits_retain(features).has_remap(),
-        Look::Stream(_) => false,
-        Look::Life(_) => false,
-        Look::Directed {
-            life: _,
-            direction: _,
-        } => false,
+        _ => false,
     }
 }
 
@@ -230,17 +221,13 @@ fn own_remap(c: Core, jack: u32, association: u32, sequence: u32, look: Look) ->
     ensures { result ≡ own_remap c jack association sequence look }
 {
     if c.counts.jacks <= jack {
-        return end(c, Say::Refused(Refusal::InvalidParam), Effect::Nothing);
+        return end_refused(c, Refusal::InvalidParam);
     }
     if c.read.jacks == 0 {
-        return end(c, Say::Refused(Refusal::NoInfo), Effect::Nothing);
+        return end_refused(c, Refusal::NoInfo);
     }
     if !can_remap(look) {
-        return end(
-            c,
-            Say::Refused(Refusal::Unsupported(Cause::NoStatus)),
-            Effect::Nothing,
-        );
+        return end_refused(c, Refusal::Unsupported(Cause::NoStatus));
     }
     let call = Call::Remap {
         jack,
@@ -260,14 +247,8 @@ fn found(look: Look) -> Value
     ensures { result ≡ found_of look }
 {
     match look {
-        Look::Nothing => Value::Nothing,
-        Look::Jack { features: _ } => Value::Nothing,
         Look::Stream(value) => value,
-        Look::Life(_) => Value::Nothing,
-        Look::Directed {
-            life: _,
-            direction: _,
-        } => Value::Nothing,
+        _ => Value::Nothing,
     }
 }
 
@@ -275,9 +256,9 @@ fn own_supported(c: Core, stream: u32, look: Look) -> Plan
     ensures { result ≡ own_supported c stream look }
 {
     if c.counts.streams <= stream {
-        return end(c, Say::Refused(Refusal::InvalidParam), Effect::Nothing);
+        return end_refused(c, Refusal::InvalidParam);
     }
-    end(c, Say::Done(found(look)), Effect::Nothing)
+    end(c, Ok(Say::Done(found(look))), Effect::Nothing)
 }
 
 // A transfer that had to begin set-up never runs: in a state that calls left no stream has
@@ -288,19 +269,15 @@ fn own_xfer(capture: bool, c: Core, stream: u32, look: Look) -> Plan
     let taken = held_to(c.guard, life::takes(life_in(look)));
     let faces = held_to(capture, direction_in(look) == 1);
     if c.counts.streams <= stream {
-        return end(c, Say::Refused(Refusal::InvalidParam), Effect::Nothing);
+        return end_refused(c, Refusal::InvalidParam);
     }
     if !taken {
-        return end(c, Say::Refused(Refusal::BadState), Effect::Nothing);
+        return end_refused(c, Refusal::BadState);
     }
     if !faces {
-        return end(c, Say::Refused(Refusal::InvalidParam), Effect::Nothing);
+        return end_refused(c, Refusal::InvalidParam);
     }
-    end(
-        c,
-        Say::Refused(Refusal::IoError(Cause::NoStatus)),
-        Effect::Nothing,
-    )
+    end_refused(c, Refusal::IoError(Cause::NoStatus))
 }
 
 fn own(c: Core, call: Call, look: Look) -> Plan
@@ -315,9 +292,13 @@ fn own(c: Core, call: Call, look: Look) -> Plan
             sequence,
         } => own_remap(c, jack, association, sequence, look),
         Call::Streams { direction } => {
-            end(c, Say::Done(Value::Streams { direction }), Effect::Nothing)
+            end(
+                c,
+                Ok(Say::Done(Value::Streams { direction })),
+                Effect::Nothing,
+            )
         }
-        Call::Supported { field: _, stream } => own_supported(c, stream, look),
+        Call::Supported { stream, .. } => own_supported(c, stream, look),
         Call::Xfer { stream } => own_xfer(false, c, stream, look),
         Call::Capture { stream } => own_xfer(true, c, stream, look),
     }
@@ -328,13 +309,7 @@ fn own(c: Core, call: Call, look: Look) -> Plan
 pub(crate) fn is_idle_stage(g: Stage) -> bool
     ensures { result ≡ is_idle g }
 {
-    match g {
-        Stage::Idle => true,
-        Stage::JacksAsked(_) => false,
-        Stage::StreamsAsked(_) => false,
-        Stage::MapsAsked(_) => false,
-        Stage::Sent(_) => false,
-    }
+    matches!(g, Stage::Idle)
 }
 
 // The first query of set-up.
@@ -382,9 +357,9 @@ fn cause(v: Verdict) -> Cause
     ensures { result ≡ cause_of v }
 {
     match v {
-        Verdict::Good => Cause::NoStatus,
-        Verdict::Status(word) => Cause::Status(word),
-        Verdict::Refused(_) => Cause::NoStatus,
+        Ok(()) => Cause::NoStatus,
+        Err(Fault::Status(word)) => Cause::Status(word),
+        Err(Fault::Refused(_)) => Cause::NoStatus,
     }
 }
 
@@ -393,9 +368,9 @@ fn refusal(status: Refusal, v: Verdict) -> Refusal
     ensures { result ≡ refusal_of status v }
 {
     match v {
-        Verdict::Good => status,
-        Verdict::Status(_) => status,
-        Verdict::Refused(r) => r,
+        Ok(()) => status,
+        Err(Fault::Status(_)) => status,
+        Err(Fault::Refused(r)) => r,
     }
 }
 
@@ -417,7 +392,7 @@ fn after_jacks(c: Core, call: Call, v: Verdict) -> Plan
     ensures { result ≡ after_jacks c call v }
 {
     let good = is_good(v);
-    let over = refused_by(TOO_MANY, v);
+    let over = refused_by(Refusal::TooMany.number(), v);
     let read = Counts {
         jacks: count_where(good, c.counts.jacks),
         streams: 0,
@@ -474,7 +449,7 @@ fn after_maps(c: Core, call: Call, v: Verdict, look: Look) -> Plan
         maps: count_where(good, c.counts.maps),
     };
     let effect = effect_where(good, Effect::FillMaps(c.counts.maps));
-    if refused_by(TOO_MANY, v) {
+    if refused_by(Refusal::TooMany.number(), v) {
         return cut_short(c, Refusal::TooMany);
     }
     let core = Core {
@@ -511,18 +486,7 @@ fn effect_of(call: Call) -> Effect
                 life: kind_life(kind),
             }
         }
-        Call::Remap {
-            jack: _,
-            association: _,
-            sequence: _,
-        } => Effect::Nothing,
-        Call::Streams { direction: _ } => Effect::Nothing,
-        Call::Supported {
-            field: _,
-            stream: _,
-        } => Effect::Nothing,
-        Call::Xfer { stream: _ } => Effect::Nothing,
-        Call::Capture { stream: _ } => Effect::Nothing,
+        _ => Effect::Nothing,
     }
 }
 
@@ -531,20 +495,8 @@ fn status_refusal(call: Call, cause: Cause) -> Refusal
     ensures { result ≡ status_refusal call cause }
 {
     match call {
-        Call::SetParams { stream: _, to: _ } => Refusal::IoError(cause),
-        Call::Command { kind: _, stream: _ } => Refusal::IoError(cause),
-        Call::Remap {
-            jack: _,
-            association: _,
-            sequence: _,
-        } => Refusal::Unsupported(cause),
-        Call::Streams { direction: _ } => Refusal::IoError(cause),
-        Call::Supported {
-            field: _,
-            stream: _,
-        } => Refusal::IoError(cause),
-        Call::Xfer { stream: _ } => Refusal::IoError(cause),
-        Call::Capture { stream: _ } => Refusal::IoError(cause),
+        Call::Remap { .. } => Refusal::Unsupported(cause),
+        _ => Refusal::IoError(cause),
     }
 }
 
@@ -553,9 +505,9 @@ fn after_sent(c: Core, call: Call, v: Verdict) -> Plan
 {
     if !is_good(v) {
         let r = refusal(status_refusal(call, cause(v)), v);
-        return end(c, Say::Refused(r), Effect::Nothing);
+        return end_refused(c, r);
     }
-    end(c, Say::Done(Value::Nothing), effect_of(call))
+    end(c, Ok(Say::Done(Value::Nothing)), effect_of(call))
 }
 
 // The stage is handed in beside the core: a proof that goes by it then leaves the core as it is.
@@ -576,7 +528,7 @@ pub fn answer(c: Core, v: Verdict, look: Look) -> Plan
     ensures { result ≡ answer_of c v look }
 {
     let stage = c.stage;
-    let wrong = refused_by(BAD_LENGTH, v);
+    let wrong = refused_by(Refusal::BadLength.number(), v);
     if wrong {
         return refuse(c, Refusal::BadLength);
     }

@@ -12,7 +12,8 @@ pub enum Request {
     Set(SetParameters),
 }
 
-// What a call results in. A list of streams stands beside it, since an enum holds no array.
+// What a call results in. A list of streams stands beside it, since the core sees no table. No Option:
+// that nothing comes with Ok is one of four results.
 #[derive(Clone, Copy)]
 pub enum Value {
     Nothing,
@@ -32,11 +33,11 @@ pub enum Look {
     Directed { life: u8, direction: u8 },
 }
 
+// What a call that is not refused says: a request to send, or its result.
 #[derive(Clone, Copy)]
 pub enum Say {
     Send(Request),
     Done(Value),
-    Refused(Refusal),
 }
 
 // The one change to tables, parameters and lifecycles.
@@ -55,6 +56,6 @@ pub enum Effect {
 #[derive(Clone, Copy)]
 pub struct Plan {
     pub core: Core,
-    pub say: Say,
+    pub say: Result<Say, Refusal>,
     pub effect: Effect,
 }

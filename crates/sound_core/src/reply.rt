@@ -7,12 +7,11 @@ use crate::plan::{Request, Say, Value};
 use codes::Refusal;
 use records::{PcmCommand, Query, Remap, SetParameters};
 
-// A request of so many bytes to send, a result, or a refusal.
+// A request of so many bytes to send, or a result.
 #[derive(Clone, Copy)]
 pub enum Reply {
     Send(usize),
     Done(Value),
-    Refused(Refusal),
 }
 
 // The least length of a message buffer: the longest request.
@@ -25,43 +24,42 @@ fn put_request(q: Request, message: &mut [u8]) -> usize
 {
     match q {
         Request::Query(record) => {
-            record.write(message);
+            let _ = record.write(message);
             Query::SIZE
         }
         Request::Remap(record) => {
-            record.write(message);
+            let _ = record.write(message);
             Remap::SIZE
         }
         Request::Command(record) => {
-            record.write(message);
+            let _ = record.write(message);
             PcmCommand::SIZE
         }
         Request::Set(record) => {
-            record.write(message);
+            let _ = record.write(message);
             SetParameters::SIZE
         }
     }
 }
 
 // Only a request is written.
-fn put(say: Say, message: &mut [u8]) -> Reply
+fn put(say: Result<Say, Refusal>, message: &mut [u8]) -> Result<Reply, Refusal>
     requires { message_size ≤ length message.old }
     ensures { (result ≡ reply_of say) × (message.new ≡ message_after say message.old) }
 {
-    match say {
-        Say::Send(q) => Reply::Send(put_request(q, message)),
-        Say::Done(v) => Reply::Done(v),
-        Say::Refused(r) => Reply::Refused(r),
+    match say? {
+        Say::Send(q) => Ok(Reply::Send(put_request(q, message))),
+        Say::Done(v) => Ok(Reply::Done(v)),
     }
 }
 
 // What is said, with a lent message: a request's own bytes are written, and a result writes none. A
 // short message is refused.
-pub fn tell(say: Say, message: &mut [u8]) -> Reply
+pub fn tell(say: Result<Say, Refusal>, message: &mut [u8]) -> Result<Reply, Refusal>
     ensures { (result ≡ tell_of say (length message.old)) × (message.new ≡ told_in say message.old) }
 {
     if message.len() < MESSAGE {
-        return Reply::Refused(Refusal::BadLength);
+        return Err(Refusal::BadLength);
     }
     put(say, message)
 }

@@ -12,7 +12,7 @@ pub struct Counts {
 
 // What a stream was last set to. `known` is 0 where it never was: a byte and no bool, so that any
 // byte of a lent store stands for one state.
-#[derive(Clone, Copy)]
+#[derive(Clone, Copy, Default)]
 pub struct Params {
     pub known: u8,
     pub buffer: u32,

@@ -11,10 +11,9 @@ pub fn verdict_by(w: Written, stage: Stage, n: Counts, page: &[u8]) -> Verdict
     ensures { result ≡ verdict_by w stage n page.now }
 {
     match stage {
-        Stage::Idle => judge(w, page, 0, 0),
         Stage::JacksAsked(_) => judge(w, page, n.jacks, JackInfo::SIZE as u32),
         Stage::StreamsAsked(_) => judge(w, page, n.streams, PcmInfo::SIZE as u32),
         Stage::MapsAsked(_) => judge(w, page, n.maps, ChannelMap::SIZE as u32),
-        Stage::Sent(_) => judge(w, page, 0, 0),
+        Stage::Idle | Stage::Sent(_) => judge(w, page, 0, 0),
     }
 }

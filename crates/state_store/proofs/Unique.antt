@@ -1,12 +1,12 @@
 -- A public function's contract leaves one outcome: any two that it permits, for the same arguments, are equal, in what is returned and in what every
 -- lent slice holds. `Post` is the contract itself, as Rattle reads it off the source, so no statement here repeats a clause.
 -- Assumes nothing.
+use Rattle.std.specs.Prelude.{ℕ, Result}
 use Rattle.std.proofs.Common.{◌≡◌, ℕ, List, ap}
 use Rattle.codes.specs.SaysLaws.{same}
 use Rattle.layout.specs.Lent.{Made, made, Shown, shown}
 use Rattle.state_store.specs.Calls.{Told, left, Opened, opened}
 use Rattle.state_store.specs.Tokens.{Submitted, submitted}
-use Rattle.state_store.specs.Types.{Opening}
 use Rattle.state_store.proofs.calls.size.Reads as size
 use Rattle.state_store.proofs.calls.call.Reads as call
 use Rattle.state_store.proofs.calls.feed.Reads as feed
@@ -28,7 +28,7 @@ use Rattle.state_store.proofs.tokens.pending_token.Reads as pending-token
 left_one : {x : Told} {a b : ℕ} {s t m n r u : List ℕ} → left a s m r ≡ x → left b t n u ≡ x → (a ≡ b) × (s ≡ t) × (m ≡ n) × (r ≡ u)
 left_one p q = let e = same p q in (ap (λ (y : Told). y.answer) e, ap (λ (y : Told). y.state) e, ap (λ (y : Told). y.message) e, ap (λ (y : Told). y.result) e)
 
-opened_one : {x : Opened} {a b : Opening} {s t m n : List ℕ} → opened a s m ≡ x → opened b t n ≡ x → (a ≡ b) × (s ≡ t) × (m ≡ n)
+opened_one : {x : Opened} {a b : Result ℕ ℕ} {s t m n : List ℕ} → opened a s m ≡ x → opened b t n ≡ x → (a ≡ b) × (s ≡ t) × (m ≡ n)
 opened_one p q = let e = same p q in (ap (λ (y : Opened). y.opening) e, ap (λ (y : Opened). y.state) e, ap (λ (y : Opened). y.message) e)
 
 submitted-one : {x : Submitted} {a b : ℕ} {s t k l m n r u : List ℕ} → submitted a s k m r ≡ x → submitted b t l n u ≡ x → (a ≡ b) × (s ≡ t) × (k ≡ l) × (m ≡ n) × (r ≡ u)

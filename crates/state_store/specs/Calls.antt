@@ -1,7 +1,7 @@
 -- The calls on a state that stands in a lent byte store: the call by value on the state that the store holds, and the state that it leaves, written
 -- over it. A store under 14,703 bytes, or a result slice under 512, gets 10 and nothing is looked at.
 -- Assumes nothing.
-use Rattle.std.specs.Prelude.{ℕ, ◌+◌, Bool, true, false, ◌&&◌, List, [], ◌∷◌, ◌++◌, length, take, nat_le}
+use Rattle.std.specs.Prelude.{ℕ, ◌+◌, Bool, true, false, ◌&&◌, List, [], ◌∷◌, ◌++◌, length, take, nat_le, Result, Ok, Err}
 use Rattle.std.proofs.lemmas.List.Edits.{sets}
 use Rattle.layout.specs.Bytes.{le}
 use Rattle.layout.specs.Layout.{write}
@@ -20,8 +20,7 @@ use Rattle.sound_core.specs.declared.reply.Reply.TheVariants as reply
 use Rattle.state_store.specs.Places.{state_size}
 use Rattle.layout.specs.Lent.{Made, made, Shown, shown, result_size, message_size}
 use Rattle.state_store.specs.Store.{sound_of, sound_bytes, state_after}
-use Rattle.state_store.specs.Types.{Written, Refusal, Track, Call, Xfer, Capture, Counts, Value, Plan, Reply, StreamList, Opening, Says}
-use Rattle.state_store.specs.declared.calls.Opening.TheVariants.{Open}
+use Rattle.state_store.specs.Types.{Written, Refusal, Track, Call, Xfer, Capture, Counts, Value, Plan, Reply, StreamList}
 
 -- an answer as one word, and what state, message and result hold then
 pub record Told : Type 0 where
@@ -41,10 +40,10 @@ value_bytes (value.Number x) l = le 8 x
 value_bytes (value.Range min max) l = write (1 ∷ 1 ∷ []) (min ∷ max ∷ [])
 value_bytes (value.Streams direction) l = le 4 l.count ++ rows_bytes (le 4) (take l.count l.ids)
 
-abbrev pub result_bytes : Reply → StreamList → List ℕ
-result_bytes (reply.Send n) l = []
-result_bytes (reply.Done v) l = value_bytes v l
-result_bytes (reply.Refused r) l = []
+abbrev pub result_bytes : Result Reply Refusal → StreamList → List ℕ
+result_bytes (Ok (reply.Send n)) l = []
+result_bytes (Ok (reply.Done v)) l = value_bytes v l
+result_bytes (Err r) l = []
 
 -- ---- a plan, carried out on the store
 
@@ -80,20 +79,20 @@ fail_in s m r = guard (lengths s r) (too_short s m r)
 -- ---- the start of a transfer, as far as the state goes: an answer, or a transfer by periods that the ring is to start
 
 pub record Opened : Type 0 where
-  pub opening : Opening
+  pub opening : Result ℕ ℕ
   pub state : List ℕ
   pub message : List ℕ
 
-abbrev pub opened : Opening → List ℕ → List ℕ → Opened
+abbrev pub opened : Result ℕ ℕ → List ℕ → List ℕ → Opened
 opened o s m = record { opening = o; state = s; message = m }
 
 abbrev pub shut : List ℕ → List ℕ → Refusal → Opened
-shut s m x = record { opening = Says (refusal_word x); state = s; message = m }
+shut s m x = record { opening = Err (refusal_word x); state = s; message = m }
 
 abbrev pub setting_up_with : List ℕ → Call → List ℕ → Opened
 setting_up_with s call m =
     let p = set_up_with (sound_of s) call in
-    record { opening = Says (256 + 16); state = state_after s (sound_after p.effect p.core (sound_of s) []); message = message_after p.say m }
+    record { opening = Err (256 + 16); state = state_after s (sound_after p.effect p.core (sound_of s) []); message = message_after p.say m }
 
 abbrev pub setting_up : List ℕ → ℕ → List ℕ → Opened
 setting_up s stream m = setting_up_with s (Xfer stream) m
@@ -102,7 +101,7 @@ setting_up s stream m = setting_up_with s (Xfer stream) m
 abbrev pub open_as : Bool → Call → List ℕ → Track → ℕ → List ℕ → Opened
 open_as capture call s t stream m =
     xfer_as capture (nat_le state_size (length s) && nat_le message_size (length m)) (none_in (sound_of s).pending) (sound_of s) t stream (shut s m) (setting_up_with s call m)
-    (λ period. record { opening = Open period; state = s; message = m })
+    (λ period. record { opening = Ok period; state = s; message = m })
 
 unfoldable pub open_in : List ℕ → Track → ℕ → List ℕ → Opened
 open_in s t stream m = open_as false (Xfer stream) s t stream m

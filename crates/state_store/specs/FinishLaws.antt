@@ -1,6 +1,6 @@
 -- A plan, carried out on a store by parts: the laws for the code that goes from the head to the plan, and from the plan to what is left.
 -- Assumes nothing.
-use Rattle.std.specs.Prelude.{◌≡◌, ℕ, ◌≤◌, Bool, true, false, ◌&&◌, List, [], length, nat_le, refl}
+use Rattle.std.specs.Prelude.{◌≡◌, ℕ, ◌≤◌, Bool, true, false, ◌&&◌, List, [], length, nat_le, refl, Err, Result}
 use Rattle.std.proofs.Common.{sym, ◌∙◌, leb-true}
 use Rattle.std.proofs.Math.Path.{ap}
 use Rattle.std.proofs.lemmas.List.Edits.{sets}
@@ -14,8 +14,8 @@ use Rattle.exchange.specs.Tables.{look_of, pending_look, sound_after}
 use Rattle.sound_core.specs.ReplyLaws.{tells-reply, tells-message}
 use Rattle.sound_core.specs.Reply.{message_after, reply_of, tell_of, told_in}
 use Rattle.exchange.specs.Exchange.{call_of, feed_of, fail_of}
-use Rattle.sound_core.specs.declared.plan.Say.TheVariants.{Refused}
-use Rattle.state_store.specs.Types.{Written, BadLength, Track, Verdict, QueueFailed, Refused, Call, Core, Say, Effect, Look, Plan}
+use Rattle.tables.specs.declared.verdict.Fault.TheVariants as fault
+use Rattle.state_store.specs.Types.{Written, BadLength, Track, Verdict, QueueFailed, Call, Core, Say, Effect, Look, Plan, Refusal}
 use Rattle.state_store.specs.Places.{state_size}
 use Rattle.layout.specs.Lent.{result_size, message_size}
 use Rattle.state_store.specs.Store.{head_at, core_of, whole, sound_of, sound_bytes}
@@ -34,7 +34,7 @@ module _ (w : Bool) (s : List ℕ) (e : Effect) (c : Core) (page : List ℕ) whe
   change-all h p = p ∙ sym (picks w _ s h)
 
 -- what is told in a message that is long enough
-module _ (a : Say) (m : List ℕ) (l : message_size ≤ length m) where
+module _ (a : Result Say Refusal) (m : List ℕ) (l : message_size ≤ length m) where
   pub tells : tell_of a (length m) ≡ reply_of a
   tells = tells-reply a (length m) l
 
@@ -103,8 +103,8 @@ module _ (s m r : List ℕ) where
           (done page (passes _ _ _ e (p ∙ (λ i. answer_of c (x i) (k i))
           ∙ ap (λ (z : Core). answer_of z (verdict_by y z.stage z.counts page) (pending_look z.stage (sound_of s))) at-core)))
 
-      pub failed : {k : Look} {p : Plan} → nat_le message_size (length m) ≡ true → k ≡ pending_look c.stage (sound_of s) → p ≡ answer_of c (Refused QueueFailed) k → finished w s p [] m r ≡ fail_in s m r
+      pub failed : {k : Look} {p : Plan} → nat_le message_size (length m) ≡ true → k ≡ pending_look c.stage (sound_of s) → p ≡ answer_of c (Err (fault.Refused QueueFailed)) k → finished w s p [] m r ≡ fail_in s m r
       unfolding fail_in fail_of
       failed e k p =
           passes _ _ _ l
-          (done [] (passes _ _ _ e (p ∙ ap (answer_of c (Refused QueueFailed)) k ∙ ap (λ (z : Core). answer_of z (Refused QueueFailed) (pending_look z.stage (sound_of s))) at-core)))
+          (done [] (passes _ _ _ e (p ∙ ap (answer_of c (Err (fault.Refused QueueFailed))) k ∙ ap (λ (z : Core). answer_of z (Err (fault.Refused QueueFailed)) (pending_look z.stage (sound_of s))) at-core)))

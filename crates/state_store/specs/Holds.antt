@@ -1,6 +1,6 @@
 -- THE STORE HOLDS what the call by value leaves: each number fits its width, so nothing is cut off. A store that is not whole stays, and so does its state.
 -- Assumes nothing.
-use Rattle.std.specs.Prelude.{◌≡◌, ℕ, zero, suc, ◌+◌, ◌*◌, ◌^◌, ◌<◌, ◌≤◌, Bool, true, false, ◌&&◌, List, [], length, replicate, nat_le, slice_set, refl}
+use Rattle.std.specs.Prelude.{◌≡◌, ℕ, zero, suc, ◌+◌, ◌*◌, ◌^◌, ◌<◌, ◌≤◌, Bool, true, false, ◌&&◌, List, [], length, replicate, nat_le, slice_set, refl, Result, Ok, Err}
 use Rattle.std.proofs.Common.{sym, ap, ◌∙◌, arith, lit<, length-set, le-leb}
 use Rattle.std.proofs.Math.Path.{subst}
 use Rattle.std.proofs.lemmas.Bool.{false≢true}
@@ -31,12 +31,12 @@ use Rattle.sound_core.specs.Plan.{effect_of, kind_life}
 use Rattle.exchange.specs.Tables.{moved, sound_after}
 use Rattle.exchange.specs.Exchange.{step_of, call_of, feed_of, fail_of}
 use Rattle.exchange.specs.Feed.{Feed, paged, failed, plan_of, page_of}
-use Rattle.exchange.specs.Xfer.{xfer_as, waiting_as, set_up_with, set_up_step_with, start_as, start_of, start_traced_of, capture_of}
+use Rattle.exchange.specs.Xfer.{gate_as, waiting_as, set_up_with, set_up_step_with, start_as, start_of, start_traced_of, capture_of}
 use Rattle.exchange.specs.OwnLaws.{picked-by}
 use Rattle.exchange.specs.PlanLaws.{begun, Answered, short, idle, asks-streams, asks-maps, cuts, finishes, ends, fails, fed}
 use Rattle.exchange.specs.StayLaws.{called-quiet}
 use Rattle.exchange.specs.StepLaws.{start_by, started-as}
-use Rattle.state_store.specs.Types.{Written, Refusal, Verdict, Track, Ring, Params, Kind, Prepare, Release, Start, Stop, Call, SetParams, Command, Remap, Streams, Supported, Xfer, Capture, Sent, Core, Sound, Token, Effect, Nothing, FillJacks, FillStreams, FillMaps, Store, Move, Look, Plan, Gate, Shut, SetUp, Open, XferStep}
+use Rattle.state_store.specs.Types.{Written, Refusal, Verdict, Track, Ring, Params, Kind, Prepare, Release, Start, Stop, Call, SetParams, Command, Remap, Streams, Supported, Xfer, Capture, Sent, Core, Sound, Token, Effect, Nothing, FillJacks, FillStreams, FillMaps, Store, Move, Look, Plan, Gate, SetUp, Open, XferStep}
 use Rattle.state_store.specs.Places.{head_size, params_place, lives_place, tokens_place, state_size}
 use Rattle.state_store.specs.Store.{whole, life_row, life_at, life_bytes, token_row, token_in, token_bytes, params_row, params_at, sound_of, sound_bytes, state_after, head_row, head_values, head_of, params_bytes}
 use Rattle.layout.specs.Lent.{Made, message_size}
@@ -102,7 +102,7 @@ PlanFits p = FitCore p.core × EffectFits p.effect
 module _ (c : Core) (k : FitCore c) (x : Sound) (f : Fits x) (page : List ℕ) (b : Bytes page) where
   -- a table, and its length
   abbrev Table : {A : Type 0} → (A → Type 0) → ℕ → List A → Type 0
-  Table Ok n xs = All Ok xs × (length xs ≡ n)
+  Table Fit n xs = All Fit xs × (length xs ≡ n)
 
   parts-fit : (t : List ℕ) (qs : List Params) (vs : List ℕ) → length t ≡ tables_bytes → Table ParamsFit 127 qs → Table LifeFits 127 vs → Fits (record { core = c; tables = t; params = qs; lives = vs; pending = x.pending })
   parts-fit t qs vs l q v =
@@ -223,8 +223,8 @@ module _ (s m r : List ℕ) (b : Bytes s) (l : lengths s r ≡ true) where
 -- ---- the start of a transfer
 
 -- set-up is begun only where state and ring passed the test
-set-up-passed : (a b : Bool) (rest : Gate) (x y : Refusal) → SetUp ≡ guard a (Shut y)
-    (guard b (Shut x)
+set-up-passed : (a b : Bool) (rest : Result Gate Refusal) (x y : Refusal) → (Ok SetUp) ≡ guard a (Err y)
+    (guard b (Err x)
     rest) → b ≡ true
 unfolding guard
 set-up-passed true true rest x y e = refl
@@ -239,10 +239,10 @@ module _ (s m : List ℕ) (b : Bytes s) (h : state_size ≤ length s) (r : Ring)
   x = sound_of s
 
   module _ (capture : Bool) (call : Call) (fits : FitCall call) where
-    consistent : SetUp ≡ gate_in capture call s m t stream → consistent_of x.core ≡ true
+    consistent : (Ok SetUp) ≡ gate_in capture call s m t stream → consistent_of x.core ≡ true
     consistent e = (both (consistent_of x.core) (ring.consistent_of t && stream_ok x.core (params_of x stream) stream) (set-up-passed _ _ _ _ _ e)).0
 
-    set-up-holds : SetUp ≡ gate_in capture call s m t stream → sound_of (setting_up_with s call m).state ≡ (set_up_step_with x r call).sound
+    set-up-holds : (Ok SetUp) ≡ gate_in capture call s m t stream → sound_of (setting_up_with s call m).state ≡ (set_up_step_with x r call).sound
     set-up-holds e = held s b h (set_up_with x call) [] no-page (λ w. (set-up-fits x.core call (store-fits s b w) fits, tt)) (λ w. absurd (false≢true (sym (not-whole s w) ∙ consistent e)))
 
   -- whatever is done to the ring where the checks are passed
@@ -251,15 +251,15 @@ module _ (s m : List ℕ) (b : Bytes s) (h : state_size ≤ length s) (r : Ring)
       let call = waiting_as capture stream in
       let g = gate_in capture call s m t stream in
       let none = none_in x.pending in
-      let e : g ≡ xfer_as capture (nat_le message_size (length m)) none x t stream Shut SetUp Open = ap (λ (a : Bool). xfer_as capture (a && nat_le message_size (length m)) none x t stream Shut SetUp Open) (le-leb state_size (length s) h) in
+      let e : g ≡ gate_as capture (nat_le message_size (length m)) none x t stream = ap (λ (a : Bool). gate_as capture (a && nat_le message_size (length m)) none x t stream) (le-leb state_size (length s) h) in
       ap (λ (o : Opened). sound_of o.state) (sym (opens capture call s m t stream g refl))
       ∙ by g refl
       ∙ ap (λ (y : XferStep). y.sound) (started-as capture begin x r stream (length m) (none_in x.pending) g refl e)
     where
-      by : (g : Gate) → g ≡ gate_in capture (waiting_as capture stream) s m t stream → sound_of (open_by capture (waiting_as capture stream) s m t stream g).state ≡ (start_by capture begin x r stream g).sound
-      by (Shut y) e = refl
-      by SetUp e = set-up-holds capture (waiting_as capture stream) (waiting-fits capture stream k) e
-      by (Open period) e = refl
+      by : (g : Result Gate Refusal) → g ≡ gate_in capture (waiting_as capture stream) s m t stream → sound_of (open_by capture (waiting_as capture stream) s m t stream g).state ≡ (start_by capture begin x r stream g).sound
+      by (Err y) e = refl
+      by (Ok SetUp) e = set-up-holds capture (waiting_as capture stream) (waiting-fits capture stream k) e
+      by (Ok (Open period)) e = refl
 
   -- whatever the transfer's length and budget are
   pub open-holds : (len budget : ℕ) → sound_of (open_in s r.track stream m).state ≡ (start_of (sound_of s) r stream len budget (length m)).sound
@@ -353,10 +353,10 @@ module _ (s m r : List ℕ) (b : Bytes s) where
   opens-again : (capture : Bool) (call : Call) (t : Track) (stream : ℕ) → Again s (open_as capture call s t stream m).state
   opens-again capture call t stream = opened-by capture call s m t stream (λ (o : Opened). Again s o.state) by
     where
-      by : (g : Gate) → g ≡ gate_in capture call s m t stream → Again s (open_by capture call s m t stream g).state
-      by (Shut x) e = (b, refl)
-      by SetUp e = after-again (set_up_with (sound_of s) call) [] no-page
-      by (Open period) e = (b, refl)
+      by : (g : Result Gate Refusal) → g ≡ gate_in capture call s m t stream → Again s (open_by capture call s m t stream g).state
+      by (Err x) e = (b, refl)
+      by (Ok SetUp) e = after-again (set_up_with (sound_of s) call) [] no-page
+      by (Ok (Open period)) e = (b, refl)
 
   pub open-again : (t : Track) (stream : ℕ) → Again s (open_in s t stream m).state
   unfolding open_in

@@ -1,8 +1,11 @@
 -- A new state is its core and 14,639 bytes of 0; and the laws for the reads of the configured counts.
 -- Assumes nothing.
-use Rattle.std.specs.Prelude.{◌≡◌, ℕ, zero, suc, ◌+◌, ◌*◌, ◌<◌, ◌≤◌, Bool, true, false, List, [], ◌∷◌, ◌++◌, length, replicate, slice_set}
+use Rattle.std.specs.Prelude.{◌≡◌, ℕ, zero, suc, ◌+◌, ◌*◌, ◌<◌, ◌≤◌, Bool, true, false, List, [], ◌∷◌, ◌++◌, length, take, drop, replicate, slice_set}
 use Rattle.std.proofs.Math.Path.{refl, sym, ap}
-use Rattle.std.proofs.Common.{◌∙◌, zero-add, suc-add, suc-mul, zero-mul, add_comm, le-leb}
+use Rattle.std.proofs.Common.{◌∙◌, zero-add, suc-add, suc-mul, zero-mul, add_comm, le-leb, arith, length-drop, length-take-le, drop-drop}
+use Rattle.std.proofs.lemmas.List.Edits.{sets-eq}
+use mathlib.Core.List.{append_assoc}
+use borrow.Rule.Slice.PartMut.{mid_of, put_mid}
 use Rattle.std.proofs.Math.Seq.{sets}
 use Rattle.std.proofs.lemmas.Bool.{lt-leb}
 use Rattle.layout.specs.Bytes.{le, zeros}
@@ -42,6 +45,16 @@ zeros-more s o n l e =
 pub zeros-none : (s : List ℕ) (o : ℕ) → s ≡ sets s o (zeros 0)
 unfolding zeros
 zeros-none s o = refl
+
+-- all that stands behind the head, filled with 0
+pub cleared : (s ys : List ℕ) → state_size ≤ length s → ys ≡ replicate (length (mid_of head_size tables_size s)) 0 → put_mid head_size tables_size s ys ≡ sets s head_size (zeros tables_size)
+unfolding zeros
+cleared s ys h e =
+    let m : length (mid_of head_size tables_size s) ≡ tables_size = length-take-le tables_size (drop head_size s) (omega (arith, length-drop head_size s)) in
+    let n : length (zeros tables_size) ≡ tables_size = length-zeros tables_size in
+    (λ i. take head_size s ++ ((e ∙ ap zeros m) i ++ (drop-drop tables_size head_size s ∙ ap (λ (k : ℕ). drop (head_size + k) s) (sym n)) i))
+    ∙ sym (append_assoc (take head_size s) (zeros tables_size) _)
+    ∙ sym (sets-eq (zeros tables_size) s head_size (omega (arith, h, n)))
 
 -- rows of a record of zeros
 rows-zero : {A : Type 0} (g : A → List ℕ) (size : ℕ) (z : A) → g z ≡ zeros size → (n : ℕ) → rows_bytes g (replicate n z) ≡ zeros (n * size)

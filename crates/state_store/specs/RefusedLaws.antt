@@ -1,6 +1,6 @@
 -- What is refused leaves every lent byte as it was: the state, the message and the result.
 -- Assumes nothing.
-use Rattle.std.specs.Prelude.{◌≡◌, ℕ, ◌<◌, ◌≤◌, Bool, true, false, List, [], ◌∷◌, length, ◌==◌}
+use Rattle.std.specs.Prelude.{◌≡◌, ℕ, ◌<◌, ◌≤◌, Bool, true, false, List, [], ◌∷◌, length, ◌==◌, Result, Ok, Err}
 use Rattle.std.proofs.Math.Path.{refl}
 use Rattle.std.proofs.Common.{sym, ap, ◌∙◌, subst, inl, inr, arith, eq-eqb}
 use Rattle.std.proofs.lemmas.Bool.{false≢true}
@@ -20,14 +20,13 @@ use Rattle.exchange.specs.Exchange.{step_of, call_of}
 use Rattle.exchange.specs.Feed.{Feed, paged, failed, plan_of, page_of, fed_of, One, own_refusals}
 use Rattle.exchange.specs.PlanLaws.{Begun, bars, asks, goes, Answered, short, idle, asks-streams, asks-maps, cuts, finishes, ends, fails, fed}
 use Rattle.exchange.specs.Refused.{refused-writes-nothing, refused-unchanged, Left, same, closed, cut, done, refused-feed}
-use Rattle.sound_core.specs.declared.reply.Reply.TheVariants as reply
 use Rattle.sound_core.specs.declared.plan.Request.TheVariants as request
 use Rattle.sound_core.specs.declared.plan.Say.TheVariants as say
 use Rattle.state_store.specs.Store.{whole, sound_of, sound_bytes, state_after}
 use Rattle.state_store.specs.Calls.{Told, told, too_short, result_bytes, call_in, feed_in, fail_in, Opened, open_as, open_in, open_capture_in}
 use Rattle.state_store.specs.StoreLaws.{core_at, store_same}
 use Rattle.state_store.specs.OpenLaws.{gate_in, open_by, opened-by}
-use Rattle.state_store.specs.Types.{Written, Refusal, InvalidParam, BadLength, Verdict, Track, Call, SetParams, Command, Remap, Streams, Supported, Xfer, Capture, Core, Sound, Look, Plan, Reply, Request, Say, Gate, Shut, SetUp, Open, Says}
+use Rattle.state_store.specs.Types.{Written, Refusal, InvalidParam, BadLength, Verdict, Track, Call, SetParams, Command, Remap, Streams, Supported, Xfer, Capture, Core, Sound, Look, Plan, Reply, Request, Say, Gate, SetUp, Open}
 
 pub record Unchanged (s m r : List ℕ) (x : Told) : Type 0 where
   pub state : x.state ≡ s
@@ -41,21 +40,21 @@ request-small (request.Remap q) = omega (arith, length-write remap (remap_values
 request-small (request.Command q) = omega (arith, length-write pcm_command (pcm_command_values q))
 request-small (request.Set q) = omega (arith, length-write set_parameters (set_parameters_values q))
 
-pub reply-small : (a : Say) → (says_reply (reply_of a)).number ≤ 280
-reply-small (say.Send q) = omega (arith, request-small q)
-reply-small (say.Done v) = omega arith
-reply-small (say.Refused r) = omega (arith, (numbered r).small)
+pub reply-small : (a : Result Say Refusal) → (says_reply (reply_of a)).number ≤ 280
+reply-small (Ok (say.Send q)) = omega (arith, request-small q)
+reply-small (Ok (say.Done v)) = omega arith
+reply-small (Err r) = omega (arith, (numbered r).small)
 
 -- ---- numbers 1 to 255, in the low half of an answer, are refusals
 
-record IsRefused (y : Reply) : Type 0 where
+record IsRefused (y : Result Reply Refusal) : Type 0 where
   why : Refusal
-  is : y ≡ reply.Refused why
+  is : y ≡ Err why
 
-refused-by : (a : Say) → 0 < number_in (reply_word (reply_of a)) → number_in (reply_word (reply_of a)) < 256 → IsRefused (reply_of a)
-refused-by (say.Send q) p n = let z = reply-small (say.Send q) in absurd (omega arith)
-refused-by (say.Done v) p n = absurd (omega arith)
-refused-by (say.Refused x) p n = record { why = x; is = refl }
+refused-by : (a : Result Say Refusal) → 0 < number_in (reply_word (reply_of a)) → number_in (reply_word (reply_of a)) < 256 → IsRefused (reply_of a)
+refused-by (Ok (say.Send q)) p n = let z = reply-small (Ok (say.Send q)) in absurd (omega arith)
+refused-by (Ok (say.Done v)) p n = absurd (omega arith)
+refused-by (Err x) p n = record { why = x; is = refl }
 
 -- of all that a feed is refused with, 10 alone leaves the state as it was, whatever was asked
 abbrev Others : List ℕ → Type 0
@@ -114,12 +113,12 @@ module _ (s m r : List ℕ) (b : Bytes s) where
   state-kept true e = store_same s b e
   state-kept false e = refl
 
-  pub told-unchanged : (p : Plan) (page : List ℕ) (x : Refusal) → reply_of p.say ≡ reply.Refused x → (step_of p (sound_of s) page).sound ≡ sound_of s → Unchanged s m r (told s p page m r)
+  pub told-unchanged : (p : Plan) (page : List ℕ) (x : Refusal) → reply_of p.say ≡ Err x → (step_of p (sound_of s) page).sound ≡ sound_of s → Unchanged s m r (told s p page m r)
   told-unchanged p page x e k =
       record {
         state = ap (state_after s) k ∙ state-kept (whole s) refl;
         message = refused-writes-nothing p.say x m e;
-        result = ap (λ (y : Reply). sets r 0 (result_bytes y (step_of p (sound_of s) page).streams)) e;
+        result = ap (λ (y : Result Reply Refusal). sets r 0 (result_bytes y (step_of p (sound_of s) page).streams)) e;
       }
 
   -- ---- A CALL: whatever it is refused with
@@ -177,21 +176,21 @@ not-whole s e = ap consistent_of (core_at s ∙ skips _ _ _ e)
 -- ---- THE START OF A TRANSFER: whatever it is refused with
 
 abbrev Bars : (s m : List ℕ) → ℕ → Opened → Type 0
-Bars s m n o = o.opening ≡ Says n → number_in n < 256 → (o.state ≡ s) × (o.message ≡ m)
+Bars s m n o = o.opening ≡ Err n → number_in n < 256 → (o.state ≡ s) × (o.message ≡ m)
 
 open-bars : (capture : Bool) (call : Call) (s m : List ℕ) (t : Track) (stream n : ℕ) → Bars s m n (open_as capture call s t stream m)
 open-bars capture call s m t stream n = opened-by capture call s m t stream (Bars s m n) by
   where
-    by : (g : Gate) → g ≡ gate_in capture call s m t stream → Bars s m n (open_by capture call s m t stream g)
-    by (Shut x) _ e k = (refl, refl)
-    by SetUp _ e k = let z : 272 ≡ n = cc in absurd (omega arith)
-    by (Open period) _ e k = (refl, refl)
+    by : (g : Result Gate Refusal) → g ≡ gate_in capture call s m t stream → Bars s m n (open_by capture call s m t stream g)
+    by (Err x) _ e k = (refl, refl)
+    by (Ok SetUp) _ e k = let z : 272 ≡ n = cc in absurd (omega arith)
+    by (Ok (Open period)) _ e k = (refl, refl)
 
-pub open-refused : (s m : List ℕ) (t : Track) (stream n : ℕ) → (open_in s t stream m).opening ≡ Says n → number_in n < 256 → ((open_in s t stream m).state ≡ s) × ((open_in s t stream m).message ≡ m)
+pub open-refused : (s m : List ℕ) (t : Track) (stream n : ℕ) → (open_in s t stream m).opening ≡ Err n → number_in n < 256 → ((open_in s t stream m).state ≡ s) × ((open_in s t stream m).message ≡ m)
 unfolding open_in
 open-refused s m t stream n = open-bars false (Xfer stream) s m t stream n
 
-pub open-capture-refused : (s m : List ℕ) (t : Track) (stream n : ℕ) → (open_capture_in s t stream m).opening ≡ Says n → number_in n < 256
+pub open-capture-refused : (s m : List ℕ) (t : Track) (stream n : ℕ) → (open_capture_in s t stream m).opening ≡ Err n → number_in n < 256
     → ((open_capture_in s t stream m).state ≡ s) × ((open_capture_in s t stream m).message ≡ m)
 unfolding open_capture_in
 open-capture-refused s m t stream n = open-bars true (Capture stream) s m t stream n

@@ -1,6 +1,6 @@
 -- What the private functions promise, where the public definitions have no name for it: the steps between them.
 -- Assumes nothing.
-use Rattle.std.specs.Prelude.{◌≡◌, ℕ, ◌+◌, ◌*◌, Bool, List, [], ◌∷◌, length, take, nat_lt}
+use Rattle.std.specs.Prelude.{◌≡◌, ℕ, ◌+◌, ◌*◌, Bool, List, [], ◌∷◌, length, take, nat_lt, Result, Ok, Err}
 use Rattle.std.proofs.lemmas.List.Edits.{sets}
 use Rattle.layout.specs.Bytes.{le}
 use Rattle.codes.specs.Says.{guard, pick}
@@ -19,10 +19,9 @@ use Rattle.codes.specs.Says as answers
 use Rattle.codes.specs.Answers.{refusal_word}
 use Rattle.pending.specs.Table.{waits}
 use Rattle.pending.specs.Places.{placed_in}
-use Rattle.pending.specs.declared.place.Spot.TheVariants as spot
 use Rattle.state_store.specs.Places.{tokens_place}
 use Rattle.state_store.specs.Store.{token_bytes}
-use Rattle.state_store.specs.Types.{Core, Counts, Call, JacksAsked, Effect, Nothing, Plan, Says, Token, Spot}
+use Rattle.state_store.specs.Types.{Core, Counts, Call, JacksAsked, Effect, Nothing, Plan, Token, Refusal}
 
 abbrev pub count_by : Core → ℕ → List ℕ → Shown
 count_by c n r = guard (consistent_of c) (shown 1 r)
@@ -54,7 +53,7 @@ finished w s p page m r =
 abbrev pub setting_up_by : Bool → Core → List ℕ → Call → List ℕ → Opened
 setting_up_by w c s call m =
     let p = send_of c (JacksAsked call) (query_of 0x0001 c.counts.jacks 24) Nothing in
-    opened (Says (256 + 16)) (changed w s p.effect p.core []) (message_after p.say m)
+    opened (Err (256 + 16)) (changed w s p.effect p.core []) (message_after p.say m)
 
 -- ---- what is pending: one token is stored, and no other byte
 abbrev pub token_over : List ℕ → ℕ → Token → List ℕ
@@ -74,6 +73,6 @@ pub record Held : Type 0 where
 abbrev pub held : ℕ → List ℕ → List ℕ → List ℕ → Held
 held a s places r = record { answer = a; state = s; places = places; result = r }
 
-abbrev pub held_by : ℕ → List ℕ → ℕ → List ℕ → List ℕ → List ℕ → Spot → Held
-held_by many s stream payload places r (spot.Shut x) = held (refusal_word x) s places r
-held_by many s stream payload places r (spot.Place k) = held 0 (token_over s k waits) (placed_in places many k stream payload) (sets r 0 (le 8 k))
+abbrev pub held_by : ℕ → List ℕ → ℕ → List ℕ → List ℕ → List ℕ → Result ℕ Refusal → Held
+held_by many s stream payload places r (Err x) = held (refusal_word x) s places r
+held_by many s stream payload places r (Ok k) = held 0 (token_over s k waits) (placed_in places many k stream payload) (sets r 0 (le 8 k))

@@ -1,6 +1,6 @@
 -- The tokens of a store, by place: all are read, one is stored, and what that leaves; and what is told of them.
 -- Assumes nothing.
-use Rattle.std.specs.Prelude.{◌≡◌, ℕ, suc, ◌+◌, ◌*◌, ◌<◌, ◌≤◌, Bool, true, false, List, [], ◌∷◌, ◌++◌, length, take, nat_lt, slice_set}
+use Rattle.std.specs.Prelude.{◌≡◌, ℕ, suc, ◌+◌, ◌*◌, ◌<◌, ◌≤◌, Bool, true, false, List, [], ◌∷◌, ◌++◌, length, take, nat_lt, slice_set, None, Result, Ok, Err}
 use Rattle.std.proofs.Math.Path.{refl, sym, ap}
 use Rattle.std.proofs.Common.{◌∙◌, append-nil, add-one, arith, take_all, take-suc, take-suc-set, ltb-true, ltb-false, le-leb}
 use Rattle.std.proofs.lemmas.Bool.{false≢true, lt-leb}
@@ -15,14 +15,13 @@ use Rattle.codes.specs.Says.{pick, guard}
 use Rattle.codes.specs.SaysLaws.{picks, passes, stops}
 use Rattle.pending.specs.Table.{free_token, token_at, put, judged_at, mark_token, mark_of, finish_token, finish_of, count_in, seen_token, says_seen}
 use Rattle.pending.specs.CallLaws.{seen_none, seen-there}
-use Rattle.pending.specs.declared.table.Seen.TheVariants as seen
 use Rattle.turns.specs.Script.{reading_of}
-use Rattle.turns.specs.declared.reading.Reading.TheVariants.{Quiet, Completed}
+use Rattle.turns.specs.Types.{completion}
 use Rattle.sound_core.specs.Consistent.{consistent_of}
 use Rattle.exchange.specs.State.{configured_of}
 use Rattle.exchange.specs.Submit.{with_pending, end_by, token_seen}
 use Rattle.exchange.specs.SubmitLaws as step
-use Rattle.state_store.specs.Types.{Core, Token, Pending, Seen, TokenTold}
+use Rattle.state_store.specs.Types.{Core, Token, Pending, Seen, InvalidParam, TokenTold, Refusal}
 use Rattle.state_store.specs.Places.{head_size, params_place, lives_place, tokens_place, state_size}
 use Rattle.state_store.specs.Store.{token_row, token_in, token_bytes, whole, head_at, core_of, sound_of, sound_bytes, state_after}
 use Rattle.state_store.specs.Calls.{lengths}
@@ -149,11 +148,11 @@ module _ (s : List ℕ) where
       unfolding mark_in
       mark-barred h = passes _ _ _ (le-leb state_size (length s) l) (ap (made 1) (sym (unchanged s b)) ∙ ap (end_left s) (step.mark-barred (sound_of s) (reading_of kind token status) (at-core d h)))
 
-      pub mark-quiet : consistent_of c ≡ true → reading_of kind token status ≡ Quiet → made 0 s ≡ mark_in s kind token status
+      pub mark-quiet : consistent_of c ≡ true → reading_of kind token status ≡ None → made 0 s ≡ mark_in s kind token status
       unfolding mark_in
       mark-quiet h e = passes _ _ _ (le-leb state_size (length s) l) (ap (made 0) (sym (unchanged s b)) ∙ ap (end_left s) (step.mark-quiet (sound_of s) (reading_of kind token status) (at-core d h) e))
 
-      pub mark-told : (k word : ℕ) (t : TokenTold) (x : Made) → consistent_of c ≡ true → reading_of kind token status ≡ Completed k word → t ≡ mark_token (token_at (sound_of s).pending k) word
+      pub mark-told : (k word : ℕ) (t : TokenTold) (x : Made) → consistent_of c ≡ true → reading_of kind token status ≡ completion k word → t ≡ mark_token (token_at (sound_of s).pending k) word
           → x ≡ settled_at k t → x ≡ mark_in s kind token status
       unfolding mark_in
       mark-told k word t x h e p q =
@@ -203,15 +202,15 @@ module _ (s : List ℕ) where
       seen-unread e = stops _ _ _ e refl
 
       module _ (l : lengths s r ≡ true) {c : Core} (d : c ≡ core_of (head_at s)) where
-        seen_as : (x : Seen) → x ≡ token_seen (sound_of s) token → shown_of r (says_seen x) ≡ seen_in s token r
+        seen_as : (x : Result Seen Refusal) → x ≡ token_seen (sound_of s) token → shown_of r (says_seen x) ≡ seen_in s token r
         unfolding seen_in
-        seen_as x e = passes _ _ _ l (ap (λ (y : Seen). shown_of r (says_seen y)) e)
+        seen_as x e = passes _ _ _ l (ap (λ (y : Result Seen Refusal). shown_of r (says_seen y)) e)
 
         pub seen-barred : consistent_of c ≡ false → shown 1 r ≡ seen_in s token r
-        seen-barred h = none_told r ∙ seen_as seen.InvalidParam (step.seen-barred (sound_of s) token (at-core d h))
+        seen-barred h = none_told r ∙ seen_as (Err InvalidParam) (step.seen-barred (sound_of s) token (at-core d h))
 
         pub seen-past : consistent_of c ≡ true → 32 ≤ token → shown 1 r ≡ seen_in s token r
-        seen-past h e = none_told r ∙ seen_as seen.InvalidParam (step.seen-told (sound_of s) token seen.InvalidParam (at-core d h) (seen_none (sound_of s).pending token e))
+        seen-past h e = none_told r ∙ seen_as (Err InvalidParam) (step.seen-told (sound_of s) token (Err InvalidParam) (at-core d h) (seen_none (sound_of s).pending token e))
 
-        pub seen-told : (t : Token) (x : Seen) (y : Shown) → consistent_of c ≡ true → token < 32 → t ≡ token_at (sound_of s).pending token → x ≡ seen_token t → y ≡ shown_of r (says_seen x) → y ≡ seen_in s token r
-        seen-told t x y h e p q z = z ∙ seen_as x (step.seen-told (sound_of s) token x (at-core d h) (seen-there (sound_of s).pending token t x e p q))
+        pub seen-told : (t : Token) (x : Seen) (y : Shown) → consistent_of c ≡ true → token < 32 → t ≡ token_at (sound_of s).pending token → x ≡ seen_token t → y ≡ shown_of r (says_seen (Ok x)) → y ≡ seen_in s token r
+        seen-told t x y h e p q z = z ∙ seen_as (Ok x) (step.seen-told (sound_of s) token (Ok x) (at-core d h) (seen-there (sound_of s).pending token t x e p q))

@@ -1,7 +1,7 @@
 -- Submissions that do not wait, on a state that stands in a lent byte store: the call by value on the state that the store holds, and the state that it leaves, written over it. A store
 -- under 14,703 bytes, or a result slice under 512, gets 10 and nothing is looked at.
 -- Assumes nothing.
-use Rattle.std.specs.Prelude.{ℕ, ◌+◌, true, List, length, nat_le}
+use Rattle.std.specs.Prelude.{ℕ, ◌+◌, true, List, length, nat_le, Result, Ok, Err}
 use Rattle.std.proofs.lemmas.List.Edits.{sets}
 use Rattle.layout.specs.Bytes.{le}
 use Rattle.layout.specs.Rows.{rows_bytes}
@@ -15,11 +15,10 @@ use Rattle.exchange.specs.State.{configured_of}
 use Rattle.exchange.specs.Xfer.{xfer_by}
 use Rattle.exchange.specs.Submit.{places_of, refused_nb, set_up_nb, submit_of, nb_store, nb_message, mark_step, finish_step, token_seen}
 use Rattle.exchange.specs.declared.nonblocking.NbReply.TheVariants as nb
-use Rattle.pending.specs.declared.calls.Outcome.TheVariants as outcome
 use Rattle.state_store.specs.Places.{state_size}
 use Rattle.state_store.specs.Store.{sound_of, state_after}
 use Rattle.state_store.specs.Calls.{lengths}
-use Rattle.state_store.specs.Types.{Track, Sound, Outcome, NbReply, NbStep, NbEnd}
+use Rattle.state_store.specs.Types.{Refusal, Track, Sound, NbReply, NbStep, NbEnd}
 
 -- ---- A SUBMISSION: its answer as one word, and what state, places, message and result hold then
 
@@ -34,16 +33,16 @@ abbrev pub submitted : ℕ → List ℕ → List ℕ → List ℕ → List ℕ �
 submitted a s places m r = record { answer = a; state = s; places = places; message = m; result = r }
 
 -- a request of n bytes to send is 256 + n
-abbrev pub nb_word : NbReply → ℕ
-nb_word (nb.Send n) = 256 + n
-nb_word (nb.Token k) = 0
-nb_word (nb.Refused x) = refusal_word x
+abbrev pub nb_word : Result NbReply Refusal → ℕ
+nb_word (Ok (nb.Send n)) = 256 + n
+nb_word (Ok (nb.Token k)) = 0
+nb_word (Err x) = refusal_word x
 
 -- the token, in 8 bytes
-abbrev pub nb_result : NbReply → List ℕ → List ℕ
-nb_result (nb.Send n) r = r
-nb_result (nb.Token k) r = sets r 0 (le 8 k)
-nb_result (nb.Refused x) r = r
+abbrev pub nb_result : Result NbReply Refusal → List ℕ → List ℕ
+nb_result (Ok (nb.Send n)) r = r
+nb_result (Ok (nb.Token k)) r = sets r 0 (le 8 k)
+nb_result (Err x) r = r
 
 abbrev pub nb_left : ℕ → List ℕ → ℕ → List ℕ → List ℕ → List ℕ → List ℕ → NbStep → Submitted
 nb_left many s stream payload places m r x =
@@ -60,9 +59,9 @@ nb_in s t stream payload places m r =
 
 -- ---- A COMPLETION READING, AND FINISHING
 
-abbrev pub outcome_word : Outcome → ℕ
-outcome_word outcome.Done = 0
-outcome_word (outcome.Refused x) = refusal_word x
+abbrev pub outcome_word : Result (Unit {0}) Refusal → ℕ
+outcome_word (Ok _) = 0
+outcome_word (Err x) = refusal_word x
 
 abbrev pub end_left : List ℕ → NbEnd → Made
 end_left s x = made (outcome_word x.said) (state_after s x.sound)

@@ -2,9 +2,7 @@
 -- Assumes nothing.
 pub use Rattle.codes.specs.declared.answers.Refusal.{Refusal}
 pub use Rattle.codes.specs.declared.answers.Refusal.TheVariants.{BadLength, QueueFailed, InvalidParam}
-pub use Rattle.tables.specs.declared.verdict.Verdict.{Verdict}
-pub use Rattle.tables.specs.declared.verdict.Verdict.TheVariants.{Refused}
-pub use Rattle.tables.specs.declared.verdict.Written.{Written}
+pub use Rattle.tables.specs.Tables.{Verdict, Written}
 pub use Rattle.turns.specs.declared.ring.Track.{Track}
 pub use Rattle.turns.specs.declared.ring.Ring.{Ring}
 pub use Rattle.sound_core.specs.declared.reply.Reply.{Reply}
@@ -28,21 +26,17 @@ pub use Rattle.sound_core.specs.declared.state.Field.TheVariants.{Rates, Formats
 pub use Rattle.sound_core.specs.declared.state.Stage.{Stage}
 pub use Rattle.sound_core.specs.declared.state.Stage.TheVariants.{Idle, JacksAsked, StreamsAsked, MapsAsked, Sent}
 pub use Rattle.sound_core.specs.declared.gate.Gate.{Gate}
-pub use Rattle.sound_core.specs.declared.gate.Gate.TheVariants.{Open, Shut, SetUp}
+pub use Rattle.sound_core.specs.declared.gate.Gate.TheVariants.{Open, SetUp}
 pub use Rattle.pending.specs.declared.table.Token.{Token}
 pub use Rattle.pending.specs.declared.table.Pending.{Pending}
 pub use Rattle.pending.specs.declared.table.Seen.{Seen}
-pub use Rattle.pending.specs.declared.calls.Outcome.{Outcome}
 pub use Rattle.pending.specs.declared.calls.Told.{Told as TokenTold}
-pub use Rattle.pending.specs.declared.place.Spot.{Spot}
-pub use Rattle.turns.specs.declared.reading.Reading.{Reading}
+pub use Rattle.turns.specs.Types.{Reading, completion}
 pub use Rattle.exchange.specs.declared.nonblocking.NbReply.{NbReply}
 pub use Rattle.exchange.specs.declared.nonblocking.NbStep.{NbStep}
 pub use Rattle.exchange.specs.declared.nonblocking.NbEnd.{NbEnd}
 pub use Rattle.exchange.specs.declared.calls.StreamList.{StreamList}
 pub use Rattle.exchange.specs.declared.state.Sound.{Sound}
 pub use Rattle.exchange.specs.declared.xfer.XferStep.{XferStep}
-pub use Rattle.state_store.specs.declared.calls.Opening.{Opening}
-pub use Rattle.state_store.specs.declared.calls.Opening.TheVariants.{Says}
 pub use Rattle.state_store.specs.declared.flat.Flat.{Flat}
 pub use Rattle.state_store.specs.declared.flat.Head.{Head}

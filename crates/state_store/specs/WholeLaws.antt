@@ -1,6 +1,6 @@
 -- What a call leaves is whole: the numbers of a core that fit their widths still fit after any call or answer.
 -- Assumes nothing.
-use Rattle.std.specs.Prelude.{◌≡◌, ℕ, ◌+◌, ◌^◌, ◌<◌, ◌≤◌, Bool, true, false, List, [], ◌∷◌, ◌++◌, length, drop, nat_le, refl}
+use Rattle.std.specs.Prelude.{◌≡◌, ℕ, ◌+◌, ◌^◌, ◌<◌, ◌≤◌, Bool, true, false, List, [], ◌∷◌, ◌++◌, length, drop, nat_le, refl, Result, Ok, Err}
 use Rattle.std.proofs.Common.{sym, ap, ◌∙◌, subst, zero-add, arith, lit<, leb-true}
 use Rattle.std.proofs.lemmas.List.Edits.{sets, sets-eq}
 use Rattle.layout.specs.Bytes.{Bytes}
@@ -30,7 +30,7 @@ use Rattle.state_store.specs.FlatLaws.{core-same, head-whole}
 use Rattle.state_store.specs.OverLaws.{head_bytes, head-sized}
 use Rattle.state_store.specs.StoreLaws.{core_at, head-back}
 use Rattle.state_store.specs.OpenLaws.{gate_in, open_by, set-up-long, opened-by}
-use Rattle.state_store.specs.Types.{Written, Verdict, Track, Counts, Call, Xfer, Capture, Stage, Idle, JacksAsked, StreamsAsked, MapsAsked, Sent, Core, Sound, Effect, Nothing, FillJacks, FillStreams, FillMaps, Store, Move, Look, Plan, Gate, Shut, SetUp, Open, Head}
+use Rattle.state_store.specs.Types.{Refusal, Written, Verdict, Track, Counts, Call, Xfer, Capture, Stage, Idle, JacksAsked, StreamsAsked, MapsAsked, Sent, Core, Sound, Effect, Nothing, FillJacks, FillStreams, FillMaps, Store, Move, Look, Plan, Gate, SetUp, Open, Head}
 
 -- ---- a core whose numbers fit their widths, as every core of the code does
 
@@ -220,10 +220,10 @@ module _ (s m r : List ℕ) (b : Bytes s) (w : whole s ≡ true) where
   opens-whole : (capture : Bool) (call : Call) (t : Track) (stream : ℕ) → FitCall call → whole (open_as capture call s t stream m).state ≡ true
   opens-whole capture call t stream k = opened-by capture call s m t stream (λ (o : Opened). whole o.state ≡ true) by
     where
-      by : (g : Gate) → g ≡ gate_in capture call s m t stream → whole (open_by capture call s m t stream g).state ≡ true
-      by (Shut x) e = w
-      by SetUp e = set-up-whole call k (set-up-long capture call s m t stream e).0
-      by (Open period) e = w
+      by : (g : Result Gate Refusal) → g ≡ gate_in capture call s m t stream → whole (open_by capture call s m t stream g).state ≡ true
+      by (Err x) e = w
+      by (Ok SetUp) e = set-up-whole call k (set-up-long capture call s m t stream e).0
+      by (Ok (Open period)) e = w
 
   pub open-whole : (t : Track) (stream : ℕ) → stream < 256 ^ 4 → whole (open_in s t stream m).state ≡ true
   unfolding open_in

@@ -1,10 +1,9 @@
 // The calls on a state in a byte store: the call by value on the state that the store holds, with
 // what it leaves written over it. Only what changes is written.
-ghost use Rattle.std.specs.Prelude.{◌≡◌, ◌≤◌, [], length};
+ghost use Rattle.std.specs.Prelude.{◌≡◌, ◌≤◌, [], length, None, Some};
 ghost use Rattle.layout.specs.Lent.{message_size};
 ghost use Rattle.sound_core.specs.Reply.{says_reply, reply_word};
 ghost use Rattle.sound_core.specs.declared.plan.Effect.TheVariants.{Nothing};
-ghost use Rattle.tables.specs.declared.verdict.Written.TheVariants.{InFull, Bytes};
 ghost use Rattle.state_store.specs.Calls.{left, call_in, feed_in, fail_in, opened, open_as, open_in, open_capture_in};
 ghost use Rattle.state_store.specs.Steps.{changed, finished, setting_up_by};
 ghost use Rattle.state_store.specs.Places.{state_size};
@@ -14,12 +13,13 @@ use crate::head::{core_by, get_head, is_whole, put_core};
 use crate::place::{HEAD, PARAMS, direction_at, life_at, look, params_at, pending_look};
 use crate::result::put_result;
 use crate::tokens::pending_in;
+use codes::words::BAD_LENGTH;
 use codes::{Refusal, both};
 use pending::is_none;
 use sound_core::{
     Call, Core, Effect, Gate, MESSAGE, Plan, Reply, ask_jacks, tell, verdict_by, xfer_gate,
 };
-use tables::{Verdict, Written, page_ok};
+use tables::{Fault, Written, page_ok};
 use turns::Track;
 
 // The bytes of a state.
@@ -28,31 +28,23 @@ pub const SIZE: usize = 14703;
 // The least length of a result: a list of 127 streams with its count.
 pub const RESULT: usize = 512;
 
-// The start of a transfer, as far as the state goes: an answer as one word, or a transfer by
-// periods of so many bytes, for the ring to start.
-#[derive(Clone, Copy)]
-pub enum Opening {
-    Says(u64),
-    Open(u32),
-}
-
 pub fn size() -> u64
     ensures { result ≡ state_size }
 {
     SIZE as u64
 }
 
-// ---- what a plan comes to
+// ---- what a plan comes to; a length is asked for, since what is left is told of a whole state
 
 // A reply as one word: a request of so many bytes to send is 256 and those.
-fn word_of(reply: Reply) -> u64
+fn word_of(reply: Result<Reply, Refusal>) -> u64
     requires { (says_reply reply).number ≤ 280 }
     ensures { result ≡ reply_word reply }
 {
     match reply {
-        Reply::Send(n) => 256 + n as u64,
-        Reply::Done(_) => 0,
-        Reply::Refused(refusal) => refusal.word(),
+        Ok(Reply::Send(n)) => 256 + n as u64,
+        Ok(Reply::Done(_)) => 0,
+        Err(refusal) => refusal.word(),
     }
 }
 
@@ -106,10 +98,10 @@ pub fn call(state: &mut [u8], t: Track, asked: Call, message: &mut [u8], res: &m
     ensures { left result state.new message.new res.new ≡ call_in state.old t asked message.old res.old }
 {
     if !both(SIZE <= state.len(), RESULT <= res.len()) {
-        return 10;
+        return BAD_LENGTH;
     }
     if message.len() < MESSAGE {
-        return 10;
+        return BAD_LENGTH;
     }
     let h = get_head(&state[..]);
     let whole = is_whole(h);
@@ -123,10 +115,10 @@ fn feed_by(w: Written, state: &mut [u8], page: &[u8], message: &mut [u8], res: &
     ensures { left result state.new message.new res.new ≡ feed_in w state.old page.now message.old res.old }
 {
     if !both(SIZE <= state.len(), RESULT <= res.len()) {
-        return 10;
+        return BAD_LENGTH;
     }
     if !both(page_ok(w, page), MESSAGE <= message.len()) {
-        return 10;
+        return BAD_LENGTH;
     }
     let h = get_head(&state[..]);
     let whole = is_whole(h);
@@ -140,9 +132,9 @@ fn feed_by(w: Written, state: &mut [u8], page: &[u8], message: &mut [u8], res: &
 
 // The answer page to the request that is out; it counts as written in full.
 pub fn feed(state: &mut [u8], page: &[u8], message: &mut [u8], res: &mut [u8]) -> u64
-    ensures { left result state.new message.new res.new ≡ feed_in InFull state.old page.now message.old res.old }
+    ensures { left result state.new message.new res.new ≡ feed_in None state.old page.now message.old res.old }
 {
-    feed_by(Written::InFull, state, page, message, res)
+    feed_by(None, state, page, message, res)
 }
 
 // The same with the length that the device wrote: nothing past it is trusted.
@@ -153,9 +145,9 @@ pub fn feed_written(
     message: &mut [u8],
     res: &mut [u8],
 ) -> u64
-    ensures { left result state.new message.new res.new ≡ feed_in (Bytes written) state.old page.now message.old res.old }
+    ensures { left result state.new message.new res.new ≡ feed_in (Some written) state.old page.now message.old res.old }
 {
-    feed_by(Written::Bytes(written), state, page, message, res)
+    feed_by(Some(written), state, page, message, res)
 }
 
 // The queue reports that the request that is out has failed: there is no page.
@@ -163,17 +155,17 @@ pub fn feed_failure(state: &mut [u8], message: &mut [u8], res: &mut [u8]) -> u64
     ensures { left result state.new message.new res.new ≡ fail_in state.old message.old res.old }
 {
     if !both(SIZE <= state.len(), RESULT <= res.len()) {
-        return 10;
+        return BAD_LENGTH;
     }
     if message.len() < MESSAGE {
-        return 10;
+        return BAD_LENGTH;
     }
     let h = get_head(&state[..]);
     let whole = is_whole(h);
     let c = core_by(whole, h);
     let stage = c.stage;
     let found = pending_look(&state[..], stage);
-    let plan = sound_core::answer(c, Verdict::Refused(Refusal::QueueFailed), found);
+    let plan = sound_core::answer(c, Err(Fault::Refused(Refusal::QueueFailed)), found);
     finish(state, whole, plan, &[], message, res)
 }
 
@@ -184,7 +176,7 @@ pub(crate) fn set_up(
     c: Core,
     waiting: Call,
     message: &mut [u8],
-) -> Opening
+) -> Result<u32, u64>
     requires { (state_size ≤ length state.old) × (message_size ≤ length message.old) }
     ensures { opened result state.new message.new ≡ setting_up_by whole c state.old waiting message.old }
 {
@@ -192,11 +184,12 @@ pub(crate) fn set_up(
     let core = plan.core;
     let say = plan.say;
     change_core(&mut *state, whole, core);
-    tell(say, &mut *message);
-    Opening::Says(272)
+    let _ = tell(say, &mut *message);
+    Err(272)
 }
 
-// The start of a transfer, as far as the state goes: of a capture or a playback, with the call that
+// The start of a transfer, as far as the state goes: a transfer by periods of so many bytes, for
+// the ring to start, or else the answer as one word. Of a capture or a playback, with the call that
 // waits where set-up goes first.
 fn open_as(
     capture: bool,
@@ -205,12 +198,12 @@ fn open_as(
     t: Track,
     stream: u32,
     message: &mut [u8],
-) -> Opening
+) -> Result<u32, u64>
     ensures { opened result state.new message.new ≡ open_as capture waiting state.old t stream message.old }
 {
     let lengths = both(SIZE <= state.len(), MESSAGE <= message.len());
     if !lengths {
-        return Opening::Says(10);
+        return Err(10);
     }
     let h = get_head(&state[..]);
     let whole = is_whole(h);
@@ -223,21 +216,21 @@ fn open_as(
         capture, lengths, clear, c, params, life, direction, t, stream,
     );
     match gate {
-        Gate::Shut(refusal) => Opening::Says(refusal.word()),
-        Gate::SetUp => set_up(state, whole, c, waiting, message),
-        Gate::Open(period) => Opening::Open(period),
+        Err(refusal) => Err(refusal.word()),
+        Ok(Gate::SetUp) => set_up(state, whole, c, waiting, message),
+        Ok(Gate::Open(period)) => Ok(period),
     }
 }
 
 // The start of a playback.
-pub fn open(state: &mut [u8], t: Track, stream: u32, message: &mut [u8]) -> Opening
+pub fn open(state: &mut [u8], t: Track, stream: u32, message: &mut [u8]) -> Result<u32, u64>
     ensures { opened result state.new message.new ≡ open_in state.old t stream message.old }
 {
     open_as(false, Call::Xfer { stream }, state, t, stream, message)
 }
 
 // The start of a capture.
-pub fn open_capture(state: &mut [u8], t: Track, stream: u32, message: &mut [u8]) -> Opening
+pub fn open_capture(state: &mut [u8], t: Track, stream: u32, message: &mut [u8]) -> Result<u32, u64>
     ensures { opened result state.new message.new ≡ open_capture_in state.old t stream message.old }
 {
     open_as(true, Call::Capture { stream }, state, t, stream, message)

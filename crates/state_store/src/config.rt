@@ -11,6 +11,7 @@ use crate::calls::{RESULT, SIZE};
 use crate::head::{core_of, get_head, put_core};
 use crate::place::HEAD;
 use codes::both;
+use codes::words::{BAD_LENGTH, INVALID_PARAM};
 use sound_core::{Core, consistent};
 
 // The tables and parameters of a new state are 0.
@@ -18,18 +19,14 @@ fn clear(s: &mut [u8])
     requires { state_size ≤ length s.old }
     ensures { s.new ≡ sets s.old head_size (zeros tables_size) }
 {
-    let mut n: usize = 0;
-    while n < SIZE - HEAD {
-        s[HEAD + n] = 0;
-        n += 1;
-    }
+    s[HEAD..SIZE].fill(0);
 }
 
 fn make(guard: bool, state: &mut [u8], jacks: u32, streams: u32, chmaps: u32) -> u64
     ensures { made result state.new ≡ new_in guard state.old jacks streams chmaps }
 {
     if state.len() < SIZE {
-        return 10;
+        return BAD_LENGTH;
     }
     put_core(&mut *state, Core::new(guard, jacks, streams, chmaps));
     clear(&mut *state);
@@ -55,18 +52,18 @@ pub(crate) fn show(c: Core, n: u32, res: &mut [u8]) -> u64
     ensures { shown result res.new ≡ count_by c n res.old }
 {
     if !consistent(c) {
-        return 1;
+        return INVALID_PARAM;
     }
     layout::put_u64(&mut *res, 0, n as u64);
     0
 }
 
-// The configured counts.
+// The configured counts: three names of C; one function over the field would carry it in its contract.
 pub fn jacks(state: &[u8], res: &mut [u8]) -> u64
     ensures { shown result res.new ≡ count_in state.now jack_count res.old }
 {
     if !both(SIZE <= state.len(), RESULT <= res.len()) {
-        return 10;
+        return BAD_LENGTH;
     }
     let c = core_of(get_head(state));
     show(c, c.counts.jacks, res)
@@ -76,7 +73,7 @@ pub fn streams(state: &[u8], res: &mut [u8]) -> u64
     ensures { shown result res.new ≡ count_in state.now stream_count res.old }
 {
     if !both(SIZE <= state.len(), RESULT <= res.len()) {
-        return 10;
+        return BAD_LENGTH;
     }
     let c = core_of(get_head(state));
     show(c, c.counts.streams, res)
@@ -86,7 +83,7 @@ pub fn chmaps(state: &[u8], res: &mut [u8]) -> u64
     ensures { shown result res.new ≡ count_in state.now map_count res.old }
 {
     if !both(SIZE <= state.len(), RESULT <= res.len()) {
-        return 10;
+        return BAD_LENGTH;
     }
     let c = core_of(get_head(state));
     show(c, c.counts.maps, res)

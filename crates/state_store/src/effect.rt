@@ -54,7 +54,6 @@ fn put_set(s: &mut [u8], guard: bool, stream: u32, to: Params)
 }
 
 pub(crate) fn apply(s: &mut [u8], guard: bool, effect: Effect, page: &[u8])
-    requires { state_size ≤ length s.old }
     ensures { s.new ≡ effect_in guard effect page.now s.old }
 {
     match effect {

@@ -36,6 +36,7 @@ pub struct Head {
 
 // ---- from a stage to its fields
 
+// A kind and a field by the number in the store: two enums, and so two functions each way.
 fn kind_number(kind: Kind) -> u8
     ensures { result ≡ kind_number kind }
 {
@@ -147,31 +148,23 @@ pub(crate) fn flat_of(ready: bool, g: Stage) -> Flat
 fn kind_of(n: u8) -> Kind
     ensures { result ≡ kind_of n }
 {
-    if n == 0 {
-        return Kind::Prepare;
+    match n {
+        0 => Kind::Prepare,
+        1 => Kind::Release,
+        2 => Kind::Start,
+        _ => Kind::Stop,
     }
-    if n == 1 {
-        return Kind::Release;
-    }
-    if n == 2 {
-        return Kind::Start;
-    }
-    Kind::Stop
 }
 
 fn field_of(n: u8) -> Field
     ensures { result ≡ flat_field n }
 {
-    if n == 0 {
-        return Field::Rates;
+    match n {
+        0 => Field::Rates,
+        1 => Field::Formats,
+        2 => Field::Channels,
+        _ => Field::Features,
     }
-    if n == 1 {
-        return Field::Formats;
-    }
-    if n == 2 {
-        return Field::Channels;
-    }
-    Field::Features
 }
 
 fn params_of(f: Flat) -> Params
@@ -191,59 +184,40 @@ fn params_of(f: Flat) -> Params
 fn call_of(f: Flat) -> Call
     ensures { result ≡ flat_call f }
 {
-    let n = f.call;
-    if n == 1 {
-        return Call::SetParams {
+    match f.call {
+        1 => Call::SetParams {
             stream: f.id,
             to: params_of(f),
-        };
-    }
-    if n == 2 {
-        return Call::Command {
+        },
+        2 => Call::Command {
             kind: kind_of(f.part),
             stream: f.id,
-        };
-    }
-    if n == 3 {
-        return Call::Remap {
+        },
+        3 => Call::Remap {
             jack: f.id,
             association: f.first,
             sequence: f.second,
-        };
-    }
-    if n == 4 {
-        return Call::Streams { direction: f.part };
-    }
-    if n == 5 {
-        return Call::Supported {
+        },
+        4 => Call::Streams { direction: f.part },
+        5 => Call::Supported {
             field: field_of(f.part),
             stream: f.id,
-        };
+        },
+        6 => Call::Xfer { stream: f.id },
+        _ => Call::Capture { stream: f.id },
     }
-    if n == 6 {
-        return Call::Xfer { stream: f.id };
-    }
-    Call::Capture { stream: f.id }
 }
 
 pub(crate) fn stage_of(f: Flat) -> Stage
     ensures { result ≡ flat_stage f }
 {
-    let n = f.stage;
-    if n == 0 {
-        return Stage::Idle;
+    match f.stage {
+        0 => Stage::Idle,
+        1 => Stage::JacksAsked(call_of(f)),
+        2 => Stage::StreamsAsked(call_of(f)),
+        3 => Stage::MapsAsked(call_of(f)),
+        _ => Stage::Sent(call_of(f)),
     }
-    let call = call_of(f);
-    if n == 1 {
-        return Stage::JacksAsked(call);
-    }
-    if n == 2 {
-        return Stage::StreamsAsked(call);
-    }
-    if n == 3 {
-        return Stage::MapsAsked(call);
-    }
-    Stage::Sent(call)
 }
 
 // ---- the test of wholeness
@@ -269,29 +243,14 @@ fn is_short(f: Flat) -> bool
 fn is_call(f: Flat) -> bool
     ensures { result ≡ same_call f (call_flat (flat_call f)) }
 {
-    let n = f.call;
-    if n == 1 {
-        return f.part == 0;
+    match f.call {
+        1 => f.part == 0,
+        2 | 5 => both(f.part <= 3, is_short(f)),
+        3 => both(f.part == 0, is_plain(f)),
+        4 => both(f.id == 0, is_short(f)),
+        6 | 7 => both(f.part == 0, is_short(f)),
+        _ => false,
     }
-    if n == 2 {
-        return both(f.part <= 3, is_short(f));
-    }
-    if n == 3 {
-        return both(f.part == 0, is_plain(f));
-    }
-    if n == 4 {
-        return both(f.id == 0, is_short(f));
-    }
-    if n == 5 {
-        return both(f.part <= 3, is_short(f));
-    }
-    if n == 6 {
-        return both(f.part == 0, is_short(f));
-    }
-    if n == 7 {
-        return both(f.part == 0, is_short(f));
-    }
-    false
 }
 
 // No call waits.

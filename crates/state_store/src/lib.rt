@@ -12,9 +12,7 @@ mod place;
 mod result;
 mod tokens;
 
-pub use calls::{
-    Opening, RESULT, SIZE, call, feed, feed_failure, feed_written, open, open_capture, size,
-};
+pub use calls::{RESULT, SIZE, call, feed, feed_failure, feed_written, open, open_capture, size};
 pub use config::{chmaps, jacks, new, new_guarded, streams};
 pub use flat::{Flat, Head};
 pub use nonblocking::pcm_xfer_nb;

@@ -1,8 +1,7 @@
 // A submission that does not wait, on a state in a byte store.
-ghost use Rattle.std.specs.Prelude.{◌≡◌, length};
+ghost use Rattle.std.specs.Prelude.{◌≡◌, length, Ok, Err};
 ghost use Rattle.pending.specs.Table.{lowest_in};
 ghost use Rattle.pending.specs.Places.{spot_by};
-ghost use Rattle.pending.specs.declared.place.Spot.TheVariants.{Shut, Place};
 ghost use Rattle.state_store.specs.Store.{sound_of};
 ghost use Rattle.state_store.specs.Tokens.{submitted, nb_in};
 ghost use Rattle.state_store.specs.Steps.{held, held_by};
@@ -12,12 +11,14 @@ use crate::head::{core_by, get_head, is_whole};
 use crate::place::{life_at, params_at};
 use crate::tokens::{pending_in, put_token};
 use codes::both;
+use codes::words::BAD_LENGTH;
 use exchange::places_of;
-use pending::{Spot, Token, find_spot, lowest, placed};
+use pending::{Token, find_spot, lowest, placed};
 use sound_core::{Call, Gate, MESSAGE, xfer_gate};
 use turns::Track;
 
-// The stream's number and the payload go into one of so many places, whose token then waits.
+// The stream's number and the payload go into one of so many places, whose token then waits. What is
+// lent comes slice by slice, as in the C entry.
 fn hold(
     many: usize,
     state: &mut [u8],
@@ -27,7 +28,7 @@ fn hold(
     places: &mut [u8],
     res: &mut [u8],
 ) -> u64
-    ensures { held result state.new places.new res.new ≡ held_by many state.old stream payload.now places.old res.old (Place k) }
+    ensures { held result state.new places.new res.new ≡ held_by many state.old stream payload.now places.old res.old (Ok k) }
 {
     let waiting = Token {
         state: 1,
@@ -49,13 +50,13 @@ fn submit(
     places: &mut [u8],
     res: &mut [u8],
 ) -> u64
-    ensures { held result state.new places.new res.new ≡ held_by many state.old stream payload.now places.old res.old (spot_by many (lowest_in (sound_of state.old).pending many) (length payload.now) (length places.old) period Shut Place) }
+    ensures { held result state.new places.new res.new ≡ held_by many state.old stream payload.now places.old res.old (spot_by many (lowest_in (sound_of state.old).pending many) (length payload.now) (length places.old) period Err Ok) }
 {
     let free = lowest(pending_in(&state[..]), many);
     let spot = find_spot(many, free, payload.len(), places.len(), period);
     match spot {
-        Spot::Shut(refusal) => refusal.word(),
-        Spot::Place(k) => hold(many, state, k, stream, payload, places, res),
+        Err(refusal) => refusal.word(),
+        Ok(k) => hold(many, state, k, stream, payload, places, res),
     }
 }
 
@@ -72,7 +73,7 @@ pub fn pcm_xfer_nb(
     ensures { submitted result state.new places.new message.new res.new ≡ nb_in state.old t stream payload.now places.old message.old res.old }
 {
     if !both(SIZE <= state.len(), RESULT <= res.len()) {
-        return 10;
+        return BAD_LENGTH;
     }
     let h = get_head(&state[..]);
     let whole = is_whole(h);
@@ -92,12 +93,12 @@ pub fn pcm_xfer_nb(
         stream,
     );
     match gate {
-        Gate::Shut(refusal) => refusal.word(),
-        Gate::SetUp => {
-            set_up(state, whole, c, Call::Xfer { stream }, message);
+        Err(refusal) => refusal.word(),
+        Ok(Gate::SetUp) => {
+            let _ = set_up(state, whole, c, Call::Xfer { stream }, message);
             272
         }
-        Gate::Open(period) => {
+        Ok(Gate::Open(period)) => {
             let many = places_of(t.descriptors);
             submit(many, state, stream, period, payload, places, res)
         }

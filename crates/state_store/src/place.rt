@@ -30,6 +30,8 @@ pub(crate) const ROW: usize = 16;
 // What is pending under a token.
 pub(crate) const TOKEN: usize = 8;
 
+// A length is asked for, not an array of it: contracts and proofs speak of the lent bytes themselves.
+
 // Where a stream is in its lifecycle.
 pub(crate) fn life_at(s: &[u8], stream: u32) -> u8
     requires { state_size ≤ length s.now }
@@ -68,15 +70,7 @@ pub(crate) fn params_at(s: &[u8], stream: u32) -> Params
 {
     let i = stream as usize;
     if 127 <= i {
-        return Params {
-            known: 0,
-            buffer: 0,
-            period: 0,
-            features: 0,
-            channels: 0,
-            format: 0,
-            rate: 0,
-        };
+        return Params::default();
     }
     let at = PARAMS + i * ROW;
     Params {

@@ -10,6 +10,7 @@ ghost use Rattle.tables.specs.Tables.{pcms_in};
 ghost use Rattle.state_store.specs.Calls.{value_bytes, result_bytes};
 ghost use Rattle.state_store.specs.Steps.{ids_in, Listed};
 
+use codes::Refusal;
 use exchange::direction_at;
 use sound_core::{Say, Value};
 
@@ -27,16 +28,14 @@ fn put_id(res: &mut [u8], count: usize, wanted: bool, id: u32) -> usize
 }
 
 // The streams of a direction among the first `n`, from byte 4 on; how many they are.
-fn put_ids(tables: &[u8], direction: u8, n: usize, res: &mut [u8]) -> usize
+fn put_ids(tables: &[u8], direction: u8, n: u32, res: &mut [u8]) -> usize
     requires { n ≤ 127 }
     ensures { Listed res.old (ids_in tables.now direction n) result res.new }
 {
     let mut count: usize = 0;
-    let mut i: usize = 0;
-    while i < n {
-        let found = direction_at(tables, i as u32);
-        count = put_id(&mut *res, count, found == direction, i as u32);
-        i += 1;
+    for i in 0..n {
+        let found = direction_at(tables, i);
+        count = put_id(&mut *res, count, found == direction, i);
     }
     count
 }
@@ -50,7 +49,7 @@ fn put_streams(tables: &[u8], direction: u8, n: u32, res: &mut [u8])
         layout::put_u32(&mut *res, 0, all as u32);
         return;
     }
-    let count = put_ids(tables, direction, n as usize, &mut *res);
+    let count = put_ids(tables, direction, n, &mut *res);
     layout::put_u32(&mut *res, 0, count as u32);
 }
 
@@ -70,12 +69,10 @@ fn put_value(tables: &[u8], v: Value, n: u32, res: &mut [u8])
 
 // What is said, with the streams of the tables where it is a list of them. Only the result's own
 // bytes are written; what is not a result writes none.
-pub(crate) fn put_result(tables: &[u8], say: Say, n: u32, res: &mut [u8])
+pub(crate) fn put_result(tables: &[u8], say: Result<Say, Refusal>, n: u32, res: &mut [u8])
     ensures { res.new ≡ sets res.old 0 (result_bytes (reply_of say) (list_of say n (pcms_in tables.now))) }
 {
-    match say {
-        Say::Send(_) => {}
-        Say::Done(v) => put_value(tables, v, n, &mut *res),
-        Say::Refused(_) => {}
+    if let Ok(Say::Done(v)) = say {
+        put_value(tables, v, n, &mut *res);
     }
 }

@@ -1,6 +1,6 @@
 // What is pending, in a byte store: tokens are looked at by place, and a completion or a finish
 // changes the 8 bytes of one.
-ghost use Rattle.std.specs.Prelude.{◌≡◌, [], ◌∷◌};
+ghost use Rattle.std.specs.Prelude.{◌≡◌, [], ◌∷◌, Ok};
 ghost use Rattle.std.proofs.lemmas.List.Edits.{sets};
 ghost use Rattle.layout.specs.Bytes.{le};
 ghost use Rattle.layout.specs.Rows.{rows_bytes};
@@ -15,10 +15,11 @@ use crate::config::show;
 use crate::fields;
 use crate::head::{core_of, get_head};
 use crate::place::{TOKEN, TOKENS};
-use codes::both;
-use pending::{Outcome, Pending, Seen, Token, Told, count, finish_token, mark_token, seen_token};
+use codes::words::{BAD_LENGTH, INVALID_PARAM};
+use codes::{Refusal, both};
+use pending::{Pending, Seen, Token, Told, count, finish_token, mark_token, seen_token};
 use sound_core::consistent;
-use turns::Reading;
+use turns::Completion;
 
 // A token; past the last it is free.
 fn token_at(s: &[u8], k: usize) -> Token
@@ -37,16 +38,14 @@ fn token_at(s: &[u8], k: usize) -> Token
     }
 }
 
-// All of them, over others.
-fn read_tokens(s: &[u8], old: [Token; 32]) -> [Token; 32]
+// All of them.
+fn read_tokens(s: &[u8]) -> [Token; 32]
     ensures { result ≡ (sound_of s.now).pending.tokens }
 {
-    let mut tokens = old;
-    let mut k: usize = 0;
-    while k < 32 {
+    let mut tokens = Pending::new().tokens;
+    for k in 0..32 {
         let t = token_at(s, k);
         tokens[k] = t;
-        k += 1;
     }
     tokens
 }
@@ -54,9 +53,7 @@ fn read_tokens(s: &[u8], old: [Token; 32]) -> [Token; 32]
 pub(crate) fn pending_in(s: &[u8]) -> Pending
     ensures { result ≡ (sound_of s.now).pending }
 {
-    let fresh = Pending::new();
-    let old = fresh.tokens;
-    let tokens = read_tokens(s, old);
+    let tokens = read_tokens(s);
     Pending { tokens }
 }
 
@@ -71,12 +68,12 @@ pub(crate) fn put_token(s: &mut [u8], k: usize, t: Token)
     layout::put_u32(&mut *s, at + fields::TOKEN_STATUS, t.status);
 }
 
-fn word_of(said: Outcome) -> u64
+fn word_of(said: Result<(), Refusal>) -> u64
     ensures { result ≡ outcome_word said }
 {
     match said {
-        Outcome::Done => 0,
-        Outcome::Refused(refusal) => refusal.word(),
+        Ok(()) => 0,
+        Err(refusal) => refusal.word(),
     }
 }
 
@@ -94,19 +91,19 @@ pub fn pcm_xfer_mark(state: &mut [u8], kind: u32, token: u32, status: u32) -> u6
     ensures { made result state.new ≡ mark_in state.old kind token status }
 {
     if state.len() < SIZE {
-        return 10;
+        return BAD_LENGTH;
     }
     let c = core_of(get_head(&state[..]));
     if !consistent(c) {
-        return 1;
+        return INVALID_PARAM;
     }
-    let reading = Reading::from_words(kind, token, status);
+    let reading = Completion::from_words(kind, token, status);
     match reading {
-        Reading::Quiet => 0,
-        Reading::Completed { slot, status: word } => {
-            let k = slot as usize;
+        None => 0,
+        Some(done) => {
+            let k = done.slot as usize;
             let t = token_at(&state[..], k);
-            settle(state, k, mark_token(t, word))
+            settle(state, k, mark_token(t, done.status))
         }
     }
 }
@@ -116,11 +113,11 @@ pub fn pcm_xfer_ok(state: &mut [u8], token: u32) -> u64
     ensures { made result state.new ≡ finish_in state.old token }
 {
     if state.len() < SIZE {
-        return 10;
+        return BAD_LENGTH;
     }
     let c = core_of(get_head(&state[..]));
     if !consistent(c) {
-        return 1;
+        return INVALID_PARAM;
     }
     let k = token as usize;
     let t = token_at(&state[..], k);
@@ -132,7 +129,7 @@ pub fn pending_count(state: &[u8], res: &mut [u8]) -> u64
     ensures { shown result res.new ≡ pending_in state.now res.old }
 {
     if !both(SIZE <= state.len(), RESULT <= res.len()) {
-        return 10;
+        return BAD_LENGTH;
     }
     let c = core_of(get_head(state));
     let n = count(pending_in(state));
@@ -149,13 +146,12 @@ fn tell_two(res: &mut [u8], a: u64, b: u64) -> u64
 }
 
 fn tell_seen(seen: Seen, res: &mut [u8]) -> u64
-    ensures { shown result res.new ≡ shown_of res.old (says_seen seen) }
+    ensures { shown result res.new ≡ shown_of res.old (says_seen (Ok seen)) }
 {
     match seen {
         Seen::Free => tell_two(res, 0, 0),
         Seen::Waits => tell_two(res, 1, 0),
         Seen::Marked(status) => tell_two(res, 2, status as u64),
-        Seen::InvalidParam => 1,
     }
 }
 
@@ -164,14 +160,14 @@ pub fn pending_token(state: &[u8], token: usize, res: &mut [u8]) -> u64
     ensures { shown result res.new ≡ seen_in state.now token res.old }
 {
     if !both(SIZE <= state.len(), RESULT <= res.len()) {
-        return 10;
+        return BAD_LENGTH;
     }
     let c = core_of(get_head(state));
     if !consistent(c) {
-        return 1;
+        return INVALID_PARAM;
     }
     if 32 <= token {
-        return 1;
+        return INVALID_PARAM;
     }
     let seen = seen_token(token_at(state, token));
     tell_seen(seen, res)

@@ -1,6 +1,6 @@
 -- An answer page: how it is judged, and the table that it holds. One definition over the record's size serves all three tables.
 -- Assumes nothing.
-use Rattle.std.specs.Prelude.{Bool, true, false, ◌&&◌, List, [], ◌∷◌, ◌++◌, ℕ, ◌+◌, ◌*◌, leb, eqb, length, drop}
+use Rattle.std.specs.Prelude.{Bool, true, false, ◌&&◌, List, [], ◌∷◌, ◌++◌, ℕ, ◌+◌, ◌*◌, leb, eqb, length, drop, Option, None, Some, Result, Ok, Err}
 use Rattle.std.proofs.lemmas.List.Edits.{sets}
 use Rattle.layout.specs.Lent.{page_size}
 use Rattle.layout.specs.Bytes.{bytes_at, num_at}
@@ -13,52 +13,57 @@ use Rattle.records.specs.Records.{jack_info, pcm_info, channel_map, jack_info_of
 use Rattle.records.specs.declared.info.JackInfo.{JackInfo}
 use Rattle.records.specs.declared.info.PcmInfo.{PcmInfo}
 use Rattle.records.specs.declared.info.ChannelMap.{ChannelMap}
-use Rattle.tables.specs.declared.verdict.Verdict.{Verdict}
-use Rattle.tables.specs.declared.verdict.Verdict.TheVariants.{Good, Status, Refused}
-use Rattle.tables.specs.declared.verdict.Written.{Written}
-use Rattle.tables.specs.declared.verdict.Written.TheVariants.{InFull, Bytes}
+use Rattle.tables.specs.declared.verdict.Fault.{Fault}
+use Rattle.tables.specs.declared.verdict.Fault.TheVariants.{Status, Refused}
 
 -- ---- "trust only what was written": each feed carries the length that the device wrote, or the page counts as written in full
 
+-- so many bytes, or all of the page
+abbrev pub Written : Type 0
+Written = Option ℕ
+
 -- the first k bytes of a page were written
 abbrev pub covers : Written → ℕ → Bool
-covers InFull k = true
-covers (Bytes w) k = leb k w
+covers None k = true
+covers (Some w) k = leb k w
 
 -- a page of 4,096 bytes, and no more bytes written than that
 abbrev pub page_ok : Written → List ℕ → Bool
-page_ok InFull page = eqb (length page) page_size
-page_ok (Bytes w) page = eqb (length page) page_size && leb w page_size
+page_ok None page = eqb (length page) page_size
+page_ok (Some w) page = eqb (length page) page_size && leb w page_size
 
 -- ---- the verdict: "The header is judged before the count."
+
+abbrev pub Verdict : Type 0
+Verdict = Result (Unit {0}) Fault
 
 -- a page of n records of so many bytes: 10 for lengths, 11 where its header was not written, then the header, 5 where the records do not fit,
 -- and 11 where they were not all written
 unfoldable pub judged : Written → List ℕ → ℕ → ℕ → Verdict
 judged w page n bytes =
-    guard (page_ok w page) (Refused BadLength)
-    (guard (covers w 4) (Refused Short)
-    (guard (eqb (num_at 0 4 page) 0x8000) (Status (num_at 0 4 page))
-    (guard (leb (4 + n * bytes) page_size) (Refused TooMany)
-    (guard (covers w (4 + n * bytes)) (Refused Short)
-    Good))))
+    guard (page_ok w page) (Err (Refused BadLength))
+    (guard (covers w 4) (Err (Refused Short))
+    (guard (eqb (num_at 0 4 page) 0x8000) (Err (Status (num_at 0 4 page)))
+    (guard (leb (4 + n * bytes) page_size) (Err (Refused TooMany))
+    (guard (covers w (4 + n * bytes)) (Err (Refused Short))
+    (Ok tt)))))
 
 abbrev pub is_good : Verdict → Bool
-is_good Good = true
-is_good (Status word) = false
-is_good (Refused r) = false
+is_good (Ok _) = true
+is_good (Err (Status word)) = false
+is_good (Err (Refused r)) = false
 
 -- the refusal of a number, whatever was asked
 abbrev pub refused_by : ℕ → Verdict → Bool
-refused_by n Good = false
-refused_by n (Status word) = false
-refused_by n (Refused r) = eqb (says_refusal r).number n
+refused_by n (Ok _) = false
+refused_by n (Err (Status word)) = false
+refused_by n (Err (Refused r)) = eqb (says_refusal r).number n
 
 -- document 01's number and values of a verdict; a status not ok says 2, and 3 to a remap, and carries the header's word
 abbrev pub says_verdict : Verdict → Says
-says_verdict Good = says 0 []
-says_verdict (Status word) = says 2 (word ∷ [])
-says_verdict (Refused r) = says_refusal r
+says_verdict (Ok _) = says 0 []
+says_verdict (Err (Status word)) = says 2 (word ∷ [])
+says_verdict (Err (Refused r)) = says_refusal r
 
 -- ---- the records, at 4 + i × their bytes, over what the table held; past its count a table is as it was, and is not looked at
 

@@ -1,6 +1,6 @@
 -- The laws of a page's tables, over the record's size, its reader and the table's length.
 -- Assumes nothing.
-use Rattle.std.specs.Prelude.{◌≡◌, refl, Bool, true, false, ◌&&◌, List, [], ℕ, ◌+◌, ◌-◌, ◌*◌, ◌≤◌, leb, eqb, length, take, drop}
+use Rattle.std.specs.Prelude.{◌≡◌, refl, Bool, true, false, ◌&&◌, List, [], ℕ, ◌+◌, ◌-◌, ◌*◌, ◌≤◌, leb, eqb, length, take, drop, None, Some, Ok, Err}
 use Rattle.std.proofs.Common.{ap, ◌∙◌, arith, eq-eqb, eqb-true, le-leb, leb-true}
 use Rattle.std.proofs.lemmas.Bool.{false≢true}
 use Rattle.layout.specs.Lent.{page_size}
@@ -8,14 +8,15 @@ use Rattle.layout.specs.Bytes.{bytes_at, num_at}
 use Rattle.layout.specs.Layout.{size, read_at}
 use Rattle.layout.specs.LayoutLaws.{read-own}
 use Rattle.codes.specs.Says.{Says, says, guard}
+use Rattle.codes.specs.Answers.{says_refusal}
+use Rattle.codes.specs.AnswersLaws.{numbered}
+use Rattle.codes.specs.declared.answers.Refusal.{Refusal}
 use Rattle.records.specs.Records.{jack_info, pcm_info, channel_map, jack_info_of, pcm_info_of, channel_map_of}
 use Rattle.records.specs.Slice.{read_says}
 use Rattle.records.specs.SliceLaws.{read-inside}
 use Rattle.codes.specs.declared.answers.Refusal.TheVariants.{TooMany, BadLength, Short}
-use Rattle.tables.specs.Tables.{covers, page_ok, judged, is_good, jack_at, pcm_at, map_at, fits}
-use Rattle.tables.specs.declared.verdict.Verdict.TheVariants.{Good, Status, Refused}
-use Rattle.tables.specs.declared.verdict.Written.{Written}
-use Rattle.tables.specs.declared.verdict.Written.TheVariants.{InFull, Bytes}
+use Rattle.tables.specs.Tables.{Written, covers, page_ok, judged, is_good, jack_at, pcm_at, map_at, fits}
+use Rattle.tables.specs.declared.verdict.Fault.TheVariants.{Status, Refused}
 
 -- a good verdict: the page is whole, its header ok, and it holds the records, all of them written
 pub record Whole (w : Written) (page : List ℕ) (n size : ℕ) : Type 0 where
@@ -25,7 +26,7 @@ pub record Whole (w : Written) (page : List ℕ) (n size : ℕ) : Type 0 where
   pub written : covers w (4 + n * size) ≡ true
 
 good-by : (l p h f c : Bool) (w : ℕ)
-    → is_good (guard l (Refused BadLength) (guard p (Refused Short) (guard h (Status w) (guard f (Refused TooMany) (guard c (Refused Short) Good))))) ≡ true
+    → is_good (guard l (Err (Refused BadLength)) (guard p (Err (Refused Short)) (guard h (Err (Status w)) (guard f (Err (Refused TooMany)) (guard c (Err (Refused Short)) (Ok tt)))))) ≡ true
     → (l ≡ true) × (p ≡ true) × (h ≡ true) × (f ≡ true) × (c ≡ true)
 unfolding guard
 good-by true true true true true w e = (refl, refl, refl, refl, refl)
@@ -40,8 +41,8 @@ both true b e = (refl, e)
 both false b e = absurd (false≢true e)
 
 pub page-long : (w : Written) (page : List ℕ) → page_ok w page ≡ true → length page ≡ page_size
-page-long InFull page e = eqb-true _ _ e
-page-long (Bytes w) page e = eqb-true _ _ (both _ _ e).0
+page-long None page e = eqb-true _ _ e
+page-long (Some w) page e = eqb-true _ _ (both _ _ e).0
 
 pub good-whole : (w : Written) (page : List ℕ) (n size : ℕ) → is_good (judged w page n size) ≡ true → Whole w page n size
 unfolding judged
@@ -61,9 +62,10 @@ module _ (ws page : List ℕ) (a : ℕ) (h : a + size ws ≤ length page) where
   pub row_is : (vs : List ℕ) → says 0 vs ≡ read_says ws (take (length page - a) (drop a page)) → vs ≡ read_at a ws page
   row_is vs e = ap (λ (s : Says). s.values) (e ∙ read-inside ws page a (length page - a) (omega arith) (omega arith))
 
-  pub row-never : says 10 [] ≡ read_says ws (take (length page - a) (drop a page)) → ⊥
-  row-never e =
-      let z : ◌≡◌ {A = ℕ} 10 0 = ap (λ (s : Says). s.number) (e ∙ read-inside ws page a (length page - a) (omega arith) (omega arith)) in
+  pub row-never : (r : Refusal) → says_refusal r ≡ read_says ws (take (length page - a) (drop a page)) → ⊥
+  row-never r e =
+      let l : 1 ≤ (says_refusal r).number = (numbered r).least in
+      let z : (says_refusal r).number ≡ 0 = ap (λ (s : Says). s.number) (e ∙ read-inside ws page a (length page - a) (omega arith) (omega arith)) in
       omega arith
 
 -- a record is read from its own bytes alone

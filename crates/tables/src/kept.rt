@@ -16,16 +16,12 @@ pub const MAPS: usize = 8144;
 // The bytes of the store.
 pub const TABLES: usize = 12224;
 
-// Byte 4 of a page and what follows, a byte at a time, which compiles to one copy of memory.
+// Byte 4 of a page and what follows, which compiles to one copy of memory.
 fn copy(s: &mut [u8], at: usize, page: &[u8], n: usize)
-    requires { (at + n ≤ length s.old) × (4 + n ≤ length page.now) }
+    requires { 4 + n ≤ length page.now }
     ensures { s.new ≡ sets s.old at (bytes_at 4 n page.now) }
 {
-    let mut i: usize = 0;
-    while i < n {
-        s[at + i] = page[4 + i];
-        i += 1;
-    }
+    layout::put_bytes(s, at, &page[4..4 + n]);
 }
 
 // So many bytes fit from a place on.

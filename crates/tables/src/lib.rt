@@ -5,4 +5,4 @@ mod kept;
 mod verdict;
 
 pub use kept::{JACKS, MAPS, STREAMS, TABLES, fill};
-pub use verdict::{PAGE, Verdict, Written, holds, is_good, judge, page_ok, refused_by};
+pub use verdict::{Fault, PAGE, Verdict, Written, holds, is_good, judge, page_ok, refused_by};

@@ -2,16 +2,18 @@
 ghost use Rattle.std.specs.Prelude.{◌≡◌, ◌+◌, ◌*◌};
 ghost use Rattle.tables.specs.Tables.{covers, page_ok, judged, is_good, refused_by, fits};
 
-use codes::{Refusal, StatusCode, both};
+use codes::{Refusal, both, status_is_ok};
 
-// Good, or a refusal. Of a status that is not ok the header's word is kept: what it says depends on
-// the call that asked.
+// Why an answer is not good. Of a status that is not ok the header's word is kept: what it says
+// depends on the call that asked.
 #[derive(Clone, Copy)]
-pub enum Verdict {
-    Good,
+pub enum Fault {
     Status(u32),
     Refused(Refusal),
 }
+
+// Good, or a fault.
+pub type Verdict = Result<(), Fault>;
 
 // The bytes of an answer page.
 pub const PAGE: usize = 4096;
@@ -19,20 +21,16 @@ pub const PAGE: usize = 4096;
 // The header of an answer.
 const HEADER: u64 = 4;
 
-// How much of a page counts as written by the device: all of it, or so many bytes.
-#[derive(Clone, Copy)]
-pub enum Written {
-    InFull,
-    Bytes(u64),
-}
+// How much of a page counts as written by the device: so many bytes, or all of it.
+pub type Written = Option<u64>;
 
 // The first so many bytes of a page count as written.
 fn covers(w: Written, bytes: u64) -> bool
     ensures { result ≡ covers w bytes }
 {
     match w {
-        Written::InFull => true,
-        Written::Bytes(n) => bytes <= n,
+        None => true,
+        Some(n) => bytes <= n,
     }
 }
 
@@ -49,8 +47,8 @@ pub fn page_ok(w: Written, page: &[u8]) -> bool
 {
     let long = page.len() == PAGE;
     match w {
-        Written::InFull => long,
-        Written::Bytes(n) => both(long, n <= PAGE as u64),
+        None => long,
+        Some(n) => both(long, n <= PAGE as u64),
     }
 }
 
@@ -61,38 +59,34 @@ pub fn judge(w: Written, page: &[u8], count: u32, size: u32) -> Verdict
 {
     let bytes = extent(count, size);
     let word = layout::get_u32(page, 0);
-    let status = StatusCode::from_code(word);
-    let ok = status.is_ok();
+    let ok = status_is_ok(word);
     let headed = covers(w, HEADER);
     let whole = covers(w, bytes);
     let long = page_ok(w, page);
     if !long {
-        return Verdict::Refused(Refusal::BadLength);
+        return Err(Fault::Refused(Refusal::BadLength));
     }
     if !headed {
-        return Verdict::Refused(Refusal::Short);
+        return Err(Fault::Refused(Refusal::Short));
     }
     if !ok {
-        return Verdict::Status(word);
+        return Err(Fault::Status(word));
     }
     if 4096 < bytes {
-        return Verdict::Refused(Refusal::TooMany);
+        return Err(Fault::Refused(Refusal::TooMany));
     }
     if whole {
-        Verdict::Good
+        Ok(())
     } else {
-        Verdict::Refused(Refusal::Short)
+        Err(Fault::Refused(Refusal::Short))
     }
 }
 
+// Whether the page is good.
 pub fn is_good(v: Verdict) -> bool
     ensures { result ≡ is_good v }
 {
-    match v {
-        Verdict::Good => true,
-        Verdict::Status(_) => false,
-        Verdict::Refused(_) => false,
-    }
+    v.is_ok()
 }
 
 // Whether it is the refusal of this number, whatever was asked.
@@ -100,9 +94,8 @@ pub fn refused_by(number: u32, v: Verdict) -> bool
     ensures { result ≡ refused_by number v }
 {
     match v {
-        Verdict::Good => false,
-        Verdict::Status(_) => false,
-        Verdict::Refused(refusal) => refusal.number() == number,
+        Err(Fault::Refused(refusal)) => refusal.number() == number,
+        _ => false,
     }
 }
 

@@ -1,6 +1,6 @@
 -- Whatever turns write may follow.
 -- Assumes nothing.
-use Rattle.std.specs.Prelude.{List, [], ◌∷◌, ◌≡◌, refl, true, ℕ, zero, suc}
+use Rattle.std.specs.Prelude.{List, [], ◌∷◌, ◌≡◌, refl, true, ℕ, zero, suc, Some, None}
 use Rattle.std.proofs.Common.{sym, subst, inl, inr, arith}
 use Rattle.codes.specs.Answers.{says_refusal}
 use Rattle.turns.specs.Rules.{choose_of, sent_of, submit, comes_to, judge_of, played_of, release, accept, ticked, settle, hear, act, turn_of}
@@ -12,7 +12,7 @@ use Rattle.trace.specs.Trace.{sent_then, heard_then, said_then}
 use Rattle.trace.specs.TaleLaws.{writes, tale}
 use Rattle.trace.specs.WalkLaws.{MayFree, MayEnd, FreedBy, WalksBy, Walks, ticked-walks, accept-walks, opening-back, opening-out}
 use Rattle.trace.specs.declared.field.Field.TheVariants as field
-use Rattle.trace.specs.Types.{Track, Step, Sent, Nothing, Reading, Quiet, Completed, Choice, Submit, Finish, Wait, Verdict, WrongSlot, Good, Bad, Field, Stage, Opening, Out, Back, Failed, Outcome}
+use Rattle.trace.specs.Types.{Track, Step, Sent, Reading, Choice, Submit, Finish, Wait, Verdict, WrongSlot, Good, Bad, Field, Stage, Opening, Out, Back, Failed, Outcome}
 
 -- what a turn makes of its reading, behind its submission
 abbrev pub heard_tale : ℕ → ℕ → Step → List Reading → List Field
@@ -36,8 +36,8 @@ module _ (least n : ℕ) (script : List Reading) (back : (t : Track) → Walks l
 
   hear-walks : (st : Stage) (c : Choice) → MayFree st c → MayEnd st c 6 → (sent : Sent) (t : Track) (reading : Reading) → WalksBy least st c t (tale least n (ticked true t) script)
       → WalksBy least st c t (heard_tale least n (hear (comes_to played_of reading) sent t reading) script)
-  hear-walks st c free wrong sent t Quiet quiet = quiet
-  hear-walks st c free wrong sent t (Completed slot status) quiet = settle-walks st c free wrong sent t slot status (judge_of t slot (played_of status)) (played t slot status) refl
+  hear-walks st c free wrong sent t None quiet = quiet
+  hear-walks st c free wrong sent t (Some c₁) quiet = settle-walks st c free wrong sent t c₁.slot c₁.status (judge_of t c₁.slot (played_of c₁.status)) (played t c₁.slot c₁.status) refl
 
   act-walks : (c : Choice) (t : Track) (reading : Reading) → c ≡ choose_of least t → (c ≡ Wait → WalksBy least Opening c t (tale least n (ticked true t) script))
       → Walks least Out (submit t) (tale least n (ticked true (submit t)) script)
@@ -47,8 +47,8 @@ module _ (least n : ℕ) (script : List Reading) (back : (t : Track) → Walks l
       (tt, refl, hear-walks Out (choose_of least (submit t)) tt (inl refl) (sent_of t) (submit t) reading out)
   act-walks Finish t reading e wait out = (refl, tt)
   act-walks Wait t reading e wait out =
-      subst (λ (s : Sent). WalksBy least Opening Wait t (sent_then s (heard_tale least n (hear (comes_to played_of reading) Nothing t reading) script))) (sym (hear-sent Nothing t (comes_to played_of reading) reading))
-      (hear-walks Opening Wait tt (inl refl) Nothing t reading (wait refl))
+      subst (λ (s : Sent). WalksBy least Opening Wait t (sent_then s (heard_tale least n (hear (comes_to played_of reading) None t reading) script))) (sym (hear-sent None t (comes_to played_of reading) reading))
+      (hear-walks Opening Wait tt (inl refl) None t reading (wait refl))
 
 late : (least : ℕ) (c : Choice) (t : Track) → WalksBy least Back c t (field.End 9 ∷ [])
 late least Submit t = (refl, tt)

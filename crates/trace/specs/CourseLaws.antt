@@ -1,6 +1,6 @@
 -- The judge's walk: what a move keeps, and where the code's loop stands.
 -- Assumes nothing.
-use Rattle.std.specs.Prelude.{Bool, true, false, ◌≡◌, ltb, eqb, length}
+use Rattle.std.specs.Prelude.{Bool, true, false, ◌≡◌, ltb, eqb, length, Option, Some, None, Result, Ok, Err}
 use Rattle.std.proofs.lemmas.Bool.{false≢true}
 use mathlib.Core.List.{List, [], ◌∷◌}
 use Rattle.std.proofs.Math.Path.{refl, sym, ap, subst}
@@ -16,13 +16,13 @@ use Rattle.turns.specs.Rules.{choose_of, next_span, submit, judge_of, played_of,
 use Rattle.turns.specs.RuleLaws.{Chosen, chosen}
 use Rattle.trace.specs.PlayedLaws.{Played, played}
 use Rattle.trace.specs.Field.{bytes_of, size_of}
-use Rattle.trace.specs.Judge.{may_send, may_free, may_end, ends, agree, due_of, sent_move, freed_move, move_by, move_of, rest_by, on_by, walk_of, judged_by, judges, begun}
+use Rattle.trace.specs.Judge.{on, may_send, may_free, may_end, ends, agree, due_of, sent_move, freed_move, move_by, move_of, rest_by, on_by, walk_of, judged_by, judges, begun}
 use Rattle.trace.specs.Fields.{field_at, more_fields, fields_from, scan_from}
 use Rattle.trace.specs.FieldLaws.{field-inside}
 use Rattle.trace.specs.ScanLaws.{size-bytes, size-some}
 use Rattle.trace.specs.Private.{Kept, opened_of, Course}
 use Rattle.trace.specs.declared.field.Field.TheVariants as field
-use Rattle.trace.specs.Types.{Track, Choice, Submit, Finish, Wait, Verdict, WrongSlot, Good, Bad, Field, Found, Is, NoField, Stage, Opening, Out, Over, Moved, On, Off, Judgement, Accepted, BadTrace, NotARun}
+use Rattle.trace.specs.Types.{Track, Choice, Submit, Finish, Wait, Verdict, WrongSlot, Good, Bad, Field, Stage, Opening, Out, Over, State, Judgement, BadTrace, NotARun}
 
 wide : (h p : ℕ) → 0 < p → h ≤ h * p
 wide h zero e = absurd (omega arith)
@@ -78,9 +78,9 @@ kept-release least t some k =
     times (suc h) p e = let z : h ≡ suc h - 1 = omega arith in suc-mul h p ∙ ap (λ (k : ℕ). k * p + p) z
 
 -- on with such a track, or off within the field
-abbrev pub Fine : ℕ → ℕ → Moved → Type 0
-Fine least n (On st t) = Kept least t
-Fine least n (Off k) = k ≤ n
+abbrev pub Fine : ℕ → ℕ → Result State ℕ → Type 0
+Fine least n (Ok m) = Kept least m.track
+Fine least n (Err k) = k ≤ n
 
 agree-le : (xs ys : List ℕ) → agree xs ys ≤ length xs
 agree-le [] ys = omega arith
@@ -95,9 +95,9 @@ module _ (least : ℕ) (t : Track) (k : Kept least t) where
       let h = agree-le (bytes_of f) (bytes_of (due_of t)) in
       let n = size-bytes f in
       let off : a ≤ 12 = omega (arith, h, n) in
-      guarded-by (Fine least 12) (eqb slot t.head) (Off a) _ (λ _.
-      guarded-by (Fine least 12) (eqb offset t.next) (Off a) _ (λ _.
-      guarded-by (Fine least 12) (eqb len (next_span t)) (Off a) (On Out (submit t)) (λ _. kept-submit least t room more k) (λ _. off))
+      guarded-by (Fine least 12) (eqb slot t.head) (Err a) _ (λ _.
+      guarded-by (Fine least 12) (eqb offset t.next) (Err a) _ (λ _.
+      guarded-by (Fine least 12) (eqb len (next_span t)) (Err a) (on Out (submit t)) (λ _. kept-submit least t room more k) (λ _. off))
       (λ _. off))
       (λ _. off)
 
@@ -108,13 +108,13 @@ module _ (least : ℕ) (t : Track) (k : Kept least t) where
 
   fine-by : (st : Stage) (c : Choice) → Chosen least t c → (f : Field) → Fine least (size_of f) (move_by st c t f)
   fine-by st c ch (field.Start stream total period) = omega arith
-  fine-by st Submit ch (field.Submitted slot offset len) = guarded-by (Fine least 12) (may_send st Submit) (Off 0) (sent_move t slot offset len) (λ _. fine-sent slot offset len ch.0 ch.1) (λ _. omega arith)
-  fine-by st Finish ch (field.Submitted slot offset len) = guarded-by (Fine least 12) (may_send st Finish) (Off 0) (sent_move t slot offset len) (λ e. absurd (false≢true e)) (λ _. omega arith)
-  fine-by st Wait ch (field.Submitted slot offset len) = guarded-by (Fine least 12) (may_send st Wait) (Off 0) (sent_move t slot offset len) (λ e. absurd (false≢true e)) (λ _. omega arith)
-  fine-by st c ch (field.Completed slot status) = guarded-by (Fine least 8) (may_free st c) (Off 0) (freed_move (judge_of t slot (played_of status)) t) (λ _. fine-freed slot status (judge_of t slot (played_of status)) (played t slot status)) (λ _. omega arith)
+  fine-by st Submit ch (field.Submitted slot offset len) = guarded-by (Fine least 12) (may_send st Submit) (Err 0) (sent_move t slot offset len) (λ _. fine-sent slot offset len ch.0 ch.1) (λ _. omega arith)
+  fine-by st Finish ch (field.Submitted slot offset len) = guarded-by (Fine least 12) (may_send st Finish) (Err 0) (sent_move t slot offset len) (λ e. absurd (false≢true e)) (λ _. omega arith)
+  fine-by st Wait ch (field.Submitted slot offset len) = guarded-by (Fine least 12) (may_send st Wait) (Err 0) (sent_move t slot offset len) (λ e. absurd (false≢true e)) (λ _. omega arith)
+  fine-by st c ch (field.Completed slot status) = guarded-by (Fine least 8) (may_free st c) (Err 0) (freed_move (judge_of t slot (played_of status)) t) (λ _. fine-freed slot status (judge_of t slot (played_of status)) (played t slot status)) (λ _. omega arith)
   fine-by st c ch (field.End answer) =
-      guarded-by (Fine least 4) (ends st c) (Off 0) (guard (may_end st c answer) (Off 3) (On Over t))
-      (λ _. guarded-by (Fine least 4) (may_end st c answer) (Off 3) (On Over t) (λ _. k) (λ _. omega arith))
+      guarded-by (Fine least 4) (ends st c) (Err 0) (guard (may_end st c answer) (Err 3) (on Over t))
+      (λ _. guarded-by (Fine least 4) (may_end st c answer) (Err 3) (on Over t) (λ _. k) (λ _. omega arith))
       (λ _. omega arith)
 
   pub fine : (st : Stage) (f : Field) → Fine least (size_of f) (move_of least st t f)
@@ -135,50 +135,50 @@ refuted true h = absurd (h refl)
 refuted false h = refl
 
 -- one field more is read
-step : (fuel at : ℕ) (s : List ℕ) (x : Found) → length s ≤ at + fuel → at ≤ length s → (at ≡ length s → ⊥) → field_at at s ≡ x
+step : (fuel at : ℕ) (s : List ℕ) (x : Option Field) → length s ≤ at + fuel → at ≤ length s → (at ≡ length s → ⊥) → field_at at s ≡ x
     → (k : ℕ) × (fuel ≡ suc k) × (fields_from fuel at s ≡ more_fields x at (λ p. fields_from k p s))
 unfolding fields_from
 step zero at s x enough inside off e = absurd (off (omega arith))
 step (suc k) at s x enough inside off e =
-    (k, refl, skips (eqb at (length s)) [] (more_fields (field_at at s) at (λ p. fields_from k p s)) (sym (refuted (eqb at (length s)) (λ t. off (eqb-true _ _ t)))) ∙ ap (λ (y : Found). more_fields y at (λ p. fields_from k p s)) e)
+    (k, refl, skips (eqb at (length s)) [] (more_fields (field_at at s) at (λ p. fields_from k p s)) (sym (refuted (eqb at (length s)) (λ t. off (eqb-true _ _ t)))) ∙ ap (λ (y : Option Field). more_fields y at (λ p. fields_from k p s)) e)
 
 module _ (per : ℕ) (s : List ℕ) where
-  pub opened-empty : length s ≡ 0 → BadTrace 0 ≡ opened_of per s
+  pub opened-empty : length s ≡ 0 → Err (BadTrace 0) ≡ opened_of per s
   unfolding fields_from
-  opened-empty e = ap (λ (n : ℕ). judged_by Accepted per per (fields_from n 0 s)) (sym e)
+  opened-empty e = ap (λ (n : ℕ). judged_by (Ok tt) per per (fields_from n 0 s)) (sym e)
 
   -- the first field
-  first : (x : Found) → (0 ≡ length s → ⊥) → x ≡ field_at 0 s
-      → (k : ℕ) × (length s ≡ suc k) × (opened_of per s ≡ judged_by Accepted per per (more_fields x 0 (λ p. fields_from k p s)))
+  first : (x : Option Field) → (0 ≡ length s → ⊥) → x ≡ field_at 0 s
+      → (k : ℕ) × (length s ≡ suc k) × (opened_of per s ≡ judged_by (Ok tt) per per (more_fields x 0 (λ p. fields_from k p s)))
   first x off e =
       let p = step (length s) 0 s x (omega arith) (omega arith) off (sym e) in
-      (p.0, p.1, ap (λ (l : List Field). judged_by Accepted per per l) p.2)
+      (p.0, p.1, ap (λ (l : List Field). judged_by (Ok tt) per per l) p.2)
 
-  pub opened-bad : (x : Found) → (0 ≡ length s → ⊥) → x ≡ field_at 0 s → x ≡ NoField → BadTrace 0 ≡ opened_of per s
-  opened-bad x off e b = let p = first NoField off (sym b ∙ e) in sym p.2
+  pub opened-bad : (x : Option Field) → (0 ≡ length s → ⊥) → x ≡ field_at 0 s → x ≡ None → Err (BadTrace 0) ≡ opened_of per s
+  opened-bad x off e b = let p = first None off (sym b ∙ e) in sym p.2
 
-  pub opened-other : (x : Found) (f : Field) → (Starts f → ⊥) → (0 ≡ length s → ⊥) → x ≡ field_at 0 s → x ≡ Is f → NotARun 0 ≡ opened_of per s
+  pub opened-other : (x : Option Field) (f : Field) → (Starts f → ⊥) → (0 ≡ length s → ⊥) → x ≡ field_at 0 s → x ≡ Some f → Err (NotARun 0) ≡ opened_of per s
   opened-other x (field.Start stream total period) none off e b = absurd (none tt)
-  opened-other x (field.Submitted slot offset len) none off e b = let p = first (Is (field.Submitted slot offset len)) off (sym b ∙ e) in sym p.2
-  opened-other x (field.Completed slot status) none off e b = let p = first (Is (field.Completed slot status)) off (sym b ∙ e) in sym p.2
-  opened-other x (field.End answer) none off e b = let p = first (Is (field.End answer)) off (sym b ∙ e) in sym p.2
+  opened-other x (field.Submitted slot offset len) none off e b = let p = first (Some (field.Submitted slot offset len)) off (sym b ∙ e) in sym p.2
+  opened-other x (field.Completed slot status) none off e b = let p = first (Some (field.Completed slot status)) off (sym b ∙ e) in sym p.2
+  opened-other x (field.End answer) none off e b = let p = first (Some (field.End answer)) off (sym b ∙ e) in sym p.2
 
-  module _ (stream total period : ℕ) (x : Found) (f : Field) (off : 0 ≡ length s → ⊥) (e : x ≡ field_at 0 s) (is : x ≡ Is f) (starts : f ≡ field.Start stream total period) where
-    b : x ≡ Is (field.Start stream total period)
-    b = is ∙ ap Is starts
+  module _ (stream total period : ℕ) (x : Option Field) (f : Field) (off : 0 ≡ length s → ⊥) (e : x ≡ field_at 0 s) (is : x ≡ Some f) (starts : f ≡ field.Start stream total period) where
+    b : x ≡ Some (field.Start stream total period)
+    b = is ∙ ap Some starts
 
-    pub opened-none : period ≡ 0 → NotARun 14 ≡ opened_of per s
+    pub opened-none : period ≡ 0 → Err (NotARun 14) ≡ opened_of per s
     unfolding guard
     opened-none z =
-        let p = first (Is (field.Start stream total period)) off (sym b ∙ e) in
+        let p = first (Some (field.Start stream total period)) off (sym b ∙ e) in
         let n : period ≤ 0 = omega arith in
-        sym (p.2 ∙ skips (ltb 0 period) (walk_of per Opening (begun per stream total period 0) 15 (fields_from p.0 15 s)) (NotARun 14) (le-ltb 0 period n))
+        sym (p.2 ∙ skips (ltb 0 period) (walk_of per Opening (begun per stream total period 0) 15 (fields_from p.0 15 s)) (Err (NotARun 14)) (le-ltb 0 period n))
 
     pub course-first : (t : Track) → t ≡ begun per stream total period 0 → 0 < per → (period ≡ 0 → ⊥) → total < 4294967296 → Course per s 15 Opening t
     unfolding guard
     course-first t is-begun mode ne short =
         let some : 0 < period = omega (arith, ne) in
-        let p = first (Is (field.Start stream total period)) off (sym b ∙ e) in
+        let p = first (Some (field.Start stream total period)) off (sym b ∙ e) in
         let h = field-inside 0 s (field.Start stream total period) (sym e ∙ b) in
         let z = zero-mul per in
         let q = p.1 in
@@ -191,7 +191,7 @@ module _ (per : ℕ) (s : List ℕ) where
             enough = omega arith;
             ready = record { room = omega (arith, z); few = omega arith; head_in = lit< tt; tail-in = lit< tt; within = omega arith; short = short };
           };
-          same = p.2 ∙ picks (ltb 0 period) (walk_of per Opening (begun per stream total period 0) 15 (fields_from p.0 15 s)) (NotARun 14) (lt-ltb 0 period some);
+          same = p.2 ∙ picks (ltb 0 period) (walk_of per Opening (begun per stream total period 0) 15 (fields_from p.0 15 s)) (Err (NotARun 14)) (lt-ltb 0 period some);
         })
 
   module _ (at : ℕ) (st : Stage) (t : Track) (k : Course per s at st t) where
@@ -203,38 +203,38 @@ module _ (per : ℕ) (s : List ℕ) where
         by zero = refl
         by (suc n) = ap (λ (l : List Field). walk_of per st t at l) (picks (eqb at (length s)) [] (more_fields (field_at at s) at (λ p. fields_from n p s)) (eq-eqb at (length s) e))
 
-    module _ (off : at ≡ length s → ⊥) (x : Found) (is : x ≡ field_at at s) where
-      pub course-bad : (j : Judgement) → x ≡ NoField → j ≡ rest_by st at → j ≡ opened_of per s
+    module _ (off : at ≡ length s → ⊥) (x : Option Field) (is : x ≡ field_at at s) where
+      pub course-bad : (j : Judgement) → x ≡ None → j ≡ rest_by st at → j ≡ opened_of per s
       unfolding walk_of
       course-bad j b r =
-          let p = step k.fuel at s NoField k.enough k.inside off (sym is ∙ b) in
+          let p = step k.fuel at s None k.enough k.inside off (sym is ∙ b) in
           r ∙ sym (k.same ∙ ap (λ (l : List Field). walk_of per st t at l) p.2)
 
-      module _ (f : Field) (b : x ≡ Is f) (m : Moved) (e : m ≡ move_of per st t f) where
-        moves : (n : Moved) → m ≡ n
+      module _ (f : Field) (b : x ≡ Some f) (m : Result State ℕ) (e : m ≡ move_of per st t f) where
+        moves : (n : Result State ℕ) → m ≡ n
             → (g : ℕ) × (k.fuel ≡ suc g) × (opened_of per s ≡ on_by n at (size_of f) (λ st' t' at'. walk_of per st' t' at' (fields_from g (at + size_of f) s))) × Fine per (size_of f) n
         unfolding walk_of
         moves n q =
-            let p = step k.fuel at s (Is f) k.enough k.inside off (sym is ∙ b) in (
+            let p = step k.fuel at s (Some f) k.enough k.inside off (sym is ∙ b) in (
               p.0,
               p.1,
-              k.same ∙ ap (λ (l : List Field). walk_of per st t at l) p.2 ∙ ap (λ (w : Moved). on_by w at (size_of f) (λ st' t' at'. walk_of per st' t' at' (fields_from p.0 (at + size_of f) s))) (sym e ∙ q),
-              subst (λ (w : Moved). Fine per (size_of f) w) (sym e ∙ q) (fine per t k.kept st f),
+              k.same ∙ ap (λ (l : List Field). walk_of per st t at l) p.2 ∙ ap (λ (w : Result State ℕ). on_by w at (size_of f) (λ st' t' at'. walk_of per st' t' at' (fields_from p.0 (at + size_of f) s))) (sym e ∙ q),
+              subst (λ (w : Result State ℕ). Fine per (size_of f) w) (sym e ∙ q) (fine per t k.kept st f),
             )
 
-        pub course-off : (n : ℕ) → m ≡ Off n → NotARun (at + n) ≡ opened_of per s
-        course-off n q = sym (moves (Off n) q).2
+        pub course-off : (n : ℕ) → m ≡ Err n → Err (NotARun (at + n)) ≡ opened_of per s
+        course-off n q = sym (moves (Err n) q).2
 
-        pub off-inside : (n : ℕ) → m ≡ Off n → at + n ≤ length s
+        pub off-inside : (n : ℕ) → m ≡ Err n → at + n ≤ length s
         off-inside n q =
             let h = field-inside at s f (sym is ∙ b) in
-            let l = (moves (Off n) q).3 in
+            let l = (moves (Err n) q).3 in
             omega (arith, h, l)
 
-        pub course-next : (st' : Stage) (t' : Track) (n : ℕ) → m ≡ On st' t' → n ≡ size_of f → Course per s (at + n) st' t'
+        pub course-next : (st' : Stage) (t' : Track) (n : ℕ) → m ≡ on st' t' → n ≡ size_of f → Course per s (at + n) st' t'
         course-next st' t' n q z =
             let h = field-inside at s f (sym is ∙ b) in
-            let p = moves (On st' t') q in
+            let p = moves (on st' t') q in
             let big = size-some f in
             let en = k.enough in
             let fu = p.1 in

@@ -1,6 +1,6 @@
 -- Both ways between fields and bytes.
 -- Assumes nothing.
-use Rattle.std.specs.Prelude.{Bool, true, false, List, [], ◌∷◌, ◌++◌, ◌≡◌, ℕ, zero, suc, ◌+◌, ◌≤◌, ◌<◌, ◌^◌, leb, eqb, get_or}
+use Rattle.std.specs.Prelude.{Bool, true, false, List, [], ◌∷◌, ◌++◌, ◌≡◌, ℕ, zero, suc, ◌+◌, ◌≤◌, ◌<◌, ◌^◌, leb, eqb, get_or, Option, Some, None}
 use Rattle.std.proofs.Math.Path.{refl}
 use Rattle.std.proofs.Common.{sym, ap, subst, ◌∙◌, add-zero, arith, lit<, length-append, leb-true, le-leb, eqb-true, eq-eqb}
 use Rattle.std.proofs.Math.ListN.{length}
@@ -13,7 +13,7 @@ use Rattle.codes.specs.SaysLaws.{picks}
 use Rattle.trace.specs.Field.{size_of, tag_of, widths_of, values_of, bytes_of, Fits}
 use Rattle.trace.specs.Fields.{sized, tagged_at, field_at}
 use Rattle.trace.specs.declared.field.Field.TheVariants as field
-use Rattle.trace.specs.Types.{Field, Found, Is, NoField}
+use Rattle.trace.specs.Types.{Field}
 
 -- ---- what was found is what stands there
 
@@ -23,18 +23,18 @@ pub record Stands (o : ℕ) (s : List ℕ) (f : Field) : Type 0 where
   pub bytes : bytes_at o (size_of f) s ≡ bytes_of f
   pub fits : Fits f
 
-abbrev the_field : Found → Field
-the_field (Is f) = f
-the_field NoField = field.End 0
+abbrev the_field : Option Field → Field
+the_field (Some f) = f
+the_field None = field.End 0
 
-abbrev is_one : Found → ℕ
-is_one (Is f) = 1
-is_one NoField = 0
+abbrev is_one : Option Field → ℕ
+is_one (Some f) = 1
+is_one None = 0
 
-bad : (f : Field) → NoField ≡ Is f → ⊥
+bad : (f : Field) → None ≡ Some f → ⊥
 bad f e = let z : ◌≡◌ {A = ℕ} 0 1 = ap is_one e in omega arith
 
-passed : (t : Bool) (x : Found) (f : Field) → guard t NoField x ≡ Is f → (t ≡ true) × (x ≡ Is f)
+passed : (t : Bool) (x : Option Field) (f : Field) → guard t None x ≡ Some f → (t ≡ true) × (x ≡ Some f)
 unfolding guard
 passed true x f e = (refl, e)
 passed false x f e = absurd (bad f e)
@@ -43,10 +43,10 @@ row : (o tag : ℕ) (ws vs s : List ℕ) → Bytes s → num_at o 1 s ≡ tag �
     → bytes_at o (1 + (2 + size ws)) s ≡ write (1 ∷ 2 ∷ ws) (tag ∷ size ws ∷ vs)
 row o tag ws vs s b p q r = sym (write_read o (1 ∷ 2 ∷ ws) s b) ∙ (λ i. write (1 ∷ 2 ∷ ws) (p i ∷ q i ∷ r i))
 
-found : (n o : ℕ) (s : List ℕ) (g f : Field) → sized n o s g ≡ Is f → (num_at (o + 1) 2 s ≡ n) × (o + (3 + n) ≤ length s) × (g ≡ f)
+found : (n o : ℕ) (s : List ℕ) (g f : Field) → sized n o s g ≡ Some f → (num_at (o + 1) 2 s ≡ n) × (o + (3 + n) ≤ length s) × (g ≡ f)
 found n o s g f e =
-    let a = passed (eqb (num_at (o + 1) 2 s) n) (guard (leb (o + (3 + n)) (length s)) NoField (Is g)) f e in
-    let c = passed (leb (o + (3 + n)) (length s)) (Is g) f a.1 in
+    let a = passed (eqb (num_at (o + 1) 2 s) n) (guard (leb (o + (3 + n)) (length s)) None (Some g)) f e in
+    let c = passed (leb (o + (3 + n)) (length s)) (Some g) f a.1 in
     (eqb-true _ _ a.0, leb-true _ _ c.0, ap the_field c.1)
 
 module _ (o : ℕ) (s : List ℕ) (b : Bytes s) where
@@ -87,10 +87,10 @@ module _ (o : ℕ) (s : List ℕ) (b : Bytes s) where
       let e0 : o + 1 + 2 ≡ o + 3 = omega arith in
       record { inside = h; bytes = row o 3 (1 ∷ []) (values_of end_here) s b p q (λ i. num_at (e0 i) 1 s ∷ []); fits = (num_at-below (o + 3) 1 s b, tt) }
 
-  here : (f g : Field) (n : ℕ) → (num_at (o + 1) 2 s ≡ n → o + (3 + n) ≤ length s → Stands o s g) → sized n o s g ≡ Is f → Stands o s f
+  here : (f g : Field) (n : ℕ) → (num_at (o + 1) 2 s ≡ n → o + (3 + n) ≤ length s → Stands o s g) → sized n o s g ≡ Some f → Stands o s f
   here f g n make e = let x = found n o s g f e in subst (λ (h : Field). Stands o s h) x.2 (make x.0 x.1)
 
-  by-tag : (k : ℕ) (f : Field) → num_at o 1 s ≡ k → tagged_at k o s ≡ Is f → Stands o s f
+  by-tag : (k : ℕ) (f : Field) → num_at o 1 s ≡ k → tagged_at k o s ≡ Some f → Stands o s f
   by-tag zero f t e = here f start_here 12 (start-stands t) e
   by-tag (suc zero) f t e = here f sent_here 9 (sent-stands t) e
   by-tag (suc (suc zero)) f t e = here f done_here 5 (done-stands t) e
@@ -98,7 +98,7 @@ module _ (o : ℕ) (s : List ℕ) (b : Bytes s) where
   by-tag (suc (suc (suc (suc n)))) f t e = absurd (bad f e)
 
   -- FOUND: the field's own bytes stand there, and its values fit
-  pub field-stands : (f : Field) → field_at o s ≡ Is f → Stands o s f
+  pub field-stands : (f : Field) → field_at o s ≡ Some f → Stands o s f
   unfolding field_at
   field-stands f e = by-tag (num_at o 1 s) f refl (passed (leb (o + 3) (length s)) (tagged_at (num_at o 1 s) o s) f e).1
 
@@ -112,9 +112,9 @@ num-shift p t k w = ap un (bytes_at-append p t k w)
 num-front : (p t : List ℕ) (w : ℕ) → num_at (length p) w (p ++ t) ≡ num_at 0 w t
 num-front p t w = ap (λ (k : ℕ). num_at k w (p ++ t)) (sym (add-zero (length p))) ∙ num-shift p t 0 w
 
-in-room : (t : Bool) (x : Found) (f : Field) → t ≡ true → x ≡ Is f → guard t NoField x ≡ Is f
+in-room : (t : Bool) (x : Option Field) (f : Field) → t ≡ true → x ≡ Some f → guard t None x ≡ Some f
 unfolding guard
-in-room t x f p e = picks t x NoField p ∙ e
+in-room t x f p e = picks t x None p ∙ e
 
 small : (g : Field) → Fits g → (tag_of g < 256 ^ 1) × ((size (widths_of g) < 256 ^ 2) × Fit (widths_of g) (values_of g))
 small (field.Start stream total period) h = (lit< tt, (lit< tt, h))
@@ -144,14 +144,14 @@ module _ (p r : List ℕ) (f : Field) (fit : Fits f) where
   size-there : num_at (length p + 1) 2 whole ≡ size (widths_of f)
   size-there = kth 1 1 2 refl
 
-  found-sized : (n : ℕ) (g : Field) → size (widths_of f) ≡ n → g ≡ f → sized n (length p) whole g ≡ Is f
+  found-sized : (n : ℕ) (g : Field) → size (widths_of f) ≡ n → g ≡ f → sized n (length p) whole g ≡ Some f
   found-sized n g e same =
       let h : length p + (3 + n) ≤ length whole = omega (arith, long, e) in
       in-room (eqb (num_at (length p + 1) 2 whole) n) _ f (eq-eqb _ _ (size-there ∙ e))
-      (in-room (leb (length p + (3 + n)) (length whole)) (Is g) f (le-leb _ _ h) (ap Is same))
+      (in-room (leb (length p + (3 + n)) (length whole)) (Some g) f (le-leb _ _ h) (ap Some same))
 
   -- its tag leads to it
-  found-tagged : tagged_at (tag_of f) (length p) whole ≡ Is f → field_at (length p) whole ≡ Is f
+  found-tagged : tagged_at (tag_of f) (length p) whole ≡ Some f → field_at (length p) whole ≡ Some f
   unfolding field_at
   found-tagged e =
       let h : length p + 3 ≤ length whole = omega (arith, long) in
@@ -159,7 +159,7 @@ module _ (p r : List ℕ) (f : Field) (fit : Fits f) where
 
 module _ (p r : List ℕ) where
   -- FOUND where it stands, whatever follows
-  pub field_found : (f : Field) → Fits f → field_at (length p) (p ++ (bytes_of f ++ r)) ≡ Is f
+  pub field_found : (f : Field) → Fits f → field_at (length p) (p ++ (bytes_of f ++ r)) ≡ Some f
   field_found (field.Start stream total period) fit =
       let f = field.Start stream total period in
       let a : num_at (length p + 3) 4 (whole p r f fit) ≡ stream = kth p r f fit 2 3 4 refl in
@@ -185,16 +185,16 @@ module _ (p r : List ℕ) where
 -- ---- what was found is inside, be it bytes or not
 
 module _ (o : ℕ) (s : List ℕ) where
-  sized-in : (n : ℕ) (g f : Field) → size_of g ≡ 3 + n → sized n o s g ≡ Is f → o + size_of f ≤ length s
+  sized-in : (n : ℕ) (g f : Field) → size_of g ≡ 3 + n → sized n o s g ≡ Some f → o + size_of f ≤ length s
   sized-in n g f e q = let x = found n o s g f q in subst (λ (h : Field). o + size_of h ≤ length s) x.2 (subst (λ (k : ℕ). o + k ≤ length s) (sym e) x.1)
 
-  tagged_in : (k : ℕ) (f : Field) → tagged_at k o s ≡ Is f → o + size_of f ≤ length s
+  tagged_in : (k : ℕ) (f : Field) → tagged_at k o s ≡ Some f → o + size_of f ≤ length s
   tagged_in zero f e = sized-in 12 (field.Start (num_at (o + 3) 4 s) (num_at (o + 7) 4 s) (num_at (o + 11) 4 s)) f refl e
   tagged_in (suc zero) f e = sized-in 9 (field.Submitted (num_at (o + 3) 1 s) (num_at (o + 4) 4 s) (num_at (o + 8) 4 s)) f refl e
   tagged_in (suc (suc zero)) f e = sized-in 5 (field.Completed (num_at (o + 3) 1 s) (num_at (o + 4) 4 s)) f refl e
   tagged_in (suc (suc (suc zero))) f e = sized-in 1 (field.End (num_at (o + 3) 1 s)) f refl e
   tagged_in (suc (suc (suc (suc n)))) f e = absurd (bad f e)
 
-  pub field-inside : (f : Field) → field_at o s ≡ Is f → o + size_of f ≤ length s
+  pub field-inside : (f : Field) → field_at o s ≡ Some f → o + size_of f ≤ length s
   unfolding field_at
   field-inside f e = tagged_in (num_at o 1 s) f (passed (leb (o + 3) (length s)) (tagged_at (num_at o 1 s) o s) f e).1

@@ -1,6 +1,6 @@
 -- What turns write fits its fields, for frames under 2^32 bytes and readings that the queue can say.
 -- Assumes nothing.
-use Rattle.std.specs.Prelude.{List, [], ◌∷◌, ◌≡◌, true, ℕ, zero, suc, ◌<◌, ◌^◌}
+use Rattle.std.specs.Prelude.{List, [], ◌∷◌, ◌≡◌, true, ℕ, zero, suc, ◌<◌, ◌^◌, Some, None}
 use Rattle.std.proofs.Common.{sym, subst, arith, lit<}
 use Rattle.codes.specs.Answers.{says_refusal}
 use Rattle.turns.specs.Rules.{choose_of, next_span, sent_of, submit, comes_to, judge_of, played_of, release, accept, ticked, settle, hear, act, turn_of}
@@ -12,7 +12,7 @@ use Rattle.trace.specs.Field.{AllFit}
 use Rattle.trace.specs.TaleLaws.{writes, tale}
 use Rattle.trace.specs.CompleteLaws.{heard_tale, hear-sent}
 use Rattle.trace.specs.Runs.{Real, AllReal}
-use Rattle.trace.specs.Types.{Track, Sent, Nothing, Reading, Quiet, Completed, Choice, Submit, Finish, Wait, Verdict, WrongSlot, Good, Bad}
+use Rattle.trace.specs.Types.{Track, Sent, Reading, Choice, Submit, Finish, Wait, Verdict, WrongSlot, Good, Bad}
 
 -- slots are below 32, the frames under 2^32 bytes
 pub record Small (t : Track) : Type 0 where
@@ -53,8 +53,8 @@ module _ (least n : ℕ) (script : List Reading) (later : (u : Track) → Small 
       ((h, (r, tt)), ((low, tt), tt))
 
   hear-fits : (sent : Sent) (t : Track) (x : Reading) → Real x → Small t → AllFit (heard_tale least n (hear (comes_to played_of x) sent t x) script)
-  hear-fits sent t Quiet r s = later t s
-  hear-fits sent t (Completed slot status) r s = settle-fits sent t slot status (judge_of t slot (played_of status)) (played t slot status) s r.1
+  hear-fits sent t None r s = later t s
+  hear-fits sent t (Some c) r s = settle-fits sent t c.slot c.status (judge_of t c.slot (played_of c.status)) (played t c.slot c.status) s r.1
 
   act-fits : (c : Choice) (t : Track) (x : Reading) → Chosen least t c → Real x → Small t → AllFit (writes (act c t (comes_to played_of x) x) (λ u. tale least n u script))
   act-fits Submit t x ch r s =
@@ -65,7 +65,7 @@ module _ (least n : ℕ) (script : List Reading) (later : (u : Track) → Small 
       ((low, (off, (len, tt))), hear-fits (sent_of t) (submit t) x r (small-submit t s))
   act-fits Finish t x ch r s = ((lit< tt, tt), tt)
   act-fits Wait t x ch r s =
-      subst (λ (z : Sent). AllFit (sent_then z (heard_tale least n (hear (comes_to played_of x) Nothing t x) script))) (sym (hear-sent Nothing t (comes_to played_of x) x)) (hear-fits Nothing t x r s)
+      subst (λ (z : Sent). AllFit (sent_then z (heard_tale least n (hear (comes_to played_of x) None t x) script))) (sym (hear-sent None t (comes_to played_of x) x)) (hear-fits None t x r s)
 
 pub tale-fits : (least n : ℕ) (t : Track) (script : List Reading) → AllReal script → Small t → AllFit (tale least n t script)
 unfolding tale turn_of

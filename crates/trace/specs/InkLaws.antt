@@ -1,6 +1,6 @@
 -- What the writer's code leans on: how long a turn's bytes are, where they stand, that their numbers fit, and what a turn leaves.
 -- Assumes nothing.
-use Rattle.std.specs.Prelude.{Bool, true, false, ◌&&◌, ◌||◌, List, [], ◌∷◌, ◌++◌, ◌≡◌, refl, ℕ, ◌+◌, ◌-◌, ◌≤◌, ◌<◌, ltb, leb, eqb, length}
+use Rattle.std.specs.Prelude.{Bool, true, false, ◌&&◌, ◌||◌, List, [], ◌∷◌, ◌++◌, ◌≡◌, refl, ℕ, ◌+◌, ◌-◌, ◌≤◌, ◌<◌, ltb, leb, eqb, length, Some, None}
 use Rattle.std.proofs.Common.{sym, subst, ◌∙◌, arith, length-append, eq-eqb, ne_eqb, ltb-true, le-leb, leb-true, leb-false}
 use Rattle.std.proofs.Math.Path.{ap}
 use Rattle.std.proofs.lemmas.List.Edits.{sets}
@@ -26,7 +26,7 @@ use Rattle.trace.specs.Writer.{opening_by, opening, ink_of, pen_fits, inked, wri
 use Rattle.trace.specs.PenLaws.{turn-length, one_size}
 use Rattle.trace.specs.WriterLaws.{counted_same}
 use Rattle.trace.specs.declared.field.Field.TheVariants as field
-use Rattle.trace.specs.Types.{Track, Step, Sent, Nothing, Reading, Quiet, Completed, Choice, Submit, Finish, Wait, Verdict, WrongSlot, Good, Bad, Outcome, Field}
+use Rattle.trace.specs.Types.{Track, Step, Sent, Reading, Choice, Submit, Finish, Wait, Verdict, WrongSlot, Good, Bad, Outcome, Field}
 
 -- ---- how long they are
 
@@ -111,13 +111,13 @@ settle-fits Good sent t slot status o j low = let e = j.1 in omega (arith, e, lo
 settle-fits (Bad r) sent t slot status o j low = let e = j.1 in omega (arith, e, low)
 
 hear-fits : (sent : Sent) (t : Track) (o : Outcome) (reading : Reading) → t.tail < 32 → HeardFits (hear o sent t reading).heard
-hear-fits sent t o Quiet low = tt
-hear-fits sent t o (Completed slot status) low = settle-fits (judge_of t slot o) sent t slot status o (judged t slot o) low
+hear-fits sent t o None low = tt
+hear-fits sent t o (Some c) low = settle-fits (judge_of t c.slot o) sent t c.slot c.status o (judged t c.slot o) low
 
 act-fits : (c : Choice) (t : Track) (o : Outcome) (reading : Reading) → t.tail < 32 → HeardFits (act c t o reading).heard
 act-fits Submit t o reading low = hear-fits (sent_of t) (submit t) o reading low
 act-fits Finish t o reading low = tt
-act-fits Wait t o reading low = hear-fits Nothing t o reading low
+act-fits Wait t o reading low = hear-fits None t o reading low
 
 turn-fits : (least : ℕ) (t : Track) (o : Outcome) (reading : Reading) → t.tail < 32 → HeardFits (counted_of (turn_of least t o reading)).heard
 unfolding turn_of

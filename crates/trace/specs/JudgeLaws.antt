@@ -1,15 +1,15 @@
 -- What the judge accepts are the fields that may follow.
 -- Assumes nothing.
-use Rattle.std.specs.Prelude.{Bool, true, false, ◌||◌, List, [], ◌∷◌, ◌≡◌, refl, ◌⊎◌, ℕ, ◌+◌, eqb}
+use Rattle.std.specs.Prelude.{Bool, true, false, ◌||◌, List, [], ◌∷◌, ◌≡◌, refl, ◌⊎◌, ℕ, ◌+◌, eqb, Result, Ok, Err, Some, None}
 use Rattle.std.proofs.lemmas.Bool.{false≢true}
 use Rattle.std.proofs.Common.{sym, ap, ◌∙◌, inl, inr, arith, eq-eqb, eqb-true}
 use Rattle.codes.specs.Says.{pick, guard}
 use Rattle.turns.specs.Rules.{choose_of, next_span, submit, judge_of, played_of, release}
 use Rattle.trace.specs.Field.{bytes_of}
 use Rattle.trace.specs.WalkLaws.{Ended, MaySend, MayFree, MayEnd, FreedBy, Walks}
-use Rattle.trace.specs.Judge.{may_send, may_free, may_end, ends, agree, due_of, sent_move, freed_move, move_of, rest_by, on_by, walk_of}
+use Rattle.trace.specs.Judge.{on, may_send, may_free, may_end, ends, agree, due_of, sent_move, freed_move, move_of, rest_by, on_by, walk_of}
 use Rattle.trace.specs.declared.field.Field.TheVariants as field
-use Rattle.trace.specs.Types.{Track, Sent, Nothing, Period, Choice, Submit, Finish, Wait, Verdict, WrongSlot, Good, Bad, Field, Stage, Opening, Out, Back, Failed, Over, Moved, On, Off, Judgement, Accepted, BadTrace, NotARun}
+use Rattle.trace.specs.Types.{Track, Sent, Choice, Submit, Finish, Wait, Verdict, WrongSlot, Good, Bad, Field, Stage, Opening, Out, Back, Failed, Over, State, Judgement, BadTrace, NotARun, sent_period}
 
 -- ---- the tests and what they mean
 
@@ -99,57 +99,57 @@ end-may Over c a e = absurd e
 -- ---- a move that leads to acceptance
 
 abbrev number : Judgement → ℕ
-number Accepted = 0
-number (BadTrace at) = 18
-number (NotARun at) = 19
+number (Ok u) = 0
+number (Err (BadTrace at)) = 18
+number (Err (NotARun at)) = 19
 
 abbrev Rest : Type 0
 Rest = Stage → Track → ℕ → Judgement
 
-never : (n : ℕ) → NotARun n ≡ Accepted → ⊥
+never : (n : ℕ) → ◌≡◌ {A = Judgement} (Err (NotARun n)) (Ok tt) → ⊥
 never n e = let z : ◌≡◌ {A = ℕ} 19 0 = ap number e in omega arith
 
-guard-reach : (at size : ℕ) (k : Rest) (b : Bool) (m : Moved) (j : ℕ) → on_by (guard b (Off j) m) at size k ≡ Accepted → (b ≡ true) × (on_by m at size k ≡ Accepted)
+guard-reach : (at size : ℕ) (k : Rest) (b : Bool) (m : Result State ℕ) (j : ℕ) → on_by (guard b (Err j) m) at size k ≡ Ok tt → (b ≡ true) × (on_by m at size k ≡ Ok tt)
 unfolding guard
 guard-reach at size k true m j e = (refl, e)
 guard-reach at size k false m j e = absurd (never (at + j) e)
 
-reach-guard : (at size : ℕ) (k : Rest) (b : Bool) (m : Moved) (j : ℕ) → b ≡ true → on_by m at size k ≡ Accepted → on_by (guard b (Off j) m) at size k ≡ Accepted
+reach-guard : (at size : ℕ) (k : Rest) (b : Bool) (m : Result State ℕ) (j : ℕ) → b ≡ true → on_by m at size k ≡ Ok tt → on_by (guard b (Err j) m) at size k ≡ Ok tt
 unfolding guard
-reach-guard at size k b m j p e = ap (λ (x : Bool). on_by (pick x m (Off j)) at size k) p ∙ e
+reach-guard at size k b m j p e = ap (λ (x : Bool). on_by (pick x m (Err j)) at size k) p ∙ e
 
 abbrev slot_in : Sent → ℕ
-slot_in Nothing = 0
-slot_in (Period slot offset len) = slot
+slot_in None = 0
+slot_in (Some p) = p.slot
 
 abbrev offset_in : Sent → ℕ
-offset_in Nothing = 0
-offset_in (Period slot offset len) = offset
+offset_in None = 0
+offset_in (Some p) = p.offset
 
 abbrev len_in : Sent → ℕ
-len_in Nothing = 0
-len_in (Period slot offset len) = len
+len_in None = 0
+len_in (Some p) = p.len
 
-freed-reach : (least at : ℕ) (fs : List Field) (t : Track) (v : Verdict) → ((st : Stage) (u : Track) (a : ℕ) → walk_of least st u a fs ≡ Accepted → Walks least st u fs)
-    → on_by (freed_move v t) at 8 (λ s u a. walk_of least s u a fs) ≡ Accepted → FreedBy v (Walks least Back (release t) fs) (Walks least Failed (release t) fs)
+freed-reach : (least at : ℕ) (fs : List Field) (t : Track) (v : Verdict) → ((st : Stage) (u : Track) (a : ℕ) → walk_of least st u a fs ≡ Ok tt → Walks least st u fs)
+    → on_by (freed_move v t) at 8 (λ s u a. walk_of least s u a fs) ≡ Ok tt → FreedBy v (Walks least Back (release t) fs) (Walks least Failed (release t) fs)
 freed-reach least at fs t WrongSlot ih e = absurd (never (at + 3) e)
 freed-reach least at fs t Good ih e = ih Back (release t) (at + 8) e
 freed-reach least at fs t (Bad a) ih e = ih Failed (release t) (at + 8) e
 
-reach-freed : (least at : ℕ) (fs : List Field) (t : Track) (v : Verdict) → ((st : Stage) (u : Track) (a : ℕ) → Walks least st u fs → walk_of least st u a fs ≡ Accepted)
-    → FreedBy v (Walks least Back (release t) fs) (Walks least Failed (release t) fs) → on_by (freed_move v t) at 8 (λ s u a. walk_of least s u a fs) ≡ Accepted
+reach-freed : (least at : ℕ) (fs : List Field) (t : Track) (v : Verdict) → ((st : Stage) (u : Track) (a : ℕ) → Walks least st u fs → walk_of least st u a fs ≡ Ok tt)
+    → FreedBy v (Walks least Back (release t) fs) (Walks least Failed (release t) fs) → on_by (freed_move v t) at 8 (λ s u a. walk_of least s u a fs) ≡ Ok tt
 reach-freed least at fs t WrongSlot ih w = absurd w
 reach-freed least at fs t Good ih w = ih Back (release t) (at + 8) w
 reach-freed least at fs t (Bad a) ih w = ih Failed (release t) (at + 8) w
 
-rest_over : (st : Stage) (at : ℕ) → rest_by st at ≡ Accepted → Ended st
+rest_over : (st : Stage) (at : ℕ) → rest_by st at ≡ Ok tt → Ended st
 rest_over Over at e = tt
 rest_over Opening at e = absurd (never at e)
 rest_over Out at e = absurd (never at e)
 rest_over Back at e = absurd (never at e)
 rest_over Failed at e = absurd (never at e)
 
-over-rest : (st : Stage) (at : ℕ) → Ended st → rest_by st at ≡ Accepted
+over-rest : (st : Stage) (at : ℕ) → Ended st → rest_by st at ≡ Ok tt
 over-rest Over at e = refl
 over-rest Opening at e = absurd e
 over-rest Out at e = absurd e
@@ -157,7 +157,7 @@ over-rest Back at e = absurd e
 over-rest Failed at e = absurd e
 
 -- ACCEPTED, field by field, both ways
-pub walk-accepts : (least : ℕ) (fs : List Field) (st : Stage) (t : Track) (at : ℕ) → walk_of least st t at fs ≡ Accepted → Walks least st t fs
+pub walk-accepts : (least : ℕ) (fs : List Field) (st : Stage) (t : Track) (at : ℕ) → walk_of least st t at fs ≡ Ok tt → Walks least st t fs
 unfolding walk_of move_of
 walk-accepts least [] st t at e = rest_over st at e
 walk-accepts least (field.Start stream total period ∷ fs) st t at e = absurd (never (at + 0) e)
@@ -165,24 +165,24 @@ walk-accepts least (field.Submitted slot offset len ∷ fs) st t at e =
     let k : Rest = λ s u a. walk_of least s u a fs in
     let g₁ = guard-reach at 12 k (may_send st (choose_of least t)) (sent_move t slot offset len) 0 e in
     let j = agree (bytes_of (field.Submitted slot offset len)) (bytes_of (due_of t)) in
-    let g₂ = guard-reach at 12 k (eqb slot t.head) (guard (eqb offset t.next) (Off j) (guard (eqb len (next_span t)) (Off j) (On Out (submit t)))) j g₁.1 in
-    let g₃ = guard-reach at 12 k (eqb offset t.next) (guard (eqb len (next_span t)) (Off j) (On Out (submit t))) j g₂.1 in
-    let g₄ = guard-reach at 12 k (eqb len (next_span t)) (On Out (submit t)) j g₃.1 in
+    let g₂ = guard-reach at 12 k (eqb slot t.head) (guard (eqb offset t.next) (Err j) (guard (eqb len (next_span t)) (Err j) (on Out (submit t)))) j g₁.1 in
+    let g₃ = guard-reach at 12 k (eqb offset t.next) (guard (eqb len (next_span t)) (Err j) (on Out (submit t))) j g₂.1 in
+    let g₄ = guard-reach at 12 k (eqb len (next_span t)) (on Out (submit t)) j g₃.1 in
     let p = eqb-true slot t.head g₂.0 in
     let q = eqb-true offset t.next g₃.0 in
     let r = eqb-true len (next_span t) g₄.0 in
-    (may-send st (choose_of least t) g₁.0, (λ i. Period (sym p i) (sym q i) (sym r i)), walk-accepts least fs Out (submit t) (at + 12) g₄.1)
+    (may-send st (choose_of least t) g₁.0, (λ i. sent_period (sym p i) (sym q i) (sym r i)), walk-accepts least fs Out (submit t) (at + 12) g₄.1)
 walk-accepts least (field.Completed slot status ∷ fs) st t at e =
     let k : Rest = λ s u a. walk_of least s u a fs in
     let g = guard-reach at 8 k (may_free st (choose_of least t)) (freed_move (judge_of t slot (played_of status)) t) 0 e in
     (may_free_lem st (choose_of least t) g.0, freed-reach least at fs t (judge_of t slot (played_of status)) (λ s u a. walk-accepts least fs s u a) g.1)
 walk-accepts least (field.End answer ∷ fs) st t at e =
     let k : Rest = λ s u a. walk_of least s u a fs in
-    let g₁ = guard-reach at 4 k (ends st (choose_of least t)) (guard (may_end st (choose_of least t) answer) (Off 3) (On Over t)) 0 e in
-    let g₂ = guard-reach at 4 k (may_end st (choose_of least t) answer) (On Over t) 3 g₁.1 in
+    let g₁ = guard-reach at 4 k (ends st (choose_of least t)) (guard (may_end st (choose_of least t) answer) (Err 3) (on Over t)) 0 e in
+    let g₂ = guard-reach at 4 k (may_end st (choose_of least t) answer) (on Over t) 3 g₁.1 in
     (may-end st (choose_of least t) answer g₂.0, walk-accepts least fs Over t (at + 4) g₂.1)
 
-pub accepts-walk : (least : ℕ) (fs : List Field) (st : Stage) (t : Track) (at : ℕ) → Walks least st t fs → walk_of least st t at fs ≡ Accepted
+pub accepts-walk : (least : ℕ) (fs : List Field) (st : Stage) (t : Track) (at : ℕ) → Walks least st t fs → walk_of least st t at fs ≡ Ok tt
 unfolding walk_of move_of
 accepts-walk least [] st t at w = over-rest st at w
 accepts-walk least (field.Start stream total period ∷ fs) st t at w = absurd w
@@ -193,9 +193,9 @@ accepts-walk least (field.Submitted slot offset len ∷ fs) st t at w =
     let q : offset ≡ t.next = sym (ap offset_in w.1) in
     let r : len ≡ next_span t = sym (ap len_in w.1) in
     reach-guard at 12 k (may_send st (choose_of least t)) (sent_move t slot offset len) 0 (send-may st (choose_of least t) w.0)
-    (reach-guard at 12 k (eqb slot t.head) (guard (eqb offset t.next) (Off j) (guard (eqb len (next_span t)) (Off j) (On Out (submit t)))) j (eq-eqb _ _ p)
-    (reach-guard at 12 k (eqb offset t.next) (guard (eqb len (next_span t)) (Off j) (On Out (submit t))) j (eq-eqb _ _ q)
-    (reach-guard at 12 k (eqb len (next_span t)) (On Out (submit t)) j (eq-eqb _ _ r) (accepts-walk least fs Out (submit t) (at + 12) w.2))))
+    (reach-guard at 12 k (eqb slot t.head) (guard (eqb offset t.next) (Err j) (guard (eqb len (next_span t)) (Err j) (on Out (submit t)))) j (eq-eqb _ _ p)
+    (reach-guard at 12 k (eqb offset t.next) (guard (eqb len (next_span t)) (Err j) (on Out (submit t))) j (eq-eqb _ _ q)
+    (reach-guard at 12 k (eqb len (next_span t)) (on Out (submit t)) j (eq-eqb _ _ r) (accepts-walk least fs Out (submit t) (at + 12) w.2))))
 accepts-walk least (field.Completed slot status ∷ fs) st t at w =
     let k : Rest = λ s u a. walk_of least s u a fs in
     reach-guard at 8 k (may_free st (choose_of least t)) (freed_move (judge_of t slot (played_of status)) t) 0 (free-may st (choose_of least t) w.0)
@@ -203,5 +203,5 @@ accepts-walk least (field.Completed slot status ∷ fs) st t at w =
 accepts-walk least (field.End answer ∷ fs) st t at w =
     let k : Rest = λ s u a. walk_of least s u a fs in
     let m = end-may st (choose_of least t) answer w.0 in
-    reach-guard at 4 k (ends st (choose_of least t)) (guard (may_end st (choose_of least t) answer) (Off 3) (On Over t)) 0 m.1
-    (reach-guard at 4 k (may_end st (choose_of least t) answer) (On Over t) 3 m.0 (accepts-walk least fs Over t (at + 4) w.1))
+    reach-guard at 4 k (ends st (choose_of least t)) (guard (may_end st (choose_of least t) answer) (Err 3) (on Over t)) 0 m.1
+    (reach-guard at 4 k (may_end st (choose_of least t) answer) (on Over t) 3 m.0 (accepts-walk least fs Over t (at + 4) w.1))

@@ -1,7 +1,7 @@
 -- 2026-12's list of differences in a lent room: rows of 34 bytes, position 8, kind 1 (0 only in the first, 1 only in the second, 2 other contents), tag 1, three numbers of
 -- the first trace's field and three of the second's, 4 each.
 -- Assumes nothing.
-use Rattle.std.specs.Prelude.{List, [], ◌∷◌, ℕ, ◌*◌, zero, suc, leb, length, get_or}
+use Rattle.std.specs.Prelude.{List, [], ◌∷◌, ℕ, ◌*◌, zero, suc, leb, length, get_or, Result, Ok, Err}
 use Rattle.std.proofs.lemmas.List.Edits.{sets}
 use Rattle.layout.specs.Layout.{write, read_at}
 use Rattle.layout.specs.Rows.{rows_bytes}
@@ -9,7 +9,7 @@ use Rattle.codes.specs.Says.{guard, Says, says}
 use Rattle.trace.specs.Fields.{scan_of}
 use Rattle.trace.specs.Compare.{contents_of, diffs_of}
 use Rattle.trace.specs.declared.field.Field.TheVariants as field
-use Rattle.trace.specs.Types.{Row, Judgement, Accepted, BadTrace, NotARun, Compared, Listed, BadFirst, BadSecond, ListFull, Difference, OnlyFirst, OnlySecond, Other, Field}
+use Rattle.trace.specs.Types.{Row, Judgement, BadTrace, NotARun, CompareError, BadFirst, BadSecond, ListFull, Difference, OnlyFirst, OnlySecond, Other, Field}
 
 -- ---- a row
 
@@ -29,49 +29,43 @@ abbrev pub row_of : Difference → List ℕ
 row_of d = write row_widths (row_values (row_by d))
 
 -- "18 for either trace, the first one judged first"
-abbrev pub tallied_by : Judgement → Judgement → ℕ → Compared
-tallied_by Accepted Accepted n = Listed n
-tallied_by Accepted (BadTrace at) n = BadSecond at
-tallied_by Accepted (NotARun at) n = BadSecond at
-tallied_by (BadTrace at) j n = BadFirst at
-tallied_by (NotARun at) j n = BadFirst at
+abbrev pub tallied_by : Judgement → Judgement → ℕ → Result ℕ CompareError
+tallied_by (Ok u) (Ok v) n = Ok n
+tallied_by (Ok u) (Err (BadTrace at)) n = Err (BadSecond at)
+tallied_by (Ok u) (Err (NotARun at)) n = Err (BadSecond at)
+tallied_by (Err (BadTrace at)) j n = Err (BadFirst at)
+tallied_by (Err (NotARun at)) j n = Err (BadFirst at)
 
-abbrev pub tallied_of : List ℕ → List ℕ → Compared
+abbrev pub tallied_of : List ℕ → List ℕ → Result ℕ CompareError
 tallied_of a b = tallied_by (scan_of a) (scan_of b) (length (diffs_of a b))
 
 -- "20 ListFull exactly when the differences outnumber the room lent": the room is counted in whole rows
-abbrev pub fitted_by : Compared → ℕ → Compared
-fitted_by (Listed n) room = guard (leb (n * 34) room) ListFull (Listed n)
-fitted_by (BadFirst at) room = BadFirst at
-fitted_by (BadSecond at) room = BadSecond at
-fitted_by ListFull room = ListFull
+abbrev pub fitted_by : Result ℕ CompareError → ℕ → Result ℕ CompareError
+fitted_by (Ok n) room = guard (leb (n * 34) room) (Err ListFull) (Ok n)
+fitted_by (Err e) room = Err e
 
-abbrev pub compared_of : List ℕ → List ℕ → ℕ → Compared
+abbrev pub compared_of : List ℕ → List ℕ → ℕ → Result ℕ CompareError
 compared_of a b room = fitted_by (tallied_of a b) room
 
 -- what the room holds afterwards: the rows at its front, or, "leaving it unchanged", what it held
-abbrev pub listed_by : Compared → List Difference → List ℕ → List ℕ
-listed_by (Listed n) ds l = sets l 0 (rows_bytes row_of ds)
-listed_by (BadFirst at) ds l = l
-listed_by (BadSecond at) ds l = l
-listed_by ListFull ds l = l
+abbrev pub listed_by : Result ℕ CompareError → List Difference → List ℕ → List ℕ
+listed_by (Ok n) ds l = sets l 0 (rows_bytes row_of ds)
+listed_by (Err e) ds l = l
 
 abbrev pub listed_of : List ℕ → List ℕ → List ℕ → List ℕ
 listed_of a b l = listed_by (compared_of a b (length l)) (diffs_of a b) l
 
 -- its number, and its values: the count, or which trace and where
-abbrev pub says_compared : Compared → Says
-says_compared (Listed n) = says 0 (n ∷ [])
-says_compared (BadFirst at) = says 18 (0 ∷ at ∷ [])
-says_compared (BadSecond at) = says 18 (1 ∷ at ∷ [])
-says_compared ListFull = says 20 []
+abbrev pub says_compared : Result ℕ CompareError → Says
+says_compared (Ok n) = says 0 (n ∷ [])
+says_compared (Err (BadFirst at)) = says 18 (0 ∷ at ∷ [])
+says_compared (Err (BadSecond at)) = says 18 (1 ∷ at ∷ [])
+says_compared (Err ListFull) = says 20 []
 
 -- the count; 0 where a trace is refused
-abbrev pub count_of : Compared → ℕ
-count_of (Listed n) = n
-count_of (BadFirst at) = 0
-count_of (BadSecond at) = 0
-count_of ListFull = 0
+abbrev pub count_of : Result ℕ CompareError → ℕ
+count_of (Ok n) = n
+count_of (Err e) = 0
 
 -- ---- a row, read back: by its tag, and by its kind
 

@@ -1,6 +1,6 @@
 -- Two traces walked side by side: what differs at one position, the rows of it, and where the code's loops stand.
 -- Assumes nothing.
-use Rattle.std.specs.Prelude.{Bool, true, false, ◌&&◌, ◌≡◌, ℕ, zero, suc, ◌+◌, ◌-◌, ◌*◌, ◌/◌, ◌≤◌, ◌<◌, eqb}
+use Rattle.std.specs.Prelude.{Bool, true, false, ◌&&◌, ◌≡◌, ℕ, zero, suc, ◌+◌, ◌-◌, ◌*◌, ◌/◌, ◌≤◌, ◌<◌, eqb, Option, Some, None, Result, Ok, Err}
 use Rattle.std.proofs.lemmas.Bool.{false≢true, lt-leb}
 use mathlib.Core.List.{List, [], ◌∷◌, ◌++◌, append_assoc, append-nil}
 use Rattle.std.proofs.Math.Path.{refl, ap, ap₂}
@@ -22,7 +22,7 @@ use Rattle.trace.specs.ScanLaws.{size-some}
 use Rattle.trace.specs.Compare.{contents_of, numbers_of, alike_of, pair_of, differences_from, diffs_of}
 use Rattle.trace.specs.Listed.{row_by, row_widths, row_values, row_of, tallied_by, tallied_of, fitted_by, compared_of, listed_by}
 use Rattle.trace.specs.Gaps.{gap_of, gap_list, found_size, over_of}
-use Rattle.trace.specs.Types.{Field, Contents, Row, Found, Is, NoField, Gap, Same, One, Two, Judgement, Accepted, BadTrace, NotARun, Compared, Listed, BadFirst, BadSecond, ListFull, Difference, OnlyFirst, OnlySecond, Other}
+use Rattle.trace.specs.Types.{Field, Contents, Row, Gap, Same, One, Two, Judgement, BadTrace, NotARun, CompareError, BadFirst, BadSecond, ListFull, Difference, OnlyFirst, OnlySecond, Other}
 
 -- ---- the rows of one position
 
@@ -60,12 +60,16 @@ room-two at n g d e p h = subst (λ (x : Gap). at + length (gap_list x) * 34 ≤
 abbrev pub alike_by : Contents → Contents → Bool
 alike_by f g = eqb f.a g.a && (eqb f.b g.b && (eqb f.c g.c && true))
 
+and-true : (b : Bool) → (b && true) ≡ b
+and-true true = refl
+and-true false = refl
+
+-- what `==` of two contents computes
+abbrev pub eq_by : Contents → Contents → Bool
+eq_by f g = eqb f.tag g.tag && (eqb f.a g.a && (eqb f.b g.b && eqb f.c g.c))
+
 pub alike-last : (f g : Contents) → f.a ≡ g.a → f.b ≡ g.b → eqb f.c g.c ≡ alike_by f g
 alike-last f g p q = sym (ap₂ (λ (x y : Bool). x && (y && (eqb f.c g.c && true))) (eq-eqb _ _ p) (eq-eqb _ _ q) ∙ and-true (eqb f.c g.c))
-  where
-    and-true : (b : Bool) → (b && true) ≡ b
-    and-true true = refl
-    and-true false = refl
 
 module _ (i : ℕ) (f g : Field) (x y : Contents) (p : x ≡ contents_of f) (q : y ≡ contents_of g) where
   tag-of : x.tag ≡ tag_of f
@@ -74,26 +78,32 @@ module _ (i : ℕ) (f g : Field) (x y : Contents) (p : x ≡ contents_of f) (q :
   tag-of-2 : y.tag ≡ tag_of g
   tag-of-2 = ap (λ (k : Contents). k.tag) q
 
-  pub pair-two : (x.tag ≡ y.tag → ⊥) → Two (OnlyFirst i f) (OnlySecond i g) ≡ gap_of i (Is f) (Is g)
+  pub pair-two : (x.tag ≡ y.tag → ⊥) → Two (OnlyFirst i f) (OnlySecond i g) ≡ gap_of i (Some f) (Some g)
   pair-two ne = stops _ _ _ (ne_eqb _ _ (λ e. ne (tag-of ∙ e ∙ sym tag-of-2))) refl
 
-  pub pair_same : (b : Bool) → x.tag ≡ y.tag → b ≡ alike_by x y → b ≡ true → Same ≡ gap_of i (Is f) (Is g)
-  pair_same b e a t = passes _ _ _ (eq-eqb _ _ (sym tag-of ∙ e ∙ tag-of-2)) (passes _ _ _ (sym (ap₂ alike_by p q) ∙ sym a ∙ t) refl)
+  -- of equal tags, equal contents are equal numbers
+  numbers : x.tag ≡ y.tag → eq_by x y ≡ alike_of (numbers_of f) (numbers_of g)
+  numbers e =
+      ap₂ (λ (t u : Bool). t && (eqb x.a y.a && (eqb x.b y.b && u))) (eq-eqb _ _ e) (sym (and-true (eqb x.c y.c)))
+      ∙ ap₂ alike_by p q
 
-  pub pair-other : (b : Bool) → x.tag ≡ y.tag → b ≡ alike_by x y → b ≡ false → One (Other i f g) ≡ gap_of i (Is f) (Is g)
-  pair-other b e a t = passes _ _ _ (eq-eqb _ _ (sym tag-of ∙ e ∙ tag-of-2)) (stops _ _ _ (sym (ap₂ alike_by p q) ∙ sym a ∙ t) refl)
+  pub pair_same : (b : Bool) → x.tag ≡ y.tag → b ≡ eq_by x y → b ≡ true → Same ≡ gap_of i (Some f) (Some g)
+  pair_same b e a t = passes _ _ _ (eq-eqb _ _ (sym tag-of ∙ e ∙ tag-of-2)) (passes _ _ _ (sym (numbers e) ∙ sym a ∙ t) refl)
+
+  pub pair-other : (b : Bool) → x.tag ≡ y.tag → b ≡ eq_by x y → b ≡ false → One (Other i f g) ≡ gap_of i (Some f) (Some g)
+  pair-other b e a t = passes _ _ _ (eq-eqb _ _ (sym tag-of ∙ e ∙ tag-of-2)) (stops _ _ _ (sym (numbers e) ∙ sym a ∙ t) refl)
 
 -- ---- the fields of a trace, whether or not they end here
 
 -- no field, no fields
-none_here : (fuel o : ℕ) (s : List ℕ) → field_at o s ≡ NoField → fields_from fuel o s ≡ []
+none_here : (fuel o : ℕ) (s : List ℕ) → field_at o s ≡ None → fields_from fuel o s ≡ []
 unfolding fields_from
 none_here zero o s e = refl
 none_here (suc k) o s e = by (eqb o (length s))
   where
     by : (t : Bool) → pick t [] (more_fields (field_at o s) o (λ p. fields_from k p s)) ≡ []
     by true = refl
-    by false = ap (λ (x : Found). more_fields x o (λ p. fields_from k p s)) e
+    by false = ap (λ (x : Option Field). more_fields x o (λ p. fields_from k p s)) e
 
 -- where a reader stands in a trace: so many fields may be left
 pub record Stands (s : List ℕ) (at fuel : ℕ) : Type 0 where
@@ -101,7 +111,7 @@ pub record Stands (s : List ℕ) (at fuel : ℕ) : Type 0 where
   pub enough : length s ≤ at + fuel
 
 -- one field is read, or none is left
-pub record Reads (s : List ℕ) (at fuel : ℕ) (x : Found) : Type 0 where
+pub record Reads (s : List ℕ) (at fuel : ℕ) (x : Option Field) : Type 0 where
   pub left : ℕ
   pub fields : fields_from fuel at s ≡ more_fields x at (λ p. fields_from left p s)
   pub next : Stands s (at + found_size x) left
@@ -110,30 +120,30 @@ refuted : (b : Bool) → (b ≡ true → ⊥) → false ≡ b
 refuted true h = absurd (h refl)
 refuted false h = refl
 
-reads : (s : List ℕ) (at fuel : ℕ) (x : Found) → field_at at s ≡ x → Stands s at fuel → Reads s at fuel x
+reads : (s : List ℕ) (at fuel : ℕ) (x : Option Field) → field_at at s ≡ x → Stands s at fuel → Reads s at fuel x
 unfolding fields_from
-reads s at fuel NoField e st =
+reads s at fuel None e st =
     record { left = fuel; fields = none_here fuel at s e; next = subst (λ (k : ℕ). Stands s k fuel) (sym (add-zero at)) st }
-reads s at zero (Is f) e st =
+reads s at zero (Some f) e st =
     let h = field-inside at s f e in
     let big = size-some f in
     let n = st.enough in
     absurd (omega (arith, h, big, n))
-reads s at (suc k) (Is f) e st =
+reads s at (suc k) (Some f) e st =
     let h = field-inside at s f e in
     let big = size-some f in
     let n = st.enough in
     let open' : eqb at (length s) ≡ false = sym (refuted (eqb at (length s)) (λ t. let z : at ≡ length s = eqb-true _ _ t in omega (arith, h, big, z))) in
     record {
       left = k;
-      fields = skips (eqb at (length s)) [] (more_fields (field_at at s) at (λ p. fields_from k p s)) open' ∙ ap (λ (y : Found). more_fields y at (λ p. fields_from k p s)) e;
+      fields = skips (eqb at (length s)) [] (more_fields (field_at at s) at (λ p. fields_from k p s)) open' ∙ ap (λ (y : Option Field). more_fields y at (λ p. fields_from k p s)) e;
       next = record { inside = h; enough = omega (arith, big, n) };
     }
 
 -- ---- one position of two traces
 
 -- what a guard of gaps lists
-pair-list : (i : ℕ) (f g : Field) (rest : List Difference) → pair_of i f g rest ≡ gap_list (gap_of i (Is f) (Is g)) ++ rest
+pair-list : (i : ℕ) (f g : Field) (rest : List Difference) → pair_of i f g rest ≡ gap_list (gap_of i (Some f) (Some g)) ++ rest
 unfolding guard
 pair-list i f g rest = by (eqb (tag_of f) (tag_of g)) (alike_of (numbers_of f) (numbers_of g))
   where
@@ -143,41 +153,41 @@ pair-list i f g rest = by (eqb (tag_of f) (tag_of g)) (alike_of (numbers_of f) (
     by true false = refl
     by false a = refl
 
-step : (i : ℕ) (x y : Found) (at bt : ℕ) (fs gs : ℕ → List Field) → (x ≡ NoField → fs at ≡ []) → (y ≡ NoField → gs bt ≡ []) → over_of x y ≡ false
+step : (i : ℕ) (x y : Option Field) (at bt : ℕ) (fs gs : ℕ → List Field) → (x ≡ None → fs at ≡ []) → (y ≡ None → gs bt ≡ []) → over_of x y ≡ false
     → differences_from i (more_fields x at fs) (more_fields y bt gs) ≡ gap_list (gap_of i x y) ++ differences_from (suc i) (fs (at + found_size x)) (gs (bt + found_size y))
 unfolding differences_from
-step i NoField NoField at bt fs gs p q o = absurd (false≢true (sym o))
-step i NoField (Is g) at bt fs gs p q o =
+step i None None at bt fs gs p q o = absurd (false≢true (sym o))
+step i None (Some g) at bt fs gs p q o =
     ap (λ (l : List Field). OnlySecond i g ∷ differences_from (suc i) l (gs (bt + size_of g))) (sym (p refl) ∙ ap fs (sym (add-zero at)))
-step i (Is f) NoField at bt fs gs p q o =
+step i (Some f) None at bt fs gs p q o =
     only (fs (at + size_of f)) ∙ ap (λ (l : List Field). OnlyFirst i f ∷ differences_from (suc i) (fs (at + size_of f)) l) (sym (q refl) ∙ ap gs (sym (add-zero bt)))
   where
     only : (l : List Field) → differences_from i (f ∷ l) [] ≡ OnlyFirst i f ∷ differences_from (suc i) l []
     only l = refl
-step i (Is f) (Is g) at bt fs gs p q o = pair-list i f g (differences_from (suc i) (fs (at + size_of f)) (gs (bt + size_of g)))
+step i (Some f) (Some g) at bt fs gs p q o = pair-list i f g (differences_from (suc i) (fs (at + size_of f)) (gs (bt + size_of g)))
 
 -- as many differences as fields, at most
-few : (i : ℕ) (x y : Found) → length (gap_list (gap_of i x y)) * 4 ≤ found_size x + found_size y
-few i NoField NoField = omega arith
-few i NoField (Is g) = let h = size-some g in omega (arith, h)
-few i (Is f) NoField = let h = size-some f in omega (arith, h)
-few i (Is f) (Is g) =
+few : (i : ℕ) (x y : Option Field) → length (gap_list (gap_of i x y)) * 4 ≤ found_size x + found_size y
+few i None None = omega arith
+few i None (Some g) = let h = size-some g in omega (arith, h)
+few i (Some f) None = let h = size-some f in omega (arith, h)
+few i (Some f) (Some g) =
     let h = size-some f in
     let k = size-some g in
     guarded-by (λ (z : Gap). length (gap_list z) * 4 ≤ size_of f + size_of g) (eqb (tag_of f) (tag_of g)) (Two (OnlyFirst i f) (OnlySecond i g)) (guard (alike_of (numbers_of f) (numbers_of g)) (One (Other i f g)) Same)
     (λ _. guarded-by (λ (z : Gap). length (gap_list z) * 4 ≤ size_of f + size_of g) (alike_of (numbers_of f) (numbers_of g)) (One (Other i f g)) Same (λ _. omega arith) (λ _. omega (arith, h)))
     (λ _. omega (arith, h, k))
 
-some : (x y : Found) → over_of x y ≡ false → 4 ≤ found_size x + found_size y
-some NoField NoField o = absurd (false≢true (sym o))
-some NoField (Is g) o = let h = size-some g in omega (arith, h)
-some (Is f) NoField o = let h = size-some f in omega (arith, h)
-some (Is f) (Is g) o = let h = size-some f in omega (arith, h)
+some : (x y : Option Field) → over_of x y ≡ false → 4 ≤ found_size x + found_size y
+some None None o = absurd (false≢true (sym o))
+some None (Some g) o = let h = size-some g in omega (arith, h)
+some (Some f) None o = let h = size-some f in omega (arith, h)
+some (Some f) (Some g) o = let h = size-some f in omega (arith, h)
 
-over-both : (x y : Found) → over_of x y ≡ true → (x ≡ NoField) × (y ≡ NoField)
-over-both NoField NoField o = (refl, refl)
-over-both NoField (Is g) o = absurd (false≢true o)
-over-both (Is f) y o = absurd (false≢true o)
+over-both : (x y : Option Field) → over_of x y ≡ true → (x ≡ None) × (y ≡ None)
+over-both None None o = (refl, refl)
+over-both None (Some g) o = absurd (false≢true o)
+over-both (Some f) y o = absurd (false≢true o)
 
 -- ---- where the loops stand: position i, offsets at and bt, n differences before
 
@@ -208,7 +218,7 @@ module _ (a b : List ℕ) where
         rows = omega arith;
       }
 
-  module _ (at bt i n : ℕ) (m : Meet a b at bt i n) (x y : Found) (p : x ≡ field_at at a) (q : y ≡ field_at bt b) (o : Bool) (oe : o ≡ over_of x y) where
+  module _ (at bt i n : ℕ) (m : Meet a b at bt i n) (x y : Option Field) (p : x ≡ field_at at a) (q : y ≡ field_at bt b) (o : Bool) (oe : o ≡ over_of x y) where
     -- neither goes on: all differences stand before
     pub meet_all : o ≡ true → diffs_of a b ≡ m.before
     unfolding differences_from
@@ -245,8 +255,8 @@ module _ (a b : List ℕ) where
         let ra = reads a at m.fa x (sym p) m.in-a in
         let rb = reads b bt m.fb y (sym q) m.in_b in
         let off : over_of x y ≡ false = sym oe ∙ t in
-        let na : x ≡ NoField → fields_from ra.left at a ≡ [] = λ z. none_here ra.left at a (sym p ∙ z) in
-        let nb : y ≡ NoField → fields_from rb.left bt b ≡ [] = λ z. none_here rb.left bt b (sym q ∙ z) in
+        let na : x ≡ None → fields_from ra.left at a ≡ [] = λ z. none_here ra.left at a (sym p ∙ z) in
+        let nb : y ≡ None → fields_from rb.left bt b ≡ [] = λ z. none_here rb.left bt b (sym q ∙ z) in
         let s = step i x y at bt (λ r. fields_from ra.left r a) (λ r. fields_from rb.left r b) na nb off in
         let w : Meet a b (at + found_size x) (bt + found_size y) (suc i) (n + k) =
         record {
@@ -310,7 +320,7 @@ module _ (a b l : List ℕ) where
   unfolding rows_bytes meet-first
   filled-first = record { meet = meet-first a b; long = refl; rows = refl }
 
-  module _ (at bt i n : ℕ) (s : List ℕ) (m : Filled a b l at bt i n s) (x y : Found) (p : x ≡ field_at at a) (q : y ≡ field_at bt b) (o : Bool) (oe : o ≡ over_of x y) where
+  module _ (at bt i n : ℕ) (s : List ℕ) (m : Filled a b l at bt i n s) (x y : Option Field) (p : x ≡ field_at at a) (q : y ≡ field_at bt b) (o : Bool) (oe : o ≡ over_of x y) where
     pub filled-all : o ≡ true → s ≡ sets l 0 (rows_bytes row_of (diffs_of a b))
     filled-all t = m.rows ∙ ap (λ (ds : List Difference). sets l 0 (rows_bytes row_of ds)) (sym (meet_all a b at bt i n m.meet x y p q o oe t))
 
@@ -344,59 +354,59 @@ module _ (a b l : List ℕ) where
 
 -- ---- what is said
 
-pub tallied-second : (b : List ℕ) (n : ℕ) (j k : Judgement) → j ≡ scan_of b → j ≡ k → tallied_by Accepted k n ≡ tallied_by Accepted (scan_of b) n
-tallied-second b n j k e is = ap (λ (z : Judgement). tallied_by Accepted z n) (sym is ∙ e)
+pub tallied-second : (b : List ℕ) (n : ℕ) (j k : Judgement) → j ≡ scan_of b → j ≡ k → tallied_by (Ok tt) k n ≡ tallied_by (Ok tt) (scan_of b) n
+tallied-second b n j k e is = ap (λ (z : Judgement). tallied_by (Ok tt) z n) (sym is ∙ e)
 
 pub tallied-first : (a b : List ℕ) (j k : Judgement) → j ≡ scan_of a → j ≡ k → tallied_by k (scan_of b) (length (diffs_of a b)) ≡ tallied_of a b
 tallied-first a b j k e is = ap (λ (z : Judgement). tallied_by z (scan_of b) (length (diffs_of a b))) (sym is ∙ e)
 
-abbrev pub kind_of : Compared → ℕ
-kind_of (Listed n) = 0
-kind_of (BadFirst at) = 1
-kind_of (BadSecond at) = 2
-kind_of ListFull = 3
+abbrev pub kind_of : Result ℕ CompareError → ℕ
+kind_of (Ok n) = 0
+kind_of (Err (BadFirst at)) = 1
+kind_of (Err (BadSecond at)) = 2
+kind_of (Err ListFull) = 3
 
-abbrev pub count_in : Compared → ℕ
-count_in (Listed n) = n
-count_in (BadFirst at) = 0
-count_in (BadSecond at) = 0
-count_in ListFull = 0
+abbrev pub count_in : Result ℕ CompareError → ℕ
+count_in (Ok n) = n
+count_in (Err (BadFirst at)) = 0
+count_in (Err (BadSecond at)) = 0
+count_in (Err ListFull) = 0
 
-pub listed_by_lem : (n m : ℕ) (j k : Judgement) → Listed n ≡ tallied_by j k m → (n ≡ m) × (j ≡ Accepted) × (k ≡ Accepted)
-listed_by_lem n m Accepted Accepted e = (ap count_in e, refl, refl)
-listed_by_lem n m Accepted (BadTrace at) e = let z : ◌≡◌ {A = ℕ} 0 2 = ap kind_of e in absurd (omega arith)
-listed_by_lem n m Accepted (NotARun at) e = let z : ◌≡◌ {A = ℕ} 0 2 = ap kind_of e in absurd (omega arith)
-listed_by_lem n m (BadTrace at) k e = let z : ◌≡◌ {A = ℕ} 0 1 = ap kind_of e in absurd (omega arith)
-listed_by_lem n m (NotARun at) k e = let z : ◌≡◌ {A = ℕ} 0 1 = ap kind_of e in absurd (omega arith)
+pub listed_by_lem : (n m : ℕ) (j k : Judgement) → Ok n ≡ tallied_by j k m → (n ≡ m) × (j ≡ Ok tt) × (k ≡ Ok tt)
+listed_by_lem n m (Ok u) (Ok v) e = (ap count_in e, refl, refl)
+listed_by_lem n m (Ok u) (Err (BadTrace at)) e = let z : ◌≡◌ {A = ℕ} 0 2 = ap kind_of e in absurd (omega arith)
+listed_by_lem n m (Ok u) (Err (NotARun at)) e = let z : ◌≡◌ {A = ℕ} 0 2 = ap kind_of e in absurd (omega arith)
+listed_by_lem n m (Err (BadTrace at)) k e = let z : ◌≡◌ {A = ℕ} 0 1 = ap kind_of e in absurd (omega arith)
+listed_by_lem n m (Err (NotARun at)) k e = let z : ◌≡◌ {A = ℕ} 0 1 = ap kind_of e in absurd (omega arith)
 
-module _ (a b l : List ℕ) (r : Compared) (e : r ≡ tallied_of a b) where
+module _ (a b l : List ℕ) (r : Result ℕ CompareError) (e : r ≡ tallied_of a b) where
   -- the answer and the room
-  abbrev pub Said : Compared → List ℕ → Type 0
+  abbrev pub Said : Result ℕ CompareError → List ℕ → Type 0
   Said x n = (x ≡ compared_of a b (length l)) × (n ≡ listed_by (compared_of a b (length l)) (diffs_of a b) l)
 
-  said : (x : Compared) (n : List ℕ) → x ≡ compared_of a b (length l) → n ≡ listed_by x (diffs_of a b) l → Said x n
-  said x n p q = (p, q ∙ ap (λ (z : Compared). listed_by z (diffs_of a b) l) p)
+  said : (x : Result ℕ CompareError) (n : List ℕ) → x ≡ compared_of a b (length l) → n ≡ listed_by x (diffs_of a b) l → Said x n
+  said x n p q = (p, q ∙ ap (λ (z : Result ℕ CompareError). listed_by z (diffs_of a b) l) p)
 
-  fitted : (k : Compared) → r ≡ k → fitted_by k (length l) ≡ compared_of a b (length l)
-  fitted k is = ap (λ (z : Compared). fitted_by z (length l)) (sym is ∙ e)
+  fitted : (k : Result ℕ CompareError) → r ≡ k → fitted_by k (length l) ≡ compared_of a b (length l)
+  fitted k is = ap (λ (z : Result ℕ CompareError). fitted_by z (length l)) (sym is ∙ e)
 
-  module _ (n : ℕ) (is : r ≡ Listed n) (len : ℕ) (long : len ≡ length l) where
+  module _ (n : ℕ) (is : r ≡ Ok n) (len : ℕ) (long : len ≡ length l) where
     pub listed-room : n ≤ len / 34 → length (diffs_of a b) * 34 ≤ length l
     listed-room h =
         let c = (listed_by_lem n (length (diffs_of a b)) (scan_of a) (scan_of b) (sym is ∙ e)).0 in
         omega (arith, h, c, long)
 
-    pub said-full : len / 34 < n → Said ListFull l
-    said-full h = let p : length l < n * 34 = omega (arith, h, long) in said ListFull l (stops _ _ _ (lt-leb _ _ p) refl ∙ fitted (Listed n) is) refl
+    pub said-full : len / 34 < n → Said (Err ListFull) l
+    said-full h = let p : length l < n * 34 = omega (arith, h, long) in said (Err ListFull) l (stops _ _ _ (lt-leb _ _ p) refl ∙ fitted (Ok n) is) refl
 
-    pub said-listed : (n' : List ℕ) → n ≤ len / 34 → n' ≡ sets l 0 (rows_bytes row_of (diffs_of a b)) → Said (Listed n) n'
-    said-listed n' h q = let p : n * 34 ≤ length l = omega (arith, h, long) in said (Listed n) n' (passes _ _ _ (le-leb _ _ p) refl ∙ fitted (Listed n) is) q
+    pub said-listed : (n' : List ℕ) → n ≤ len / 34 → n' ≡ sets l 0 (rows_bytes row_of (diffs_of a b)) → Said (Ok n) n'
+    said-listed n' h q = let p : n * 34 ≤ length l = omega (arith, h, long) in said (Ok n) n' (passes _ _ _ (le-leb _ _ p) refl ∙ fitted (Ok n) is) q
 
-  pub said-first : (at : ℕ) → r ≡ BadFirst at → Said (BadFirst at) l
-  said-first at is = said (BadFirst at) l (fitted (BadFirst at) is) refl
+  pub said-first : (at : ℕ) → r ≡ Err (BadFirst at) → Said (Err (BadFirst at)) l
+  said-first at is = said (Err (BadFirst at)) l (fitted (Err (BadFirst at)) is) refl
 
-  pub said-second : (at : ℕ) → r ≡ BadSecond at → Said (BadSecond at) l
-  said-second at is = said (BadSecond at) l (fitted (BadSecond at) is) refl
+  pub said-second : (at : ℕ) → r ≡ Err (BadSecond at) → Said (Err (BadSecond at)) l
+  said-second at is = said (Err (BadSecond at)) l (fitted (Err (BadSecond at)) is) refl
 
-  pub said-none : r ≡ ListFull → Said ListFull l
-  said-none is = said ListFull l (fitted ListFull is) refl
+  pub said-none : r ≡ Err ListFull → Said (Err ListFull) l
+  said-none is = said (Err ListFull) l (fitted (Err ListFull) is) refl

@@ -1,6 +1,6 @@
 -- 2026-11: 19 tells "the first byte through which no run's trace agrees, or the length where the trace only ends early".
 -- Assumes nothing.
-use Rattle.std.specs.Prelude.{Bool, ◌≡◌, eqb}
+use Rattle.std.specs.Prelude.{Bool, ◌≡◌, eqb, Option, Some, None, Ok, Err}
 use Rattle.std.proofs.Math.Bool.{true, false}
 use mathlib.Core.List.{List, [], ◌∷◌, ◌++◌, append_assoc}
 use Rattle.std.proofs.Math.Path.{refl, sym, ap, subst}
@@ -26,7 +26,7 @@ use Rattle.trace.specs.Runs.{IsRun, RunOf, Told}
 use Rattle.trace.specs.AcceptLaws.{number_of, run_fits}
 use Rattle.trace.specs.WalkLaws.{Walks}
 use Rattle.trace.specs.declared.field.Field.TheVariants as field
-use Rattle.trace.specs.Types.{Field, Found, Is, NoField, Opening, Judgement, Accepted, BadTrace, NotARun}
+use Rattle.trace.specs.Types.{Field, Opening, Judgement, BadTrace, NotARun}
 
 -- ---- a run's fields
 
@@ -43,9 +43,9 @@ begin per least stream total period gs fit some w g =
     record { trace = field.Start stream total period ∷ gs; run = accepted-is-run per least (field.Start stream total period ∷ gs) (fit, g) (some, w); bytes = refl }
 
 abbrev place_in : Judgement → ℕ
-place_in Accepted = 0
-place_in (BadTrace at) = at
-place_in (NotARun at) = at
+place_in (Ok u) = 0
+place_in (Err (BadTrace at)) = at
+place_in (Err (NotARun at)) = at
 
 module _ (per least : ℕ) (few : least ≤ 32) where
   -- ---- the first field is no start
@@ -155,11 +155,11 @@ module _ (per least : ℕ) (few : least ≤ 32) where
   -- ---- of fields, and of bytes
 
   started : (stream total period : ℕ) (fs : List Field) (at : ℕ) → Fits (field.Start stream total period) → AllFit fs
-      → guard (ltb 0 period) (NotARun 14) (walk_of least Opening (begun per stream total period 0) 15 fs) ≡ NotARun at → Told per least (trace_bytes (field.Start stream total period ∷ fs)) at
+      → guard (ltb 0 period) (Err (NotARun 14)) (walk_of least Opening (begun per stream total period 0) 15 fs) ≡ Err (NotARun at) → Told per least (trace_bytes (field.Start stream total period ∷ fs)) at
   unfolding guard
   started stream total period fs at fit rest e = by (ltb 0 period) refl e
     where
-      by : (b : Bool) → ltb 0 period ≡ b → guard b (NotARun 14) (walk_of least Opening (begun per stream total period 0) 15 fs) ≡ NotARun at → Told per least (trace_bytes (field.Start stream total period ∷ fs)) at
+      by : (b : Bool) → ltb 0 period ≡ b → guard b (Err (NotARun 14)) (walk_of least Opening (begun per stream total period 0) 15 fs) ≡ Err (NotARun at) → Told per least (trace_bytes (field.Start stream total period ∷ fs)) at
       by true p q = behind stream total period fs at fit (ltb-true 0 period p) (stops least few fs Opening (begun per stream total period 0) 15 at rest (small-begun per stream total period fit) tt q)
       by false p q =
           let zero-period : period ≡ 0 = let h : period ≤ 0 = ltb-false 0 period p in omega arith in
@@ -167,7 +167,7 @@ module _ (per least : ℕ) (few : least ≤ 32) where
           subst (λ (n : ℕ). Told per least (trace_bytes (field.Start stream total period ∷ fs)) n) place
           (subst (λ (n : ℕ). Told per least (trace_bytes (field.Start stream total n ∷ fs)) 14) (sym zero-period) (period-none stream total fs (subst (λ (n : ℕ). Fits (field.Start stream total n)) zero-period fit)))
 
-  judged-fields : (fs : List Field) (at : ℕ) → AllFit fs → judged_by Accepted per least fs ≡ NotARun at → Told per least (trace_bytes fs) at
+  judged-fields : (fs : List Field) (at : ℕ) → AllFit fs → judged_by (Ok tt) per least fs ≡ Err (NotARun at) → Told per least (trace_bytes fs) at
   judged-fields [] at fit e = let z : ◌≡◌ {A = ℕ} 18 19 = ap number_of e in absurd (omega arith)
   judged-fields (field.Start stream total period ∷ fs) at fit e = started stream total period fs at fit.0 fit.1 e
   judged-fields (field.Submitted a b c ∷ fs) at fit e = subst (λ (n : ℕ). Told per least (trace_bytes (field.Submitted a b c ∷ fs)) n) (ap place_in e) (no_start (field.Submitted a b c) fs (λ z. omega arith))
@@ -175,24 +175,24 @@ module _ (per least : ℕ) (few : least ≤ 32) where
   judged-fields (field.End a ∷ fs) at fit e = subst (λ (n : ℕ). Told per least (trace_bytes (field.End a ∷ fs)) n) (ap place_in e) (no_start (field.End a) fs (λ z. omega arith))
 
 -- a scan never says 19
-pub scan-never : (fuel o x : ℕ) (s : List ℕ) → scan_from fuel o s ≡ NotARun x → ⊥
+pub scan-never : (fuel o x : ℕ) (s : List ℕ) → scan_from fuel o s ≡ Err (NotARun x) → ⊥
 unfolding scan_from
 scan-never zero o x s e = let z : ◌≡◌ {A = ℕ} 0 19 = ap number_of e in omega arith
 scan-never (suc fuel) o x s e = by (eqb o (length s)) (field_at o s) (λ p q. scan-never fuel p x s q) e
   where
-    by : (b : Bool) (f : Found) → ((p : ℕ) → scan_from fuel p s ≡ NotARun x → ⊥) → pick b Accepted (scan_by f o (λ p. scan_from fuel p s)) ≡ NotARun x → ⊥
+    by : (b : Bool) (f : Option Field) → ((p : ℕ) → scan_from fuel p s ≡ Err (NotARun x) → ⊥) → pick b (Ok tt) (scan_by f o (λ p. scan_from fuel p s)) ≡ Err (NotARun x) → ⊥
     by true f deeper q = let z : ◌≡◌ {A = ℕ} 0 19 = ap number_of q in omega arith
-    by false (Is f) deeper q = deeper (o + size_of f) q
-    by false NoField deeper q = let z : ◌≡◌ {A = ℕ} 18 19 = ap number_of q in omega arith
+    by false (Some f) deeper q = deeper (o + size_of f) q
+    by false None deeper q = let z : ◌≡◌ {A = ℕ} 18 19 = ap number_of q in omega arith
 
 -- THE OFFSET OF 19
-pub stops_at : (per least : ℕ) → least ≤ 32 → (s : List ℕ) (at : ℕ) → Bytes s → judges per least s ≡ NotARun at → Told per least s at
+pub stops_at : (per least : ℕ) → least ≤ 32 → (s : List ℕ) (at : ℕ) → Bytes s → judges per least s ≡ Err (NotARun at) → Told per least s at
 unfolding judges
 stops_at per least few s at b e = by (scan_from (length s) 0 s) refl e
   where
-    by : (j : Judgement) → scan_from (length s) 0 s ≡ j → judged_by j per least (fields_from (length s) 0 s) ≡ NotARun at → Told per least s at
-    by Accepted p q =
+    by : (j : Judgement) → scan_from (length s) 0 s ≡ j → judged_by j per least (fields_from (length s) 0 s) ≡ Err (NotARun at) → Told per least s at
+    by (Ok u) p q =
         let k = scan-fields (length s) 0 (length s) s b (omega arith) (omega arith) p in
         subst (λ (l : List ℕ). Told per least l at) (sym k.bytes ∙ bytes_at-all s (length s) refl) (judged-fields per least few (fields_from (length s) 0 s) at k.fit q)
-    by (BadTrace x) p q = let z : ◌≡◌ {A = ℕ} 18 19 = ap number_of q in absurd (omega arith)
-    by (NotARun x) p q = absurd (scan-never (length s) 0 x s p)
+    by (Err (BadTrace x)) p q = let z : ◌≡◌ {A = ℕ} 18 19 = ap number_of q in absurd (omega arith)
+    by (Err (NotARun x)) p q = absurd (scan-never (length s) 0 x s p)

@@ -1,6 +1,6 @@
 -- Where the judge stops: a run agrees up to that byte, and none through it.
 -- Assumes nothing.
-use Rattle.std.specs.Prelude.{Bool, true, false, ◌≡◌, refl, ◌⊎◌, ℕ, zero, suc, ◌+◌, ◌*◌, ◌≤◌, ◌<◌, eqb, length, get_or, take}
+use Rattle.std.specs.Prelude.{Bool, true, false, ◌≡◌, refl, ◌⊎◌, ℕ, zero, suc, ◌+◌, ◌*◌, ◌≤◌, ◌<◌, eqb, length, get_or, take, Option, Some, None, Result, Ok, Err}
 use Rattle.std.proofs.lemmas.Bool.{false≢true, eqb-false}
 use mathlib.Core.List.{List, [], ◌∷◌, ◌++◌, append_assoc}
 use Rattle.std.proofs.Common.{sym, ◌∙◌, inl, inr, zero-mul, arith, length-append, eq-eqb, eqb-true}
@@ -15,7 +15,7 @@ use Rattle.turns.specs.Rules.{choose_of, next_span, sent_of, submit, judge_of, p
 use Rattle.turns.specs.RuleLaws.{Chosen, chosen}
 use Rattle.trace.specs.PlayedLaws.{Played, played}
 use Rattle.trace.specs.Field.{tag_of, bytes_of, Fits, size_of, trace_bytes, AllFit}
-use Rattle.trace.specs.Judge.{may_send, may_free, may_end, ends, agree, due_of, sent_move, freed_move, move_by, move_of, rest_by, on_by, walk_of}
+use Rattle.trace.specs.Judge.{on, may_send, may_free, may_end, ends, agree, due_of, sent_move, freed_move, move_by, move_of, rest_by, on_by, walk_of}
 use Rattle.trace.specs.JudgeLaws.{may-send, send-may, may_free_lem, free-may, may-end, end-may}
 use Rattle.trace.specs.Fields.{field_at}
 use Rattle.trace.specs.FieldLaws.{field_found}
@@ -24,7 +24,7 @@ use Rattle.trace.specs.FitLaws.{Small, small-submit, small-release}
 use Rattle.trace.specs.ListLaws.{take_past, take_in, cancel, get_d-in, get_d-took, agree-take, agree-differs}
 use Rattle.trace.specs.WalkLaws.{MaySend, MayFree, MayEnd, FreedBy, WalksBy, Walks}
 use Rattle.trace.specs.declared.field.Field.TheVariants as field
-use Rattle.trace.specs.Types.{Track, Sent, Nothing, Period, Choice, Submit, Finish, Wait, Verdict, WrongSlot, Good, Bad, Field, Found, Is, NoField, Stage, Opening, Out, Back, Failed, Over, Moved, On, Off, Judgement, Accepted, BadTrace, NotARun}
+use Rattle.trace.specs.Types.{Track, Sent, Choice, Submit, Finish, Wait, Verdict, WrongSlot, Good, Bad, Field, Stage, Opening, Out, Back, Failed, Over, State, Judgement, BadTrace, NotARun, sent_period}
 
 -- some fields that may follow agree with the first k bytes
 pub record Near (least : ℕ) (st : Stage) (t : Track) (bytes : List ℕ) (k : ℕ) : Type 0 where
@@ -86,14 +86,14 @@ near_none least st t bytes s =
 
 -- ---- two traces that begin with the same bytes begin with the same field
 
-abbrev the_field : Found → Field
-the_field (Is f) = f
-the_field NoField = field.End 0
+abbrev the_field : Option Field → Field
+the_field (Some f) = f
+the_field None = field.End 0
 
 pub same-field : (f g : Field) (a b : List ℕ) → Fits f → Fits g → bytes_of f ++ a ≡ bytes_of g ++ b → f ≡ g
 same-field f g a b p q e =
-    let x : field_at 0 (bytes_of f ++ a) ≡ Is f = field_found [] a f p in
-    let y : field_at 0 (bytes_of g ++ b) ≡ Is g = field_found [] b g q in
+    let x : field_at 0 (bytes_of f ++ a) ≡ Some f = field_found [] a f p in
+    let y : field_at 0 (bytes_of g ++ b) ≡ Some g = field_found [] b g q in
     ap the_field (sym x ∙ ap (λ (l : List ℕ). field_at 0 l) e ∙ y)
 
 -- ---- byte by byte
@@ -171,21 +171,21 @@ pub record Parts (least : ℕ) (st : Stage) (t : Track) (f : Field) (k : ℕ) : 
 -- ---- field by field
 
 abbrev field_in : Sent → Field
-field_in Nothing = field.End 0
-field_in (Period x y z) = field.Submitted x y z
+field_in None = field.End 0
+field_in (Some p) = field.Submitted p.slot p.offset p.len
 
-abbrev is_off : Moved → ℕ
-is_off (On st t) = 0
-is_off (Off k) = 1
+abbrev is_off : Result State ℕ → ℕ
+is_off (Ok m) = 0
+is_off (Err k) = 1
 
-abbrev off_by : Moved → ℕ
-off_by (On st t) = 0
-off_by (Off k) = k
+abbrev off_by : Result State ℕ → ℕ
+off_by (Ok m) = 0
+off_by (Err k) = k
 
-on-off : (st : Stage) (t : Track) (k : ℕ) → On st t ≡ Off k → ⊥
+on-off : (st : Stage) (t : Track) (k : ℕ) → on st t ≡ Err k → ⊥
 on-off st t k e = let z : ◌≡◌ {A = ℕ} 0 1 = ap is_off e in omega arith
 
-off-guard : (b : Bool) (m : Moved) (j k : ℕ) → guard b (Off j) m ≡ Off k → ((b ≡ true) × (m ≡ Off k)) ⊎ ((b ≡ false) × (j ≡ k))
+off-guard : (b : Bool) (m : Result State ℕ) (j k : ℕ) → guard b (Err j) m ≡ Err k → ((b ≡ true) × (m ≡ Err k)) ⊎ ((b ≡ false) × (j ≡ k))
 unfolding guard
 off-guard true m j k e = inl (refl, e)
 off-guard false m j k e = inr (refl, ap off_by e)
@@ -231,7 +231,7 @@ module _ (least : ℕ) (st : Stage) (t : Track) (small : Small t) where
   picked Finish m = absurd m
   picked Wait m = absurd m
 
-  due-same : (a b c : ℕ) → sent_of t ≡ Period a b c → field.Submitted a b c ≡ due_of t
+  due-same : (a b c : ℕ) → sent_of t ≡ sent_period a b c → field.Submitted a b c ≡ due_of t
   due-same a b c e = sym (ap field_in e)
 
   module _ (slot offset len : ℕ) (fit : Fits (field.Submitted slot offset len)) (may : MaySend st (choose_of least t)) (ne : field.Submitted slot offset len ≡ due_of t → ⊥) where
@@ -400,29 +400,29 @@ module _ (least : ℕ) (few : least ≤ 32) (st : Stage) (t : Track) (small : Sm
   abbrev P : Field → ℕ → Type 0
   P f k = Parts least st t f k
 
-  stop-sent : (slot offset len k : ℕ) → Fits (field.Submitted slot offset len) → MaySend st (choose_of least t) → sent_move t slot offset len ≡ Off k → P (field.Submitted slot offset len) k
+  stop-sent : (slot offset len k : ℕ) → Fits (field.Submitted slot offset len) → MaySend st (choose_of least t) → sent_move t slot offset len ≡ Err k → P (field.Submitted slot offset len) k
   stop-sent slot offset len k fit may e =
       let f = field.Submitted slot offset len in
       let j = agree (bytes_of f) (bytes_of (due_of t)) in
       let parts : (f ≡ due_of t → ⊥) → j ≡ k → P f k = λ ne q. subst (λ (n : ℕ). P f n) q (off-sent least st t small slot offset len fit may ne) in
-      let in_len : Moved = guard (eqb len (next_span t)) (Off j) (On Out (submit t)) in
-      let in-off : Moved = guard (eqb offset t.next) (Off j) in_len in
+      let in_len : Result State ℕ = guard (eqb len (next_span t)) (Err j) (on Out (submit t)) in
+      let in-off : Result State ℕ = guard (eqb offset t.next) (Err j) in_len in
       split (off-guard (eqb slot t.head) in-off j k e)
       (λ a. split (off-guard (eqb offset t.next) in_len j k a.1)
-      (λ b. split (off-guard (eqb len (next_span t)) (On Out (submit t)) j k b.1)
+      (λ b. split (off-guard (eqb len (next_span t)) (on Out (submit t)) j k b.1)
       (λ c. absurd (on-off Out (submit t) k c.1))
       (λ c. parts (λ z. eqb-false _ _ c.0 (ap len_of z)) c.1))
       (λ b. parts (λ z. eqb-false _ _ b.0 (ap offset_of z)) b.1))
       (λ a. parts (λ z. eqb-false _ _ a.0 (ap slot_of z)) a.1)
 
-  stop-freed : (slot status k : ℕ) (v : Verdict) → judge_of t slot (played_of status) ≡ v → Fits (field.Completed slot status) → MayFree st (choose_of least t) → freed_move v t ≡ Off k → P (field.Completed slot status) k
+  stop-freed : (slot status k : ℕ) (v : Verdict) → judge_of t slot (played_of status) ≡ v → Fits (field.Completed slot status) → MayFree st (choose_of least t) → freed_move v t ≡ Err k → P (field.Completed slot status) k
   stop-freed slot status k WrongSlot q fit may e =
       subst (λ (n : ℕ). P (field.Completed slot status) n) (ap off_by e) (off-freed least st t small slot status fit may (free-held least st t (choose_of least t) (chosen least t) may held few) q)
   stop-freed slot status k Good q fit may e = absurd (on-off Back (release t) k e)
   stop-freed slot status k (Bad a) q fit may e = absurd (on-off Failed (release t) k e)
 
   -- a field that stops
-  stop : (f : Field) (k : ℕ) → Fits f → move_by st (choose_of least t) t f ≡ Off k → P f k
+  stop : (f : Field) (k : ℕ) → Fits f → move_by st (choose_of least t) t f ≡ Err k → P f k
   stop (field.Start stream total period) k fit e = subst (λ (n : ℕ). P (field.Start stream total period) n) (ap off_by e) (off-tag least st t small (field.Start stream total period) (no_start least st t small stream total period))
   stop (field.Submitted slot offset len) k fit e =
       split (off-guard (may_send st (choose_of least t)) (sent_move t slot offset len) 0 k e)
@@ -433,33 +433,33 @@ module _ (least : ℕ) (few : least ≤ 32) (st : Stage) (t : Track) (small : Sm
       (λ a. stop-freed slot status k (judge_of t slot (played_of status)) refl fit (may_free_lem st (choose_of least t) a.0) a.1)
       (λ a. subst (λ (n : ℕ). P (field.Completed slot status) n) a.1 (off-tag least st t small (field.Completed slot status) (no-free least st t small a.0)))
   stop (field.End answer) k fit e =
-      split (off-guard (ends st (choose_of least t)) (guard (may_end st (choose_of least t) answer) (Off 3) (On Over t)) 0 k e)
-      (λ a. split (off-guard (may_end st (choose_of least t) answer) (On Over t) 3 k a.1)
+      split (off-guard (ends st (choose_of least t)) (guard (may_end st (choose_of least t) answer) (Err 3) (on Over t)) 0 k e)
+      (λ a. split (off-guard (may_end st (choose_of least t) answer) (on Over t) 3 k a.1)
       (λ b. absurd (on-off Over t k b.1))
       (λ b. subst (λ (n : ℕ). P (field.End answer) n) b.1 (off-end least st t small answer fit a.0 b.0)))
       (λ a. subst (λ (n : ℕ). P (field.End answer) n) a.1 (off-tag least st t small (field.End answer) (no_end least st t small a.0)))
 
 -- ---- a field that leads on
 
-abbrev Walked : ℕ → Moved → List Field → Type 0
-Walked least (On st t) gs = Walks least st t gs
-Walked least (Off k) gs = ⊥
+abbrev Walked : ℕ → Result State ℕ → List Field → Type 0
+Walked least (Ok m) gs = Walks least m.stage m.track gs
+Walked least (Err k) gs = ⊥
 
-abbrev Kept : Moved → Type 0
-Kept (On st t) = Small t × HeldOk st t
-Kept (Off k) = Unit {0}
+abbrev Kept : Result State ℕ → Type 0
+Kept (Ok m) = Small m.track × HeldOk m.stage m.track
+Kept (Err k) = Unit {0}
 
-guard-walked : (least : ℕ) (b : Bool) (m : Moved) (j : ℕ) (gs : List Field) → Walked least (guard b (Off j) m) gs → (b ≡ true) × Walked least m gs
+guard-walked : (least : ℕ) (b : Bool) (m : Result State ℕ) (j : ℕ) (gs : List Field) → Walked least (guard b (Err j) m) gs → (b ≡ true) × Walked least m gs
 unfolding guard
 guard-walked least true m j gs w = (refl, w)
 guard-walked least false m j gs w = absurd w
 
-walked-guard : (least : ℕ) (b : Bool) (m : Moved) (j : ℕ) (gs : List Field) → b ≡ true → Walked least m gs → Walked least (guard b (Off j) m) gs
+walked-guard : (least : ℕ) (b : Bool) (m : Result State ℕ) (j : ℕ) (gs : List Field) → b ≡ true → Walked least m gs → Walked least (guard b (Err j) m) gs
 unfolding guard
 walked-guard least true m j gs p w = w
 walked-guard least false m j gs p w = absurd (false≢true p)
 
-guard-kept : (b : Bool) (m : Moved) (j : ℕ) → Kept m → Kept (guard b (Off j) m)
+guard-kept : (b : Bool) (m : Result State ℕ) (j : ℕ) → Kept m → Kept (guard b (Err j) m)
 unfolding guard
 guard-kept true m j k = k
 guard-kept false m j k = tt
@@ -486,34 +486,34 @@ module _ (least : ℕ) (st : Stage) (t : Track) where
       let j = agree (bytes_of (field.Submitted slot offset len)) (bytes_of (due_of t)) in
       let p = sym (ap field_in w.1) in
       walked-guard least (may_send st (choose_of least t)) (sent_move t slot offset len) 0 gs (send-may st (choose_of least t) w.0)
-      (walked-guard least (eqb slot t.head) (guard (eqb offset t.next) (Off j) (guard (eqb len (next_span t)) (Off j) (On Out (submit t)))) j gs (eq-eqb _ _ (ap slot_of p))
-      (walked-guard least (eqb offset t.next) (guard (eqb len (next_span t)) (Off j) (On Out (submit t))) j gs (eq-eqb _ _ (ap offset_of p))
-      (walked-guard least (eqb len (next_span t)) (On Out (submit t)) j gs (eq-eqb _ _ (ap len_of p)) w.2)))
+      (walked-guard least (eqb slot t.head) (guard (eqb offset t.next) (Err j) (guard (eqb len (next_span t)) (Err j) (on Out (submit t)))) j gs (eq-eqb _ _ (ap slot_of p))
+      (walked-guard least (eqb offset t.next) (guard (eqb len (next_span t)) (Err j) (on Out (submit t))) j gs (eq-eqb _ _ (ap offset_of p))
+      (walked-guard least (eqb len (next_span t)) (on Out (submit t)) j gs (eq-eqb _ _ (ap len_of p)) w.2)))
   forth (field.Completed slot status) gs w =
       walked-guard least (may_free st (choose_of least t)) (freed_move (judge_of t slot (played_of status)) t) 0 gs (free-may st (choose_of least t) w.0) (freed-forth least t gs (judge_of t slot (played_of status)) w.1)
   forth (field.End answer) gs w =
       let m = end-may st (choose_of least t) answer w.0 in
-      walked-guard least (ends st (choose_of least t)) (guard (may_end st (choose_of least t) answer) (Off 3) (On Over t)) 0 gs m.1
-      (walked-guard least (may_end st (choose_of least t) answer) (On Over t) 3 gs m.0 w.1)
+      walked-guard least (ends st (choose_of least t)) (guard (may_end st (choose_of least t) answer) (Err 3) (on Over t)) 0 gs m.1
+      (walked-guard least (may_end st (choose_of least t) answer) (on Over t) 3 gs m.0 w.1)
 
   back : (f : Field) (gs : List Field) → Walked least (move_by st (choose_of least t) t f) gs → Walks least st t (f ∷ gs)
   back (field.Start stream total period) gs w = w
   back (field.Submitted slot offset len) gs w =
       let j = agree (bytes_of (field.Submitted slot offset len)) (bytes_of (due_of t)) in
       let a = guard-walked least (may_send st (choose_of least t)) (sent_move t slot offset len) 0 gs w in
-      let b = guard-walked least (eqb slot t.head) (guard (eqb offset t.next) (Off j) (guard (eqb len (next_span t)) (Off j) (On Out (submit t)))) j gs a.1 in
-      let c = guard-walked least (eqb offset t.next) (guard (eqb len (next_span t)) (Off j) (On Out (submit t))) j gs b.1 in
-      let d = guard-walked least (eqb len (next_span t)) (On Out (submit t)) j gs c.1 in
+      let b = guard-walked least (eqb slot t.head) (guard (eqb offset t.next) (Err j) (guard (eqb len (next_span t)) (Err j) (on Out (submit t)))) j gs a.1 in
+      let c = guard-walked least (eqb offset t.next) (guard (eqb len (next_span t)) (Err j) (on Out (submit t))) j gs b.1 in
+      let d = guard-walked least (eqb len (next_span t)) (on Out (submit t)) j gs c.1 in
       let p = eqb-true slot t.head b.0 in
       let q = eqb-true offset t.next c.0 in
       let r = eqb-true len (next_span t) d.0 in
-      (may-send st (choose_of least t) a.0, (λ i. Period (sym p i) (sym q i) (sym r i)), d.1)
+      (may-send st (choose_of least t) a.0, (λ i. sent_period (sym p i) (sym q i) (sym r i)), d.1)
   back (field.Completed slot status) gs w =
       let a = guard-walked least (may_free st (choose_of least t)) (freed_move (judge_of t slot (played_of status)) t) 0 gs w in
       (may_free_lem st (choose_of least t) a.0, freed-back least t gs (judge_of t slot (played_of status)) a.1)
   back (field.End answer) gs w =
-      let a = guard-walked least (ends st (choose_of least t)) (guard (may_end st (choose_of least t) answer) (Off 3) (On Over t)) 0 gs w in
-      let b = guard-walked least (may_end st (choose_of least t) answer) (On Over t) 3 gs a.1 in
+      let a = guard-walked least (ends st (choose_of least t)) (guard (may_end st (choose_of least t) answer) (Err 3) (on Over t)) 0 gs w in
+      let b = guard-walked least (may_end st (choose_of least t) answer) (on Over t) 3 gs a.1 in
       (may-end st (choose_of least t) answer b.0, b.1)
 
   kept : (f : Field) → Small t → Kept (move_by st (choose_of least t) t f)
@@ -522,12 +522,12 @@ module _ (least : ℕ) (st : Stage) (t : Track) where
       let j = agree (bytes_of (field.Submitted slot offset len)) (bytes_of (due_of t)) in
       let h : 0 < t.inflight + 1 = omega arith in
       guard-kept (may_send st (choose_of least t)) (sent_move t slot offset len) 0
-      (guard-kept (eqb slot t.head) (guard (eqb offset t.next) (Off j) (guard (eqb len (next_span t)) (Off j) (On Out (submit t)))) j
-      (guard-kept (eqb offset t.next) (guard (eqb len (next_span t)) (Off j) (On Out (submit t))) j
-      (guard-kept (eqb len (next_span t)) (On Out (submit t)) j (small-submit t s, h))))
+      (guard-kept (eqb slot t.head) (guard (eqb offset t.next) (Err j) (guard (eqb len (next_span t)) (Err j) (on Out (submit t)))) j
+      (guard-kept (eqb offset t.next) (guard (eqb len (next_span t)) (Err j) (on Out (submit t))) j
+      (guard-kept (eqb len (next_span t)) (on Out (submit t)) j (small-submit t s, h))))
   kept (field.Completed slot status) s = guard-kept (may_free st (choose_of least t)) (freed_move (judge_of t slot (played_of status)) t) 0 (freed-kept t (judge_of t slot (played_of status)) s)
   kept (field.End answer) s =
-      guard-kept (ends st (choose_of least t)) (guard (may_end st (choose_of least t) answer) (Off 3) (On Over t)) 0 (guard-kept (may_end st (choose_of least t) answer) (On Over t) 3 (s, tt))
+      guard-kept (ends st (choose_of least t)) (guard (may_end st (choose_of least t) answer) (Err 3) (on Over t)) 0 (guard-kept (may_end st (choose_of least t) answer) (on Over t) 3 (s, tt))
 
 -- ---- field after field
 
@@ -540,21 +540,21 @@ pub record Stops (least : ℕ) (st : Stage) (t : Track) (at : ℕ) (fs : List Fi
   pub far : k < length (trace_bytes fs) → Far least st t (trace_bytes fs) k
 
 abbrev number_in : Judgement → ℕ
-number_in Accepted = 0
-number_in (BadTrace at) = 18
-number_in (NotARun at) = 19
+number_in (Ok u) = 0
+number_in (Err (BadTrace at)) = 18
+number_in (Err (NotARun at)) = 19
 
 abbrev place_in : Judgement → ℕ
-place_in Accepted = 0
-place_in (BadTrace at) = at
-place_in (NotARun at) = at
+place_in (Ok u) = 0
+place_in (Err (BadTrace at)) = at
+place_in (Err (NotARun at)) = at
 
-stops-early : (least : ℕ) (st : Stage) (t : Track) (at x : ℕ) → Small t → rest_by st at ≡ NotARun x → Stops least st t at [] x
+stops-early : (least : ℕ) (st : Stage) (t : Track) (at x : ℕ) → Small t → rest_by st at ≡ Err (NotARun x) → Stops least st t at [] x
 unfolding rows_bytes
 stops-early least st t at x s e =
     by st e
   where
-    by : (u : Stage) → rest_by u at ≡ NotARun x → Stops least st t at [] x
+    by : (u : Stage) → rest_by u at ≡ Err (NotARun x) → Stops least st t at [] x
     by Over q = let z : ◌≡◌ {A = ℕ} 0 19 = ap number_in q in absurd (omega arith)
     by Opening q = let p : at ≡ x = ap place_in q in record { k = 0; place = omega arith; inside = omega arith; near = near_none least st t [] s; far = λ h. absurd (omega arith) }
     by Out q = let p : at ≡ x = ap place_in q in record { k = 0; place = omega arith; inside = omega arith; near = near_none least st t [] s; far = λ h. absurd (omega arith) }
@@ -614,7 +614,7 @@ stops-later least st u t v at x f fs fit fwd bwd s =
         deeper gs (fwd gs (subst (λ (h : Field). Walks least st t (h ∷ gs)) (sym same) w)) g-fit.1
         (cancel (bytes_of f) y (trace_bytes gs) (e ∙ ap (λ (h : Field). bytes_of h ++ trace_bytes gs) (sym same)))
 
-pub stops : (least : ℕ) → least ≤ 32 → (fs : List Field) (st : Stage) (t : Track) (at x : ℕ) → AllFit fs → Small t → HeldOk st t → walk_of least st t at fs ≡ NotARun x → Stops least st t at fs x
+pub stops : (least : ℕ) → least ≤ 32 → (fs : List Field) (st : Stage) (t : Track) (at x : ℕ) → AllFit fs → Small t → HeldOk st t → walk_of least st t at fs ≡ Err (NotARun x) → Stops least st t at fs x
 unfolding walk_of move_of
 stops least few [] st t at x fit s h e = stops-early least st t at x s e
 stops least few (f ∷ fs) st t at x fit s h e =
@@ -623,12 +623,12 @@ stops least few (f ∷ fs) st t at x fit s h e =
     (λ u v m q.
     let kp : Small v × HeldOk u v = subst Kept m (kept least st t f s) in
     stops-later least st u t v at x f fs fit.0
-    (λ gs w. subst (λ (n : Moved). Walked least n gs) m (forth least st t f gs w))
-    (λ gs w. back least st t f gs (subst (λ (n : Moved). Walked least n gs) (sym m) w))
+    (λ gs w. subst (λ (n : Result State ℕ). Walked least n gs) m (forth least st t f gs w))
+    (λ gs w. back least st t f gs (subst (λ (n : Result State ℕ). Walked least n gs) (sym m) w))
     (stops least few fs u v (at + size_of f) x fit.1 kp.0 kp.1 q))
   where
-    moved : {C : Type 0} (m : Moved) → move_by st (choose_of least t) t f ≡ m → on_by m at (size_of f) (λ a b c. walk_of least a b c fs) ≡ NotARun x
-        → ((k : ℕ) → move_by st (choose_of least t) t f ≡ Off k → at + k ≡ x → C)
-        → ((u : Stage) (v : Track) → move_by st (choose_of least t) t f ≡ On u v → walk_of least u v (at + size_of f) fs ≡ NotARun x → C) → C
-    moved (Off k) m q off on = off k m (ap place_in q)
-    moved (On u v) m q off on = on u v m q
+    moved : {C : Type 0} (m : Result State ℕ) → move_by st (choose_of least t) t f ≡ m → on_by m at (size_of f) (λ a b c. walk_of least a b c fs) ≡ Err (NotARun x)
+        → ((k : ℕ) → move_by st (choose_of least t) t f ≡ Err k → at + k ≡ x → C)
+        → ((u : Stage) (v : Track) → move_by st (choose_of least t) t f ≡ on u v → walk_of least u v (at + size_of f) fs ≡ Err (NotARun x) → C) → C
+    moved (Err k) m q off on = off k m (ap place_in q)
+    moved (Ok w) m q off on = on w.stage w.track m q

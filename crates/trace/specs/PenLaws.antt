@@ -1,6 +1,6 @@
 -- What one turn writes, and its bytes.
 -- Assumes nothing.
-use Rattle.std.specs.Prelude.{List, [], ◌∷◌, ◌++◌, ◌≡◌, refl, ℕ, ◌+◌, ◌≤◌, ◌<◌, length}
+use Rattle.std.specs.Prelude.{List, [], ◌∷◌, ◌++◌, ◌≡◌, refl, ℕ, ◌+◌, ◌≤◌, ◌<◌, length, Some, None}
 use Rattle.std.proofs.Common.{sym, ap, subst, ◌∙◌, arith, add-zero, length-append}
 use Rattle.std.proofs.lemmas.List.Edits.{sets}
 use Rattle.layout.specs.StoreLaws.{sets_then}
@@ -10,15 +10,15 @@ use Rattle.trace.specs.Field.{bytes_of, trace_bytes, size_of}
 use Rattle.trace.specs.ScanLaws.{size-bytes}
 use Rattle.trace.specs.Trace.{sent_then, heard_then, said_then}
 use Rattle.trace.specs.Private.{SentFits, HeardFits, turn_fields}
-use Rattle.trace.specs.Types.{Sent, Nothing, Period, Heard, Silent, Freed, Said, Field}
+use Rattle.trace.specs.Types.{Sent, Heard, Said, Field, freed_slot, sent_period}
 
 sent-append : (sent : Sent) (fs : List Field) → sent_then sent fs ≡ sent_then sent [] ++ fs
-sent-append Nothing fs = refl
-sent-append (Period slot offset len) fs = refl
+sent-append None fs = refl
+sent-append (Some p) fs = refl
 
 heard-append : (heard : Heard) (fs : List Field) → heard_then heard fs ≡ heard_then heard [] ++ fs
-heard-append Silent fs = refl
-heard-append (Freed slot status) fs = refl
+heard-append None fs = refl
+heard-append (Some f) fs = refl
 
 -- the bytes of one field
 pub one-bytes : (f : Field) → bytes_of f ≡ trace_bytes (f ∷ [])
@@ -76,10 +76,10 @@ writes_one l n at r fs f e k =
 pub room-one : (at m : ℕ) (fs : List Field) (f : Field) → fs ≡ f ∷ [] → at + length (trace_bytes fs) ≤ m → at + size_of f ≤ m
 room-one at m fs f e h = let s = one_size f in let n = ap (λ (x : List Field). length (trace_bytes x)) e in omega (arith, h, s, n)
 
-pub sent-fits : (s : Sent) (slot offset len : ℕ) → s ≡ Period slot offset len → SentFits s → (slot < 256) × (offset < 4294967296) × (len < 4294967296)
+pub sent-fits : (s : Sent) (slot offset len : ℕ) → s ≡ sent_period slot offset len → SentFits s → (slot < 256) × (offset < 4294967296) × (len < 4294967296)
 sent-fits s slot offset len e h = subst SentFits e h
 
-pub heard-fits : (s : Heard) (slot status : ℕ) → s ≡ Freed slot status → HeardFits s → slot < 256
+pub heard-fits : (s : Heard) (slot status : ℕ) → s ≡ freed_slot slot status → HeardFits s → slot < 256
 heard-fits s slot status e h = subst HeardFits e h
 
 module _ (sent : Sent) (heard : Heard) (said : Said) (at m : ℕ) (h : at + length (trace_bytes (turn_fields sent heard said)) ≤ m) where

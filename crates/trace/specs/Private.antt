@@ -1,10 +1,12 @@
 -- What the private functions take and promise, where the public definitions have no name for it.
 -- Assumes nothing.
-use Rattle.std.specs.Prelude.{List, [], ◌≡◌, ℕ, ◌+◌, ◌*◌, ◌≤◌, ◌<◌, length}
+use Rattle.std.specs.Prelude.{List, [], ◌≡◌, ℕ, ◌+◌, ◌*◌, ◌≤◌, ◌<◌, length, Some, None, zero, suc, Option, Ok}
 use Rattle.trace.specs.Judge.{walk_of, judged_by}
 use Rattle.trace.specs.Fields.{fields_from}
 use Rattle.trace.specs.Trace.{sent_then, heard_then, said_then}
-use Rattle.trace.specs.Types.{Track, Field, Stage, Judgement, Accepted, Sent, Nothing, Period, Heard, Silent, Freed, Said}
+use Rattle.trace.specs.Types.{Track, Field, Stage, Judgement, Sent, Heard, Said, TraceError, BadTrace, NotARun}
+use Rattle.layout.specs.Bytes.{num_at}
+use Rattle.trace.specs.declared.field.Field.TheVariants as field
 
 -- a track that the judge keeps: slots in line, frames under 2^32 bytes
 pub record Ready (t : Track) : Type 0 where
@@ -14,6 +16,19 @@ pub record Ready (t : Track) : Type 0 where
   pub tail-in : t.tail < 32
   pub within : t.next ≤ t.total
   pub short : t.total < 4294967296
+
+-- what the contents behind a tag say, whatever the length says
+abbrev pub contents_at : ℕ → ℕ → List ℕ → Option Field
+contents_at zero o s = Some (field.Start (num_at (o + 3) 4 s) (num_at (o + 7) 4 s) (num_at (o + 11) 4 s))
+contents_at (suc zero) o s = Some (field.Submitted (num_at (o + 3) 1 s) (num_at (o + 4) 4 s) (num_at (o + 8) 4 s))
+contents_at (suc (suc zero)) o s = Some (field.Completed (num_at (o + 3) 1 s) (num_at (o + 4) 4 s))
+contents_at (suc (suc (suc zero))) o s = Some (field.End (num_at (o + 3) 1 s))
+contents_at (suc (suc (suc (suc n)))) o s = None
+
+-- the offset that a refusal tells
+abbrev pub error_at : TraceError → ℕ
+error_at (BadTrace at) = at
+error_at (NotARun at) = at
 
 -- ---- what a move keeps
 
@@ -25,7 +40,7 @@ pub record Kept (least : ℕ) (t : Track) : Type 0 where
 
 -- what the judge says of a trace that scans
 abbrev pub opened_of : ℕ → List ℕ → Judgement
-opened_of per s = judged_by Accepted per per (fields_from (length s) 0 s)
+opened_of per s = judged_by (Ok tt) per per (fields_from (length s) 0 s)
 
 pub record Course (per : ℕ) (s : List ℕ) (at : ℕ) (st : Stage) (t : Track) : Type 0 where
   pub fuel : ℕ
@@ -36,12 +51,12 @@ pub record Course (per : ℕ) (s : List ℕ) (at : ℕ) (st : Stage) (t : Track)
 
 -- its numbers fit their widths
 abbrev pub SentFits : Sent → Type 0
-SentFits Nothing = Unit {0}
-SentFits (Period slot offset len) = (slot < 256) × (offset < 4294967296) × (len < 4294967296)
+SentFits None = Unit {0}
+SentFits (Some p) = (p.slot < 256) × (p.offset < 4294967296) × (p.len < 4294967296)
 
 abbrev pub HeardFits : Heard → Type 0
-HeardFits Silent = Unit {0}
-HeardFits (Freed slot status) = slot < 256
+HeardFits None = Unit {0}
+HeardFits (Some f) = f.slot < 256
 
 -- what a turn writes
 abbrev pub turn_fields : Sent → Heard → Said → List Field

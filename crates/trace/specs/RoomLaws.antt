@@ -1,6 +1,6 @@
 -- The list in the room tells the differences: its rows are read back, and applying what is read to the first trace gives the second.
 -- Assumes nothing.
-use Rattle.std.specs.Prelude.{List, [], ◌∷◌, ◌≡◌, refl, ℕ, suc, ◌+◌, ◌*◌, ◌≤◌, ◌<◌, eqb, drop}
+use Rattle.std.specs.Prelude.{List, [], ◌∷◌, ◌≡◌, refl, ℕ, suc, ◌+◌, ◌*◌, ◌≤◌, ◌<◌, eqb, drop, Ok}
 use Rattle.std.proofs.Common.{append-nil, sym, ap, ◌∙◌, arith, lit<, length-append, eqb-true}
 use Rattle.std.proofs.Math.Path.{ap₂}
 use Rattle.std.proofs.Math.Nat.{zero-add}
@@ -22,7 +22,7 @@ use Rattle.trace.specs.Listed.{row_by, row_widths, row_values, row_of, compared_
 use Rattle.trace.specs.ListedLaws.{row-length, rows-length}
 use Rattle.trace.specs.DifferLaws.{whole, listed-means, applied-gives}
 use Rattle.trace.specs.declared.field.Field.TheVariants as field
-use Rattle.trace.specs.Types.{Field, Accepted, Listed, Difference, OnlyFirst, OnlySecond, Other}
+use Rattle.trace.specs.Types.{Field, Difference, OnlyFirst, OnlySecond, Other}
 
 -- both of one tag, where both are told
 abbrev pub OneTag : Difference → Type 0
@@ -107,12 +107,12 @@ few-fields (f ∷ fs) =
     let r = few-fields fs in
     omega (arith, e, m, big, r)
 
-fields-few : (s : List ℕ) → Bytes s → scan_of s ≡ Accepted → length (fields_in s) ≤ length s
+fields-few : (s : List ℕ) → Bytes s → scan_of s ≡ Ok tt → length (fields_in s) ≤ length s
 fields-few s b e = let n = few-fields (fields_in s) in let m = ap length (whole s b e).0 in omega (arith, n, m)
 
 -- THE LIST IN THE ROOM tells the differences, and applied to the first it gives the second. A slice is shorter than 2^64 bytes.
 module _ (a b l : List ℕ) (pa : Bytes a) (pb : Bytes b) (la : length a < 18446744073709551616) (lb : length b < 18446744073709551616) where
-  pub list-told : (n : ℕ) → compared_of a b (length l) ≡ Listed n → rows_at row_at 34 0 n (listed_of a b l) ≡ diffs_of a b
+  pub list-told : (n : ℕ) → compared_of a b (length l) ≡ Ok n → rows_at row_at 34 0 n (listed_of a b l) ≡ diffs_of a b
   unfolding diffs_of
   list-told n e =
       let k = listed-means a b n (length l) e in
@@ -127,5 +127,5 @@ module _ (a b l : List ℕ) (pa : Bytes a) (pb : Bytes b) (la : length a < 18446
       ap₂ (λ x (m : ℕ). rows_at row_at 34 0 m (listed_by x ds l)) e c
       ∙ rows_told l ds ok (omega (arith, fits, c))
 
-  pub list-applied : (n : ℕ) → compared_of a b (length l) ≡ Listed n → trace_bytes (applied_from 0 (rows_at row_at 34 0 n (listed_of a b l)) (fields_in a)) ≡ b
+  pub list-applied : (n : ℕ) → compared_of a b (length l) ≡ Ok n → trace_bytes (applied_from 0 (rows_at row_at 34 0 n (listed_of a b l)) (fields_in a)) ≡ b
   list-applied n e = ap (λ (ds : List Difference). trace_bytes (applied_from 0 ds (fields_in a))) (list-told n e) ∙ applied-gives a b pb (listed-means a b n (length l) e).second

@@ -1,6 +1,6 @@
 -- A run of document 01's turns that writes a trace, and what the judge's two refusals tell of one.
 -- Assumes nothing.
-use Rattle.std.specs.Prelude.{List, ◌++◌, ◌≡◌, ℕ, suc, ◌+◌, ◌<◌, ◌^◌, ◌≤◌, length, take}
+use Rattle.std.specs.Prelude.{List, ◌++◌, ◌≡◌, ℕ, suc, ◌+◌, ◌<◌, ◌^◌, ◌≤◌, length, take, Some, None}
 use Rattle.layout.specs.All.{All}
 use Rattle.layout.specs.Bytes.{bytes_at}
 use Rattle.turns.specs.Log.{played, run}
@@ -9,12 +9,12 @@ use Rattle.trace.specs.Field.{Fits, AllFit, trace_bytes}
 use Rattle.trace.specs.Judge.{begun}
 use Rattle.trace.specs.Fields.{field_at}
 use Rattle.trace.specs.declared.field.Field.TheVariants as field
-use Rattle.trace.specs.Types.{Reading, Quiet, Completed, Field, NoField}
+use Rattle.trace.specs.Types.{Reading, Field}
 
 -- a reading that the queue can say: its numbers fit 4 bytes
 abbrev pub Real : Reading → Type 0
-Real Quiet = Unit {0}
-Real (Completed slot status) = (slot < 256 ^ 4) × (status < 256 ^ 4)
+Real None = Unit {0}
+Real (Some c) = (c.slot < 256 ^ 4) × (c.status < 256 ^ 4)
 
 abbrev pub AllReal : List Reading → Type 0
 AllReal script = All Real script
@@ -53,7 +53,7 @@ pub record Breaks (s : List ℕ) (o at : ℕ) : Type 0 where
   pub fit : AllFit fields
   pub bytes : bytes_at o k s ≡ trace_bytes fields
   pub inside : at < length s
-  pub none : field_at at s ≡ NoField
+  pub none : field_at at s ≡ None
 
 -- some run's trace begins with the first `at` bytes of s
 pub record Agrees (per least : ℕ) (s : List ℕ) (at : ℕ) : Type 0 where

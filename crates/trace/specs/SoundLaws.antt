@@ -1,7 +1,7 @@
 -- Fields that may follow are written by turns: the script is read off them.
 -- Assumes nothing.
 use mathlib.Core.List.{List, [], ◌∷◌}
-use Rattle.std.specs.Prelude.{◌≡◌, ℕ, zero, suc, ◌<◌, ◌^◌}
+use Rattle.std.specs.Prelude.{◌≡◌, ℕ, zero, suc, ◌<◌, ◌^◌, Ok, None}
 use Rattle.std.proofs.Math.Path.{refl, ap, subst}
 use Rattle.std.proofs.Common.{sym, ◌∙◌, inl, inr, arith, lit<}
 use Rattle.std.proofs.Math.Bool.{true}
@@ -15,7 +15,7 @@ use Rattle.trace.specs.WalkLaws.{FreedBy, WalksBy, Walks, walks-ticked, walks-ac
 use Rattle.trace.specs.CompleteLaws.{heard_tale, hear-sent}
 use Rattle.trace.specs.Runs.{Real, AllReal}
 use Rattle.trace.specs.declared.field.Field.TheVariants as field
-use Rattle.trace.specs.Types.{Track, Sent, Nothing, Period, Reading, Quiet, Completed, Choice, Submit, Finish, Wait, Verdict, WrongSlot, Good, Bad, Field, Opening, Out, Back, Failed, Over, Fine}
+use Rattle.trace.specs.Types.{Track, Sent, Reading, Choice, Submit, Finish, Wait, Verdict, WrongSlot, Good, Bad, Field, Opening, Out, Back, Failed, Over, completion, sent_period}
 
 -- turns from a track on that write the fields: how many at most, and what they read
 pub record Told (least : ℕ) (t : Track) (fs : List Field) : Type 0 where
@@ -65,7 +65,7 @@ wrong least sent t =
     let slot = stray_of t.tail in
     record {
       more = 0;
-      reading = Completed slot 0;
+      reading = completion slot 0;
       heard = (stray-real t.tail, lit< tt);
       script = [];
       real = tt;
@@ -74,7 +74,7 @@ wrong least sent t =
 
 out-of-turns : (least : ℕ) (sent : Sent) (t : Track) → Heard least sent t (field.End 9 ∷ [])
 unfolding tale
-out-of-turns least sent t = record { more = 0; reading = Quiet; heard = tt; script = []; real = tt; same = refl }
+out-of-turns least sent t = record { more = 0; reading = None; heard = tt; script = []; real = tt; same = refl }
 
 -- nothing stands behind the end
 over : (least : ℕ) (c : Choice) (t : Track) (fs : List Field) → WalksBy least Over c t fs → fs ≡ []
@@ -94,9 +94,9 @@ told least t fs b = record { more = suc b.more; script = b.script; real = b.real
 module _ (least : ℕ) (t : Track) (fs : List Field) where
   -- a turn that heard nothing, and what follows
   quiet : (sent : Sent) → Told least (ticked true t) fs → Heard least sent t fs
-  quiet sent k = record { more = k.more; reading = Quiet; heard = tt; script = k.script; real = k.real; same = k.same }
+  quiet sent k = record { more = k.more; reading = None; heard = tt; script = k.script; real = k.real; same = k.same }
 
-  submits : (slot offset len : ℕ) → choose_of least t ≡ Submit → sent_of t ≡ Period slot offset len → Heard least (sent_of t) (submit t) fs → Began least t (field.Submitted slot offset len ∷ fs)
+  submits : (slot offset len : ℕ) → choose_of least t ≡ Submit → sent_of t ≡ sent_period slot offset len → Heard least (sent_of t) (submit t) fs → Began least t (field.Submitted slot offset len ∷ fs)
   unfolding tale turn_of
   submits slot offset len e p h =
       let rest = heard_tale least h.more (hear (comes_to played_of h.reading) (sent_of t) (submit t) h.reading) h.script in
@@ -110,23 +110,23 @@ module _ (least : ℕ) (t : Track) (fs : List Field) where
             ∙ ap (λ (l : List Field). field.Submitted slot offset len ∷ l) h.same;
       }
 
-  waits : choose_of least t ≡ Wait → Heard least Nothing t fs → Began least t fs
+  waits : choose_of least t ≡ Wait → Heard least None t fs → Began least t fs
   unfolding tale turn_of
   waits e h =
-      let rest = heard_tale least h.more (hear (comes_to played_of h.reading) Nothing t h.reading) h.script in
+      let rest = heard_tale least h.more (hear (comes_to played_of h.reading) None t h.reading) h.script in
       record {
         more = h.more;
         script = h.reading ∷ h.script;
         real = (h.heard, h.real);
         same =
             ap (λ (c : Choice). writes (act c t (comes_to played_of h.reading) h.reading) (λ u. tale least h.more u h.script)) e
-            ∙ ap (λ (s : Sent). sent_then s rest) (hear-sent Nothing t (comes_to played_of h.reading) h.reading)
+            ∙ ap (λ (s : Sent). sent_then s rest) (hear-sent None t (comes_to played_of h.reading) h.reading)
             ∙ h.same;
       }
 
 finishes : (least : ℕ) (t : Track) → choose_of least t ≡ Finish → Began least t (field.End 0 ∷ [])
 unfolding tale turn_of
-finishes least t e = record { more = 0; script = []; real = tt; same = ap (λ (c : Choice). writes (act c t Fine Quiet) (λ u. tale least 0 u [])) e }
+finishes least t e = record { more = 0; script = []; real = tt; same = ap (λ (c : Choice). writes (act c t (Ok tt) None) (λ u. tale least 0 u [])) e }
 
 -- ---- the induction
 
@@ -136,7 +136,7 @@ pub record Sounds (least : ℕ) (fs : List Field) : Type 0 where
   pub out : (sent : Sent) (t : Track) → Walks least Out t fs → Heard least sent t fs
   pub failed : (c : Choice) (t : Track) → WalksBy least Failed c t fs → fs ≡ field.End 2 ∷ []
 
-completed : (slot status : ℕ) → Fits (field.Completed slot status) → Real (Completed slot status)
+completed : (slot status : ℕ) → Fits (field.Completed slot status) → Real (completion slot status)
 completed slot status fit = let small : slot < 256 = fit.0 in let big : slot < 4294967296 = omega arith in (big, fit.1.0)
 
 frees : (least : ℕ) (fs : List Field) → Sounds least fs → (sent : Sent) (t : Track) (slot status : ℕ) (v : Verdict) → judge_of t slot (played_of status) ≡ v → Played t slot status v → Fits (field.Completed slot status)
@@ -146,7 +146,7 @@ frees least fs ih sent t slot status Good e j fit w =
     let k = ih.back (ticked true (accept t)) (walks-ticked least Back (accept t) fs (walks-accept least Back t fs w)) in
     record {
       more = k.more;
-      reading = Completed slot status;
+      reading = completion slot status;
       heard = completed slot status fit;
       script = k.script;
       real = k.real;
@@ -156,7 +156,7 @@ frees least fs ih sent t slot status (Bad a) e j fit w =
     let two : (says_refusal a).number ≡ 2 = j.3 in
     record {
       more = 0;
-      reading = Completed slot status;
+      reading = completion slot status;
       heard = completed slot status fit;
       script = [];
       real = tt;
@@ -178,11 +178,11 @@ module _ (least : ℕ) (fs : List Field) (ih : Sounds least fs) where
   opens (field.Submitted slot offset len) fit t Wait e w = absurd w.0
   opens (field.Completed slot status) fit t Submit e w = absurd w.0
   opens (field.Completed slot status) fit t Finish e w = absurd w.0
-  opens (field.Completed slot status) fit t Wait e w = waits least t (field.Completed slot status ∷ fs) e (frees least fs ih Nothing t slot status (judge_of t slot (played_of status)) refl (played t slot status) fit w.1)
+  opens (field.Completed slot status) fit t Wait e w = waits least t (field.Completed slot status ∷ fs) e (frees least fs ih None t slot status (judge_of t slot (played_of status)) refl (played t slot status) fit w.1)
   opens (field.End answer) fit t Submit e w = absurd w.0
   opens (field.End answer) fit t Finish e w = subst (λ (l : List Field). Began least t l) (ended answer 0 fs w.0 (over least Finish t fs w.1)) (finishes least t e)
-  opens (field.End answer) fit t Wait e (inl p, w) = subst (λ (l : List Field). Began least t l) (ended answer 6 fs p (over least Wait t fs w)) (waits least t _ e (wrong least Nothing t))
-  opens (field.End answer) fit t Wait e (inr p, w) = subst (λ (l : List Field). Began least t l) (ended answer 9 fs p (over least Wait t fs w)) (waits least t _ e (out-of-turns least Nothing t))
+  opens (field.End answer) fit t Wait e (inl p, w) = subst (λ (l : List Field). Began least t l) (ended answer 6 fs p (over least Wait t fs w)) (waits least t _ e (wrong least None t))
+  opens (field.End answer) fit t Wait e (inr p, w) = subst (λ (l : List Field). Began least t l) (ended answer 9 fs p (over least Wait t fs w)) (waits least t _ e (out-of-turns least None t))
 
   -- a budget that was used up before
   spent : (answer : ℕ) (t : Track) → answer ≡ 9 → fs ≡ [] → Told least t (field.End answer ∷ fs)

@@ -1,6 +1,6 @@
 -- 2026-11: a room of 19 + 20 n bytes holds the trace of every run of n periods.
 -- Assumes nothing.
-use Rattle.std.specs.Prelude.{Bool, true, false, [], ◌≡◌, refl, ℕ, suc, ◌+◌, ◌*◌, ◌≤◌, ◌<◌, eqb, length}
+use Rattle.std.specs.Prelude.{Bool, true, false, [], ◌≡◌, refl, ℕ, suc, ◌+◌, ◌*◌, ◌≤◌, ◌<◌, eqb, length, Some, None}
 use Rattle.std.proofs.Common.{sym, ap, subst, ◌∙◌, suc-mul, lt_of_mul-lt-mul_right, arith}
 use Rattle.layout.specs.Rows.{rows_bytes}
 use Rattle.codes.specs.Answers.{says_refusal}
@@ -13,7 +13,7 @@ use Rattle.trace.specs.Private.{turn_fields}
 use Rattle.trace.specs.PenLaws.{turn-length, one_size}
 use Rattle.trace.specs.WriterLaws.{sent_in, freed_in, sent-size, heard-size, hear-sent, turn-held}
 use Rattle.trace.specs.declared.field.Field.TheVariants as field
-use Rattle.trace.specs.Types.{Track, Step, Sent, Nothing, Said, Going, Done, Ended, Refused, Reading, Quiet, Completed, Choice, Submit, Finish, Wait, Verdict, WrongSlot, Good, Bad, Outcome}
+use Rattle.trace.specs.Types.{Track, Step, Sent, Said, Going, Done, Ended, Refused, Reading, Choice, Submit, Finish, Wait, Verdict, WrongSlot, Good, Bad, Outcome}
 
 -- ---- periods: k went out, and the next starts behind them
 
@@ -23,8 +23,8 @@ settle-next Good sent t slot status = refl
 settle-next (Bad a) sent t slot status = refl
 
 hear-next : (sent : Sent) (t : Track) (o : Outcome) (reading : Reading) → (hear o sent t reading).track.next ≡ t.next
-hear-next sent t o Quiet = refl
-hear-next sent t o (Completed slot status) = settle-next (judge_of t slot o) sent t slot status
+hear-next sent t o None = refl
+hear-next sent t o (Some c) = settle-next (judge_of t c.slot o) sent t c.slot c.status
 
 pub record Paced (n k : ℕ) (t : Track) : Type 0 where
   pub some : 0 < t.period
@@ -77,7 +77,7 @@ act-goes least n k Submit t o reading ch p =
     let q : s.track.next ≡ t.next + next_span t = hear-next (sent_of t) (submit t) o reading in
     (omega (arith, z, below), λ h. omega (arith, h, q, at, w))
 act-goes least n k Finish t o reading ch p = stays n k t (act Finish t o reading) p refl refl
-act-goes least n k Wait t o reading ch p = stays n k t (act Wait t o reading) p (ap sent_in (hear-sent Nothing t o reading)) (hear-next Nothing t o reading)
+act-goes least n k Wait t o reading ch p = stays n k t (act Wait t o reading) p (ap sent_in (hear-sent None t o reading)) (hear-next None t o reading)
 
 -- a counted turn keeps the pace
 paced : (least n k : ℕ) (t : Track) (o : Outcome) (reading : Reading) → Paced n k t → let s = counted_of (turn_of least t o reading) in Paced n (k + sent_in s.sent) s.track

@@ -1,7 +1,7 @@
 -- What turns write, on so many turns and without a count; what a run's log writes is that.
 -- Assumes nothing.
 use mathlib.Core.List.{List, [], ◌∷◌}
-use Rattle.std.specs.Prelude.{ℕ, zero, suc, ◌+◌, true, Bool, false, ◌≡◌, refl}
+use Rattle.std.specs.Prelude.{ℕ, zero, suc, ◌+◌, true, Bool, false, ◌≡◌, refl, Some, None}
 use Rattle.std.proofs.Common.{sym, ◌∙◌, arith, eqb-true}
 use Rattle.std.proofs.Math.Path.{ap}
 use Rattle.std.proofs.lemmas.Bool.{eqb-false}
@@ -12,7 +12,7 @@ use Rattle.turns.specs.KeepLaws.{after-act, turn-plain}
 use Rattle.trace.specs.Trace.{sent_then, heard_then, said_then, fields_of}
 use Rattle.trace.specs.WalkLaws.{wound}
 use Rattle.trace.specs.declared.field.Field.TheVariants as field
-use Rattle.trace.specs.Types.{Track, Step, Reading, Field, Sent, Nothing, Choice, Submit, Finish, Wait, Verdict, WrongSlot, Good, Bad, Quiet, Completed, Said, Going, Done, Ended, Refused, Outcome}
+use Rattle.trace.specs.Types.{Track, Step, Reading, Field, Sent, Choice, Submit, Finish, Wait, Verdict, WrongSlot, Good, Bad, Said, Going, Done, Ended, Refused, Outcome}
 
 -- what a turn writes, and then the rest
 abbrev pub writes : Step → (Track → List Field) → List Field
@@ -71,13 +71,13 @@ module _ (least n b k : ℕ) (r : Bool) (script : List Reading) (rest : (g : ℕ
 
   hear-wound : (g : ℕ) (sent : Sent) (t : Track) (x : Reading) → writes (hear (comes_to played_of x) sent (wound b k r g t) x) (λ u. tale least n u script) ≡ writes (hear (comes_to played_of x) sent t x) (λ u. tale least n u script)
   unfolding judge_of is_oldest
-  hear-wound g sent t Quiet = ap (λ (l : List Field). sent_then sent l) (rest g t)
-  hear-wound g sent t (Completed slot status) = settle-wound g (judge_of t slot (played_of status)) sent t slot status
+  hear-wound g sent t None = ap (λ (l : List Field). sent_then sent l) (rest g t)
+  hear-wound g sent t (Some c) = settle-wound g (judge_of t c.slot (played_of c.status)) sent t c.slot c.status
 
   act-wound : (g : ℕ) (c : Choice) (t : Track) (x : Reading) → writes (act c (wound b k r g t) (comes_to played_of x) x) (λ u. tale least n u script) ≡ writes (act c t (comes_to played_of x) x) (λ u. tale least n u script)
   act-wound g Submit t x = hear-wound g (sent_of t) (submit t) x
   act-wound g Finish t x = refl
-  act-wound g Wait t x = hear-wound g Nothing t x
+  act-wound g Wait t x = hear-wound g None t x
 
 pub tale-wound : (least n b k : ℕ) (r : Bool) (g : ℕ) (t : Track) (script : List Reading) → tale least n (wound b k r g t) script ≡ tale least n t script
 unfolding tale turn_of choose_of

@@ -1,20 +1,20 @@
 -- The trace of a run, as fields. "Each transfer turn writes its submission, then its completion; the end comes last. Quiet readings and wrong tokens leave no field."
 -- Assumes nothing.
-use Rattle.std.specs.Prelude.{List, [], ◌∷◌, ℕ}
+use Rattle.std.specs.Prelude.{List, [], ◌∷◌, ℕ, Some, None}
 use Rattle.codes.specs.Answers.{says_refusal}
 use Rattle.turns.specs.Log.{Line}
 use Rattle.trace.specs.declared.field.Field.TheVariants as field
-use Rattle.trace.specs.Types.{Sent, Nothing, Period, Heard, Silent, Freed, Said, Going, Done, Ended, Refused, Field}
+use Rattle.trace.specs.Types.{Sent, Heard, Said, Going, Done, Ended, Refused, Field}
 
 -- a turn's submission, before what follows
 abbrev pub sent_then : Sent → List Field → List Field
-sent_then Nothing rest = rest
-sent_then (Period slot offset len) rest = field.Submitted slot offset len ∷ rest
+sent_then None rest = rest
+sent_then (Some p) rest = field.Submitted p.slot p.offset p.len ∷ rest
 
 -- its completion
 abbrev pub heard_then : Heard → List Field → List Field
-heard_then Silent rest = rest
-heard_then (Freed slot status) rest = field.Completed slot status ∷ rest
+heard_then None rest = rest
+heard_then (Some f) rest = field.Completed f.slot f.status ∷ rest
 
 -- the end, where the turn gave an answer; a refused turn writes nothing
 abbrev pub said_then : Said → List Field → List Field

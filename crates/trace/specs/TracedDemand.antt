@@ -1,7 +1,7 @@
 -- DEMAND 3 OF A TRANSFER THAT WRITES A TRACE (2026-11), both halves, and any host: a trace changes nothing else (`trace-says-same`), so it is demand 3 of
 -- the transfer that writes none.
 -- Assumes nothing.
-use Rattle.std.specs.Prelude.{ℕ, ◌+◌, ◌*◌, ◌≤◌, ◌<◌, ◌≡◌, List, length}
+use Rattle.std.specs.Prelude.{ℕ, ◌+◌, ◌*◌, ◌≤◌, ◌<◌, ◌≡◌, List, length, None}
 use Rattle.std.proofs.Common.{sym, ◌∙◌, subst}
 use Rattle.layout.specs.All.{All}
 use Rattle.turns.specs.Cut.{cut}
@@ -16,7 +16,7 @@ use Rattle.turns.specs.RefusedTurns.{LeavesIt, goes_over, admitted_by, upshot, a
 use Rattle.trace.specs.Writer.{writing_call, Penned, tracing, traces}
 use Rattle.trace.specs.TracedLaws.{goes-too, writing-refused}
 use Rattle.trace.specs.Written.{trace-says-same, refused-writes-nothing}
-use Rattle.trace.specs.Types.{Ring, Going, Done, Reading, Quiet}
+use Rattle.trace.specs.Types.{Ring, Going, Done, Reading}
 
 -- the turns after a start that goes on, lent frames and a room
 abbrev pub traces_from : Ring → ℕ → ℕ → ℕ → List ℕ → List ℕ → List Reading → Ran Penned
@@ -33,7 +33,7 @@ module _ (r : Ring) (stream period budget : ℕ) (frames room : List ℕ) (scrip
 
   -- and it says what the transfer without a trace says
   pub traced-says-same : h.said ≡ (plays r stream period budget frames script).said
-  traced-says-same = same-said Quiet (tracing (length frames)) (called (length frames)) budget budget _ _ script script same_log
+  traced-says-same = same-said None (tracing (length frames)) (called (length frames)) budget budget _ _ script script same_log
 
   -- "the transfer answers Ok no later than turn n times g plus 1"
   pub traced-in-time : (g : ℕ) → Idle r → 0 < period → 0 < g → length (cut period frames) * g + 1 ≤ budget → All NoFault h.log → CompletesWithin g h.log
@@ -61,4 +61,4 @@ traced-leaves len a x r e =
     λ i. record { ring = ring i; room = p.1 i }
 
 pub any-traced : (len : ℕ) (a : Penned) (xs : List Reading) → let ys = admitted_by (tracing len) a xs in goes_over (tracing len) a xs ≡ upshot (traces len (length ys) a ys)
-any-traced len a xs = any-loop Quiet (tracing len) (traced-leaves len) a xs
+any-traced len a xs = any-loop None (tracing len) (traced-leaves len) a xs

@@ -1,6 +1,6 @@
 -- 2026-11, the writer: from a start that goes on, by the loop of its turns and by that of turns that write no trace.
 -- Assumes nothing.
-use Rattle.std.specs.Prelude.{Bool, true, false, ◌||◌, List, [], ◌∷◌, ◌++◌, ◌≡◌, refl, ℕ, suc, ◌+◌, ◌*◌, ◌/◌, ◌%◌, ◌≤◌, ◌<◌, eqb, length, take, drop}
+use Rattle.std.specs.Prelude.{Bool, true, false, ◌||◌, List, [], ◌∷◌, ◌++◌, ◌≡◌, refl, ℕ, suc, ◌+◌, ◌*◌, ◌/◌, ◌%◌, ◌≤◌, ◌<◌, eqb, length, take, drop, Some, None, Ok}
 use Rattle.std.proofs.lemmas.Bool.{false≢true}
 use Rattle.std.proofs.Common.{sym, ap, subst, ◌∙◌, zero-add, zero-mul, suc-mul, add-zero, div-add-mod', mod-lt, arith, eqb-true}
 use Rattle.std.proofs.lemmas.List.Edits.{sets, sets-eq}
@@ -24,7 +24,7 @@ use Rattle.trace.specs.Judged.{emitted-accepted}
 use Rattle.trace.specs.Runs.{AllReal}
 use Rattle.trace.specs.Writer.{ink_of, pen_fits, inked, writes_none, writing_call, room_after, Penned, tracing, traces}
 use Rattle.trace.specs.WrittenLaws.{untraced, choose-bare, turn-bare, waiting-bare, Traces, ran_of, writes, writes-on, rest_trace, Holds, written}
-use Rattle.trace.specs.Types.{Track, Ring, Step, Going, Reading, Quiet, Completed, Accepted}
+use Rattle.trace.specs.Types.{Track, Ring, Step, Going, Reading}
 
 -- ---- the periods are enough for the frames
 
@@ -83,8 +83,8 @@ drains-keep t reading =
     guarded-by P _ _ _ (λ _. guarded-by P _ _ _ (λ _. refl) (λ _. by reading)) (λ _. refl)
   where
     by : (reading : Reading) → (drained t reading).track.written ≡ t.written
-    by Quiet = refl
-    by (Completed slot status) = guarded-by (λ (s : Step). s.track.written ≡ t.written) _ _ _ (λ _. refl) (λ _. refl)
+    by None = refl
+    by (Some c) = guarded-by (λ (s : Step). s.track.written ≡ t.written) _ _ _ (λ _. refl) (λ _. refl)
 
 -- ---- the host's loop and the run of the rules say the same, line for line; the track is the same but for the trace
 
@@ -133,7 +133,7 @@ same_turn n len a x k =
 link : (least n len fuel : ℕ) (a : Penned) (script : List Reading) → Inv least n len a
     → seen (λ (p : Penned). untraced p.ring.track) (traces len fuel a script) ≡ run played least fuel (untraced a.ring.track) script
 link least n len fuel a script i =
-    loops-alike Quiet (tracing len) (ruled played least) (λ (p : Penned). untraced p.ring.track) (Inv least n len)
+    loops-alike None (tracing len) (ruled played least) (λ (p : Penned). untraced p.ring.track) (Inv least n len)
     (λ b x h. subst (λ (k : ℕ). Alike k n len b x) h.0 (same_turn n len b x h.1)) fuel a script i
 
 -- ---- from the beginning
@@ -220,7 +220,7 @@ module _ (r : Ring) (stream period budget : ℕ) (frames room : List ℕ) (going
         let runs : Runs len ring.track = subst (λ (t : Track). Runs len t) (sym b.track) b.runs in
         ran-log ∙ sym (ap (λ (x : Ran Track). x.log) (host.link d len budget ring script (ap (λ (t : Track). t.descriptors) b.track) runs) ∙ ap (λ (t : Track). (run played d budget t script).log) b.track)
 
-    pub accepts-room : stream < 4294967296 → AllReal script → judges r.track.descriptors r.track.descriptors (take ran.at.ring.track.written ran.at.room) ≡ Accepted
+    pub accepts-room : stream < 4294967296 → AllReal script → judges r.track.descriptors r.track.descriptors (take ran.at.ring.track.written ran.at.room) ≡ Ok tt
     accepts-room wide real =
         let d = r.track.descriptors in
         let w = room-holds in

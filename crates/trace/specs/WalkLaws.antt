@@ -5,7 +5,7 @@ use Rattle.std.proofs.Common.{sym, ap, ap₂, subst, inl, arith}
 use Rattle.turns.specs.Rules.{choose_of, sent_of, submit, judge_of, played_of, release, accept, is_oldest, ticked}
 use Rattle.turns.specs.RuleLaws.{Chosen}
 use Rattle.trace.specs.declared.field.Field.TheVariants as field
-use Rattle.trace.specs.Types.{Track, Period, Choice, Submit, Finish, Wait, Verdict, WrongSlot, Good, Bad, Field, Stage, Opening, Out, Back, Failed, Over}
+use Rattle.trace.specs.Types.{Track, Choice, Submit, Finish, Wait, Verdict, WrongSlot, Good, Bad, Field, Stage, Opening, Out, Back, Failed, Over, sent_period}
 
 -- the transfer has not ended
 abbrev pub Alive : Stage → Type 0
@@ -62,7 +62,7 @@ FreedBy (Bad a) good bad = bad
 abbrev pub WalksBy : ℕ → Stage → Choice → Track → List Field → Type 0
 WalksBy least st c t [] = Ended st
 WalksBy least st c t (field.Start stream total period ∷ fs) = ⊥
-WalksBy least st c t (field.Submitted slot offset len ∷ fs) = MaySend st c × (sent_of t ≡ Period slot offset len) × WalksBy least Out (choose_of least (submit t)) (submit t) fs
+WalksBy least st c t (field.Submitted slot offset len ∷ fs) = MaySend st c × (sent_of t ≡ sent_period slot offset len) × WalksBy least Out (choose_of least (submit t)) (submit t) fs
 WalksBy least st c t (field.Completed slot status ∷ fs) =
     MayFree st c
     × FreedBy (judge_of t slot (played_of status))
@@ -100,7 +100,7 @@ pub walks-by : (least b n : ℕ) (r : Bool) (g : ℕ) (st : Stage) (c : Choice) 
 unfolding choose_of judge_of is_oldest
 walks-by least b n r g st c t [] = refl
 walks-by least b n r g st c t (field.Start stream total period ∷ fs) = refl
-walks-by least b n r g st c t (field.Submitted slot offset len ∷ fs) = ap (λ (X : Type 0). MaySend st c × (sent_of t ≡ Period slot offset len) × X) (walks-by least b n r g Out (choose_of least (submit t)) (submit t) fs)
+walks-by least b n r g st c t (field.Submitted slot offset len ∷ fs) = ap (λ (X : Type 0). MaySend st c × (sent_of t ≡ sent_period slot offset len) × X) (walks-by least b n r g Out (choose_of least (submit t)) (submit t) fs)
 walks-by least b n r g st c t (field.Completed slot status ∷ fs) =
     ap₂ (λ (X Y : Type 0). MayFree st c × FreedBy (judge_of t slot (played_of status)) X Y) (walks-by least b n r g Back (choose_of least (release t)) (release t) fs)
     (walks-by least b n r g Failed (choose_of least (release t)) (release t) fs)

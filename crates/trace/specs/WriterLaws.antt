@@ -1,6 +1,6 @@
 -- 2026-11's writer: how long a turn's bytes are, and what is in flight after it.
 -- Assumes nothing.
-use Rattle.std.specs.Prelude.{Bool, true, false, List, [], ◌∷◌, ◌++◌, ◌≡◌, refl, ℕ, ◌+◌, ◌*◌, eqb, length}
+use Rattle.std.specs.Prelude.{Bool, true, false, List, [], ◌∷◌, ◌++◌, ◌≡◌, refl, ℕ, ◌+◌, ◌*◌, eqb, length, Some, None}
 use Rattle.std.proofs.Common.{sym, ap, ◌∙◌, add-zero, arith}
 use Rattle.layout.specs.Rows.{rows_bytes}
 use Rattle.turns.specs.Rules.{choose_of, sent_of, submit, judge_of, settle, hear, act, turn_of, counted_by, counted_of}
@@ -11,27 +11,27 @@ use Rattle.trace.specs.Trace.{sent_then, heard_then, said_then, fields_of}
 use Rattle.trace.specs.Private.{turn_fields}
 use Rattle.trace.specs.PenLaws.{turn-length, one_size}
 use Rattle.trace.specs.declared.field.Field.TheVariants as field
-use Rattle.trace.specs.Types.{Track, Step, Sent, Nothing, Period, Heard, Silent, Freed, Said, Going, Done, Ended, Refused, Reading, Quiet, Completed, Choice, Submit, Finish, Wait, Verdict, WrongSlot, Good, Bad, Outcome, Field}
+use Rattle.trace.specs.Types.{Track, Step, Sent, Heard, Said, Going, Done, Ended, Refused, Reading, Choice, Submit, Finish, Wait, Verdict, WrongSlot, Good, Bad, Outcome, Field}
 
 -- ---- submissions and completions of a turn
 
 abbrev pub sent_in : Sent → ℕ
-sent_in Nothing = 0
-sent_in (Period slot offset len) = 1
+sent_in None = 0
+sent_in (Some p) = 1
 
 abbrev pub freed_in : Heard → ℕ
-freed_in Silent = 0
-freed_in (Freed slot status) = 1
+freed_in None = 0
+freed_in (Some f) = 1
 
 pub sent-size : (s : Sent) → length (trace_bytes (sent_then s [])) ≡ 12 * sent_in s
 unfolding rows_bytes
-sent-size Nothing = refl
-sent-size (Period slot offset len) = sym (one_size (field.Submitted slot offset len))
+sent-size None = refl
+sent-size (Some p) = sym (one_size (field.Submitted p.slot p.offset p.len))
 
 pub heard-size : (h : Heard) → length (trace_bytes (heard_then h [])) ≡ 8 * freed_in h
 unfolding rows_bytes
-heard-size Silent = refl
-heard-size (Freed slot status) = sym (one_size (field.Completed slot status))
+heard-size None = refl
+heard-size (Some f) = sym (one_size (field.Completed f.slot f.status))
 
 going-size : length (trace_bytes (said_then Going [])) ≡ 0
 unfolding rows_bytes
@@ -49,8 +49,8 @@ settle-held Good sent t slot status o j = let h = j.0 in omega (arith, h)
 settle-held (Bad a) sent t slot status o j = let h = j.0 in omega (arith, h)
 
 hear-held : (sent : Sent) (t : Track) (o : Outcome) (reading : Reading) → (hear o sent t reading).track.inflight + freed_in (hear o sent t reading).heard ≡ t.inflight
-hear-held sent t o Quiet = add-zero t.inflight
-hear-held sent t o (Completed slot status) = settle-held (judge_of t slot o) sent t slot status o (judged t slot o)
+hear-held sent t o None = add-zero t.inflight
+hear-held sent t o (Some c) = settle-held (judge_of t c.slot o) sent t c.slot c.status o (judged t c.slot o)
 
 settle-sent : (v : Verdict) (sent : Sent) (t : Track) (slot status : ℕ) → (settle v sent t slot status).sent ≡ sent
 settle-sent WrongSlot sent t slot status = refl
@@ -58,8 +58,8 @@ settle-sent Good sent t slot status = refl
 settle-sent (Bad a) sent t slot status = refl
 
 pub hear-sent : (sent : Sent) (t : Track) (o : Outcome) (reading : Reading) → (hear o sent t reading).sent ≡ sent
-hear-sent sent t o Quiet = refl
-hear-sent sent t o (Completed slot status) = settle-sent (judge_of t slot o) sent t slot status
+hear-sent sent t o None = refl
+hear-sent sent t o (Some c) = settle-sent (judge_of t c.slot o) sent t c.slot c.status
 
 act-held : (c : Choice) (t : Track) (o : Outcome) (reading : Reading) → (act c t o reading).track.inflight + freed_in (act c t o reading).heard ≡ t.inflight + sent_in (act c t o reading).sent
 act-held Submit t o reading =
@@ -68,8 +68,8 @@ act-held Submit t o reading =
     omega (arith, h, s)
 act-held Finish t o reading = refl
 act-held Wait t o reading =
-    let h = hear-held Nothing t o reading in
-    let s = ap sent_in (hear-sent Nothing t o reading) in
+    let h = hear-held None t o reading in
+    let s = ap sent_in (hear-sent None t o reading) in
     omega (arith, h, s)
 
 pub record Same (s n : Step) : Type 0 where
@@ -105,9 +105,9 @@ pub going-fields : (l : Line) (ls : List Line) → l.said ≡ Going → fields_o
 going-fields l ls e = ap (λ (k : Said). sent_then l.sent (heard_then l.heard (said_then k (fields_of ls)))) e ∙ by l.sent l.heard
   where
     heard-by : (h : Heard) (fs : List Field) → heard_then h fs ≡ heard_then h [] ++ fs
-    heard-by Silent fs = refl
-    heard-by (Freed slot status) fs = refl
+    heard-by None fs = refl
+    heard-by (Some f) fs = refl
 
     by : (s : Sent) (h : Heard) → sent_then s (heard_then h (fields_of ls)) ≡ sent_then s (heard_then h []) ++ fields_of ls
-    by Nothing h = heard-by h (fields_of ls)
-    by (Period slot offset len) h = ap (λ (x : List Field). field.Submitted slot offset len ∷ x) (heard-by h (fields_of ls))
+    by None h = heard-by h (fields_of ls)
+    by (Some p) h = ap (λ (x : List Field). field.Submitted p.slot p.offset p.len ∷ x) (heard-by h (fields_of ls))

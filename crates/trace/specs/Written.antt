@@ -1,6 +1,6 @@
 -- 2026-11, the writer: what a start and the turns after it leave in the room, as a host calls them. "Our writer emits it."
 -- Assumes nothing.
-use Rattle.std.specs.Prelude.{List, [], ◌∷◌, ◌++◌, ◌≡◌, refl, ℕ, ◌≤◌, ◌<◌, eqb, length, take, drop, replicate}
+use Rattle.std.specs.Prelude.{List, [], ◌∷◌, ◌++◌, ◌≡◌, refl, ℕ, ◌≤◌, ◌<◌, eqb, length, take, drop, replicate, Ok}
 use Rattle.std.proofs.Common.{ap}
 use Rattle.std.proofs.lemmas.List.Edits.{sets}
 use Rattle.codes.specs.SaysLaws.{picks}
@@ -21,7 +21,7 @@ use Rattle.trace.specs.Runs.{AllReal}
 use Rattle.trace.specs.Writer.{ink_of, writes_none, writing_call, room_after, Penned, traces}
 use Rattle.trace.specs.InkLaws.{none-ran}
 use Rattle.trace.specs.TracedLaws.{room-holds, same_log, accepts-room, writing-refused, drains-keep}
-use Rattle.trace.specs.Types.{Track, Ring, Step, Going, Refused, Reading, Accepted}
+use Rattle.trace.specs.Types.{Track, Ring, Step, Going, Refused, Reading}
 
 -- THE ROOM after a start that goes on, and its turns: it holds their trace and behind it what was there, it was long enough, and the ring tells how long the trace is.
 -- The code takes the period as a u32
@@ -39,7 +39,7 @@ trace-says-same r stream period budget frames room script going low = same_log r
 -- "so any our writer emits": the judge accepts what stands in the room after the last turn, as far as the ring tells
 pub written-accepted : (r : Ring) (stream period budget : ℕ) (frames room : List ℕ) (script : List Reading) → let s = start_traced r.track stream (length frames) period budget (length room) in
     let h = traces (length frames) budget (record { ring = ring_after r s; room = room }) script in
-    s.said ≡ Going → period < 4294967296 → stream < 4294967296 → AllReal script → judges r.track.descriptors r.track.descriptors (take h.at.ring.track.written h.at.room) ≡ Accepted
+    s.said ≡ Going → period < 4294967296 → stream < 4294967296 → AllReal script → judges r.track.descriptors r.track.descriptors (take h.at.ring.track.written h.at.room) ≡ Ok tt
 written-accepted r stream period budget frames room script going low wide real = accepts-room r stream period budget frames room going low script wide real
 
 -- lent no room it is the turn that writes no trace

@@ -1,6 +1,6 @@
 -- 2026-11, the writer: a turn writes behind what is written, and turn by turn the room holds the trace.
 -- Assumes nothing.
-use Rattle.std.specs.Prelude.{Bool, true, false, List, [], ◌∷◌, ◌++◌, ◌≡◌, refl, ℕ, zero, suc, ◌+◌, ◌*◌, ◌≤◌, ◌<◌, eqb, length}
+use Rattle.std.specs.Prelude.{Bool, true, false, List, [], ◌∷◌, ◌++◌, ◌≡◌, refl, ℕ, zero, suc, ◌+◌, ◌*◌, ◌≤◌, ◌<◌, eqb, length, Some, None}
 use Rattle.std.proofs.Math.Path.{sym, ap}
 use Rattle.std.proofs.Common.{subst, ◌∙◌, add-zero, arith, length-append, ne_eqb, eqb-true, lt-ltb, le-leb}
 use Rattle.std.proofs.lemmas.List.Edits.{sets}
@@ -26,7 +26,7 @@ use Rattle.trace.specs.Writer.{opening_by, opening, pen_of, ink_of, pen_fits, in
 use Rattle.trace.specs.WriterLaws.{sent_in, freed_in, turn-size, turn-held, going-fields}
 use Rattle.trace.specs.InkLaws.{opening-size, opening-append, some-lent}
 use Rattle.trace.specs.SufficeLaws.{Paced, turn-fits, turn-paces}
-use Rattle.trace.specs.Types.{Track, Ring, Step, Sent, Nothing, Heard, Said, Going, Done, Ended, Refused, Reading, Quiet, Completed, Choice, Submit, Finish, Wait, Verdict, WrongSlot, Good, Bad, Outcome, Field}
+use Rattle.trace.specs.Types.{Track, Ring, Step, Sent, Heard, Said, Going, Done, Ended, Refused, Reading, Choice, Submit, Finish, Wait, Verdict, WrongSlot, Good, Bad, Outcome, Field}
 
 -- ---- A TURN THAT GOES ON heard a good completion, or none
 
@@ -37,13 +37,13 @@ settle-good Good sent t slot status e = refl
 settle-good (Bad a) sent t slot status e = absurd (subst Over e tt)
 
 hear-good : (o : Outcome) (sent : Sent) (t : Track) (reading : Reading) → (hear o sent t reading).said ≡ Going → (hear o sent t reading).track.good ≡ t.good + freed_in (hear o sent t reading).heard
-hear-good o sent t Quiet e = sym (add-zero t.good)
-hear-good o sent t (Completed slot status) e = settle-good (judge_of t slot o) sent t slot status e
+hear-good o sent t None e = sym (add-zero t.good)
+hear-good o sent t (Some c) e = settle-good (judge_of t c.slot o) sent t c.slot c.status e
 
 act-good : (c : Choice) (t : Track) (o : Outcome) (reading : Reading) → (act c t o reading).said ≡ Going → (act c t o reading).track.good ≡ t.good + freed_in (act c t o reading).heard
 act-good Submit t o reading e = hear-good o (sent_of t) (submit t) reading e
 act-good Finish t o reading e = absurd (subst Over e tt)
-act-good Wait t o reading e = hear-good o Nothing t reading e
+act-good Wait t o reading e = hear-good o None t reading e
 
 -- who counts a turn that goes on changes none of these
 pub record Counts (s n : Step) : Type 0 where
@@ -111,13 +111,13 @@ settle-bare Good sent t slot status = refl
 settle-bare (Bad a) sent t slot status = refl
 
 hear-bare : (o : Outcome) (sent : Sent) (t : Track) (reading : Reading) → hear o sent (untraced t) reading ≡ bare (hear o sent t reading)
-hear-bare o sent t Quiet = refl
-hear-bare o sent t (Completed slot status) = ap (λ (v : Verdict). settle v sent (untraced t) slot status) (judge-bare t slot o) ∙ settle-bare (judge_of t slot o) sent t slot status
+hear-bare o sent t None = refl
+hear-bare o sent t (Some c) = ap (λ (v : Verdict). settle v sent (untraced t) c.slot c.status) (judge-bare t c.slot o) ∙ settle-bare (judge_of t c.slot o) sent t c.slot c.status
 
 act-bare : (c : Choice) (t : Track) (o : Outcome) (reading : Reading) → act c (untraced t) o reading ≡ bare (act c t o reading)
 act-bare Submit t o reading = hear-bare o (sent_of t) (submit t) reading
 act-bare Finish t o reading = refl
-act-bare Wait t o reading = hear-bare o Nothing t reading
+act-bare Wait t o reading = hear-bare o None t reading
 
 counted-bare : (s : Step) → counted_of (bare s) ≡ bare (counted_of s)
 unfolding counted_of

@@ -5,36 +5,26 @@ ghost use Rattle.turns.specs.Rules.{judge_of, played_of};
 ghost use Rattle.trace.specs.Judge.{alive, may_send, may_free, may_end, ends, agree, sent_move, freed_move, move_by, move_of, rest_by, begun as started, judges, judged_of};
 ghost use Rattle.trace.specs.Private.{Ready, opened_of, Course};
 ghost use Rattle.trace.specs.declared.field.Field.TheVariants.{Submitted, Completed, End};
-ghost use Rattle.trace.specs.declared.field.Stage.TheVariants.{Opening, Back};
+ghost use Rattle.trace.specs.declared.field.Stage.TheVariants.{Opening};
 
-use crate::field::{Field, Found, Judged, Judgement, Moved, Stage};
+use crate::field::{Field, Judgement, Stage, State, TraceError};
 use crate::{fields, rules};
-use codes::StatusCode;
+use codes::{Refusal, StatusCode};
 use turns::{Choice, Track, mode_ok};
 
 fn may_send(stage: Stage, choice: Choice) -> bool
     ensures { result ≡ may_send stage choice }
 {
-    match choice {
-        Choice::Submit => alive(stage),
-        Choice::Finish => false,
-        Choice::Wait => false,
-    }
+    matches!(choice, Choice::Submit) && alive(stage)
 }
 
 fn alive(stage: Stage) -> bool
     ensures { result ≡ alive stage }
 {
-    match stage {
-        Stage::Opening => true,
-        Stage::Out => true,
-        Stage::Back => true,
-        Stage::Failed => false,
-        Stage::Over => false,
-    }
+    matches!(stage, Stage::Opening | Stage::Out | Stage::Back)
 }
 
-// The first of the 4 bytes in which two numbers differ.
+// The first of the 4 bytes in which two numbers differ. A chain over to_le_bytes is no plainer.
 fn other4(a: u32, b: u32) -> usize
     requires { a ≡ b → ⊥ }
     ensures { (result ≤ 3) × ((xs ys : List ℕ) → result ≡ agree (le 4 a ++ xs) (le 4 b ++ ys)) }
@@ -56,50 +46,9 @@ fn may_free(stage: Stage, choice: Choice) -> bool
     ensures { result ≡ may_free stage choice }
 {
     match stage {
-        Stage::Opening => waits(choice),
+        Stage::Opening | Stage::Back => matches!(choice, Choice::Wait),
         Stage::Out => true,
-        Stage::Back => waits(choice),
-        Stage::Failed => false,
-        Stage::Over => false,
-    }
-}
-
-fn waits(choice: Choice) -> bool
-    ensures { result ≡ may_free Opening choice }
-{
-    match choice {
-        Choice::Submit => false,
-        Choice::Finish => false,
-        Choice::Wait => true,
-    }
-}
-
-fn either(answer: u8, a: u8, b: u8) -> bool
-    ensures { result ≡ (eqb answer a || eqb answer b) }
-{
-    if answer == a {
-        return true;
-    }
-    answer == b
-}
-
-fn ends_opening(choice: Choice, answer: u8) -> bool
-    ensures { result ≡ may_end Opening choice answer }
-{
-    match choice {
-        Choice::Submit => false,
-        Choice::Finish => answer == 0,
-        Choice::Wait => either(answer, 6, 9),
-    }
-}
-
-fn ends_back(choice: Choice, answer: u8) -> bool
-    ensures { result ≡ may_end Back choice answer }
-{
-    match choice {
-        Choice::Submit => answer == 9,
-        Choice::Finish => either(answer, 0, 9),
-        Choice::Wait => either(answer, 6, 9),
+        Stage::Failed | Stage::Over => false,
     }
 }
 
@@ -109,46 +58,42 @@ fn may_end(stage: Stage, choice: Choice, answer: u8) -> bool
     ensures { result ≡ may_end stage choice answer }
 {
     match stage {
-        Stage::Opening => ends_opening(choice, answer),
-        Stage::Out => either(answer, 6, 9),
-        Stage::Back => ends_back(choice, answer),
+        Stage::Opening => match choice {
+            Choice::Submit => false,
+            Choice::Finish => answer == 0,
+            Choice::Wait => answer == 6 || answer == 9,
+        },
+        Stage::Out => answer == 6 || answer == 9,
+        Stage::Back => match choice {
+            Choice::Submit => answer == 9,
+            Choice::Finish => answer == 0 || answer == 9,
+            Choice::Wait => answer == 6 || answer == 9,
+        },
         Stage::Failed => answer == 2,
         Stage::Over => false,
     }
 }
 
 // A submission: the one that is due, or the first byte in which it differs from it.
-fn sent_moved(t: Track, slot: u8, offset: u32, len: u32) -> Moved
+fn sent_moved(t: Track, slot: u8, offset: u32, len: u32) -> Result<State, usize>
     requires { Ready t }
     ensures { result ≡ sent_move t slot offset len }
 {
     let next = t.next;
     let due = rules::span(t.period, t.total, next);
     if slot as usize != t.head {
-        return Moved::Off { at: 3 };
+        return Err(3);
     }
     if offset as usize != next {
-        let k = other4(offset, next as u32);
-        return Moved::Off { at: 4 + k };
+        return Err(4 + other4(offset, next as u32));
     }
     if len as usize != due {
-        let k = other4(len, due as u32);
-        return Moved::Off { at: 8 + k };
+        return Err(8 + other4(len, due as u32));
     }
-    Moved::On {
+    Ok(State {
         stage: Stage::Out,
         track: rules::submitted(t),
-    }
-}
-
-fn may_finish(choice: Choice) -> bool
-    ensures { result ≡ ends Opening choice }
-{
-    match choice {
-        Choice::Submit => false,
-        Choice::Finish => true,
-        Choice::Wait => true,
-    }
+    })
 }
 
 // Some end may follow.
@@ -156,89 +101,86 @@ fn some_end(stage: Stage, choice: Choice) -> bool
     ensures { result ≡ ends stage choice }
 {
     match stage {
-        Stage::Opening => may_finish(choice),
-        Stage::Out => true,
-        Stage::Back => true,
-        Stage::Failed => true,
+        Stage::Opening => !matches!(choice, Choice::Submit),
+        Stage::Out | Stage::Back | Stage::Failed => true,
         Stage::Over => false,
     }
 }
 
 // A completion: of the oldest in flight, or it names another slot.
-fn freed_moved(t: Track, slot: u8, status: u32) -> Moved
+fn freed_moved(t: Track, slot: u8, status: u32) -> Result<State, usize>
     requires { t.tail < 32 }
     ensures { result ≡ freed_move (judge_of t slot (played_of status)) t }
 {
     if t.inflight == 0 {
-        return Moved::Off { at: 3 };
+        return Err(3);
     }
     if slot as usize != t.tail {
-        return Moved::Off { at: 3 };
+        return Err(3);
     }
     let track = rules::released(t);
     if status == StatusCode::OK {
-        return Moved::On {
+        return Ok(State {
             stage: Stage::Back,
             track,
-        };
+        });
     }
-    Moved::On {
+    Ok(State {
         stage: Stage::Failed,
         track,
-    }
+    })
 }
 
-fn sent_by(stage: Stage, choice: Choice, t: Track, slot: u8, offset: u32, len: u32) -> Moved
+fn sent_by(
+    stage: Stage,
+    choice: Choice,
+    t: Track,
+    slot: u8,
+    offset: u32,
+    len: u32,
+) -> Result<State, usize>
     requires { Ready t }
     ensures { result ≡ move_by stage choice t (Submitted slot offset len) }
 {
-    let ok = may_send(stage, choice);
-    if !ok {
-        return Moved::Off { at: 0 };
+    if !may_send(stage, choice) {
+        return Err(0);
     }
     sent_moved(t, slot, offset, len)
 }
 
-fn done_by(stage: Stage, choice: Choice, t: Track, slot: u8, status: u32) -> Moved
+fn done_by(stage: Stage, choice: Choice, t: Track, slot: u8, status: u32) -> Result<State, usize>
     requires { Ready t }
     ensures { result ≡ move_by stage choice t (Completed slot status) }
 {
-    let ok = may_free(stage, choice);
-    if !ok {
-        return Moved::Off { at: 0 };
+    if !may_free(stage, choice) {
+        return Err(0);
     }
     freed_moved(t, slot, status)
 }
 
-fn end_by(stage: Stage, choice: Choice, t: Track, answer: u8) -> Moved
+fn end_by(stage: Stage, choice: Choice, t: Track, answer: u8) -> Result<State, usize>
     ensures { result ≡ move_by stage choice t (End answer) }
 {
-    let known = some_end(stage, choice);
-    if !known {
-        return Moved::Off { at: 0 };
+    if !some_end(stage, choice) {
+        return Err(0);
     }
-    let ok = may_end(stage, choice, answer);
-    if !ok {
-        return Moved::Off { at: 3 };
+    if !may_end(stage, choice, answer) {
+        return Err(3);
     }
-    Moved::On {
+    Ok(State {
         stage: Stage::Over,
         track: t,
-    }
+    })
 }
 
 // One field more.
-fn moved(least: usize, stage: Stage, t: Track, f: Field) -> Moved
+fn moved(least: usize, stage: Stage, t: Track, f: Field) -> Result<State, usize>
     requires { Ready t }
     ensures { result ≡ move_of least stage t f }
 {
     let choice = rules::choose(least, t);
     match f {
-        Field::Start {
-            stream: _,
-            total: _,
-            period: _,
-        } => Moved::Off { at: 0 },
+        Field::Start { .. } => Err(0),
         Field::Submitted { slot, offset, len } => sent_by(stage, choice, t, slot, offset, len),
         Field::Completed { slot, status } => done_by(stage, choice, t, slot, status),
         Field::End { answer } => end_by(stage, choice, t, answer),
@@ -250,11 +192,8 @@ fn rest(stage: Stage, at: usize) -> Judgement
     ensures { result ≡ rest_by stage at }
 {
     match stage {
-        Stage::Opening => Judgement::NotARun { at },
-        Stage::Out => Judgement::NotARun { at },
-        Stage::Back => Judgement::NotARun { at },
-        Stage::Failed => Judgement::NotARun { at },
-        Stage::Over => Judgement::Accepted,
+        Stage::Over => Ok(()),
+        _ => Err(TraceError::NotARun { at }),
     }
 }
 
@@ -289,27 +228,22 @@ fn walk(per: usize, s: &[u8], t: Track) -> Judgement
     ensures { result ≡ opened_of per s.now }
 {
     let mut at: usize = 15;
-    let mut stage = Stage::Opening;
-    let mut track = t;
+    let mut state = State {
+        stage: Stage::Opening,
+        track: t,
+    };
+    // Each step is as long as its field, so the loop keeps its own place.
     while at != s.len() {
-        let found = fields::field_at(s, at);
-        let Found::Is(f) = found else {
-            return rest(stage, at);
+        let Some(f) = fields::field_at(s, at) else {
+            return rest(state.stage, at);
         };
-        let m = moved(per, stage, track, f);
-        match m {
-            Moved::Off { at: k } => return Judgement::NotARun { at: at + k },
-            Moved::On {
-                stage: st,
-                track: tr,
-            } => {
-                stage = st;
-                track = tr;
-                at += fields::size(f);
-            }
+        match moved(per, state.stage, state.track, f) {
+            Ok(next) => state = next,
+            Err(k) => return Err(TraceError::NotARun { at: at + k }),
         }
+        at += fields::size(f);
     }
-    rest(stage, at)
+    rest(state.stage, at)
 }
 
 // A trace that scans: the start comes first.
@@ -318,11 +252,10 @@ fn opened(per: usize, s: &[u8]) -> Judgement
     ensures { result ≡ opened_of per s.now }
 {
     if s.len() == 0 {
-        return Judgement::BadTrace { at: 0 };
+        return Err(TraceError::BadTrace { at: 0 });
     }
-    let found = fields::field_at(s, 0);
-    let Found::Is(f) = found else {
-        return Judgement::BadTrace { at: 0 };
+    let Some(f) = fields::field_at(s, 0) else {
+        return Err(TraceError::BadTrace { at: 0 });
     };
     let Field::Start {
         stream,
@@ -330,10 +263,10 @@ fn opened(per: usize, s: &[u8]) -> Judgement
         period,
     } = f
     else {
-        return Judgement::NotARun { at: 0 };
+        return Err(TraceError::NotARun { at: 0 });
     };
     if period == 0 {
-        return Judgement::NotARun { at: 14 };
+        return Err(TraceError::NotARun { at: 14 });
     }
     let t = begun(per, stream, total, period);
     walk(per, s, t)
@@ -344,21 +277,16 @@ fn judged(per: usize, s: &[u8]) -> Judgement
     requires { 0 < per }
     ensures { result ≡ judges per per s.now }
 {
-    let scanned = fields::scan_fields(s);
-    match scanned {
-        Judgement::Accepted => opened(per, s),
-        Judgement::BadTrace { at } => Judgement::BadTrace { at },
-        Judgement::NotARun { at } => Judgement::NotARun { at },
-    }
+    fields::scan_fields(s)?;
+    opened(per, s)
 }
 
 // The judge of a trace. The mode is the descriptors to a submission.
-pub fn judge(mode: usize, s: &[u8]) -> Judged
+pub fn judge(mode: usize, s: &[u8]) -> Result<Judgement, Refusal>
     ensures { result ≡ judged_of mode s.now }
 {
-    let known = mode_ok(mode);
-    if !known {
-        return Judged::InvalidParam;
+    if !mode_ok(mode) {
+        return Err(Refusal::InvalidParam);
     }
-    Judged::Is(judged(mode, s))
+    Ok(judged(mode, s))
 }

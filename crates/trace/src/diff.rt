@@ -1,17 +1,14 @@
 // Two traces compared: the list of their differences, as rows in a lent room.
-ghost use Rattle.std.specs.Prelude.{◌≡◌, ◌+◌, ◌*◌, ◌≤◌, ◌&&◌, eqb, length, true};
+ghost use Rattle.std.specs.Prelude.{◌≡◌, ◌+◌, ◌*◌, ◌≤◌, ◌&&◌, eqb, length, true, Some};
 ghost use Rattle.std.proofs.lemmas.List.Edits.{sets};
 ghost use Rattle.layout.specs.Layout.{write};
 ghost use Rattle.layout.specs.Rows.{rows_bytes};
 ghost use Rattle.trace.specs.Compare.{contents_of, diffs_of};
-ghost use Rattle.trace.specs.declared.field.Found.TheVariants.{Is, NoField};
-ghost use Rattle.trace.specs.declared.field.Judgement.TheVariants.{Accepted};
-ghost use Rattle.trace.specs.Listed.{row_by, row_widths, row_values, row_of, tallied_by, tallied_of, compared_of, listed_of};
+ghost use Rattle.trace.specs.Listed.{row_by, row_widths, row_values, row_of, tallied_of, compared_of, listed_of};
 ghost use Rattle.trace.specs.Gaps.{gap_of, gap_list, found_size, over_of};
-ghost use Rattle.trace.specs.Fields.{scan_of};
 
-use crate::difference::{Compared, Contents, Difference, Gap, Row};
-use crate::field::{Field, Found, Judgement};
+use crate::difference::{CompareError, Contents, Difference, Gap, Row};
+use crate::field::Field;
 use crate::fields;
 use layout;
 
@@ -147,21 +144,9 @@ fn put_gap(list: &mut [u8], at: usize, g: Gap)
     }
 }
 
-fn alike(f: Contents, g: Contents) -> bool
-    ensures { result ≡ (eqb f.a g.a && (eqb f.b g.b && (eqb f.c g.c && true))) }
-{
-    if f.a != g.a {
-        return false;
-    }
-    if f.b != g.b {
-        return false;
-    }
-    f.c == g.c
-}
-
 // Two fields at one position.
 fn pair(i: u64, f: Field, g: Field) -> Gap
-    ensures { result ≡ gap_of i (Is f) (Is g) }
+    ensures { result ≡ gap_of i (Some f) (Some g) }
 {
     let x = contents(f);
     let y = contents(g);
@@ -171,8 +156,7 @@ fn pair(i: u64, f: Field, g: Field) -> Gap
             e: Difference::OnlySecond { at: i, field: g },
         };
     }
-    let same = alike(x, y);
-    if same {
+    if x == y {
         return Gap::Same;
     }
     Gap::One {
@@ -184,41 +168,19 @@ fn pair(i: u64, f: Field, g: Field) -> Gap
     }
 }
 
-fn alone(i: u64, f: Field) -> Gap
-    ensures { result ≡ gap_of i (Is f) NoField }
-{
-    Gap::One {
-        d: Difference::OnlyFirst { at: i, field: f },
-    }
-}
-
-fn behind(i: u64, y: Found) -> Gap
-    ensures { result ≡ gap_of i NoField y }
-{
-    match y {
-        Found::Is(g) => Gap::One {
-            d: Difference::OnlySecond { at: i, field: g },
-        },
-        Found::NoField => Gap::Same,
-    }
-}
-
-fn beside(i: u64, f: Field, y: Found) -> Gap
-    ensures { result ≡ gap_of i (Is f) y }
-{
-    match y {
-        Found::Is(g) => pair(i, f, g),
-        Found::NoField => alone(i, f),
-    }
-}
-
 // What differs at one position.
-fn gap(i: u64, x: Found, y: Found) -> Gap
+fn gap(i: u64, x: Option<Field>, y: Option<Field>) -> Gap
     ensures { result ≡ gap_of i x y }
 {
-    match x {
-        Found::Is(f) => beside(i, f, y),
-        Found::NoField => behind(i, y),
+    match (x, y) {
+        (Some(f), Some(g)) => pair(i, f, g),
+        (Some(f), None) => Gap::One {
+            d: Difference::OnlyFirst { at: i, field: f },
+        },
+        (None, Some(g)) => Gap::One {
+            d: Difference::OnlySecond { at: i, field: g },
+        },
+        (None, None) => Gap::Same,
     }
 }
 
@@ -232,34 +194,22 @@ fn weight(g: Gap) -> usize
     }
 }
 
-fn taken(x: Found) -> usize
+fn taken(x: Option<Field>) -> usize
     ensures { result ≡ found_size x }
 {
     match x {
-        Found::Is(f) => fields::size(f),
-        Found::NoField => 0,
+        Some(f) => fields::size(f),
+        None => 0,
     }
 }
 
-fn is_bad(y: Found) -> bool
-    ensures { result ≡ over_of NoField y }
-{
-    match y {
-        Found::Is(_) => false,
-        Found::NoField => true,
-    }
-}
-
-fn is_over(x: Found, y: Found) -> bool
+fn is_over(x: Option<Field>, y: Option<Field>) -> bool
     ensures { result ≡ over_of x y }
 {
-    match x {
-        Found::Is(_) => false,
-        Found::NoField => is_bad(y),
-    }
+    x.is_none() && y.is_none()
 }
 
-// How many differences there are.
+// How many differences there are. Each trace is walked by steps as long as its own fields.
 fn count(first: &[u8], second: &[u8]) -> usize
     ensures { result ≡ length (diffs_of first.now second.now) }
 {
@@ -285,7 +235,7 @@ fn count(first: &[u8], second: &[u8]) -> usize
     }
 }
 
-// The rows of all differences, at the front of a room that holds them.
+// The rows of all differences, at the front of a room that holds them: the same walk.
 fn fill(first: &[u8], second: &[u8], list: &mut [u8])
     requires { length (diffs_of first.now second.now) * 34 ≤ length list.old }
     ensures { list.new ≡ sets list.old 0 (rows_bytes row_of (diffs_of first.now second.now)) }
@@ -313,46 +263,27 @@ fn fill(first: &[u8], second: &[u8], list: &mut [u8])
     }
 }
 
-fn counted(first: &[u8], second: &[u8]) -> Compared
-    ensures { result ≡ tallied_by Accepted (scan_of second.now) (length (diffs_of first.now second.now)) }
-{
-    let j = fields::scan(second);
-    match j {
-        Judgement::Accepted => Compared::Listed {
-            count: count(first, second),
-        },
-        Judgement::BadTrace { at } => Compared::BadSecond { at },
-        Judgement::NotARun { at } => Compared::BadSecond { at },
-    }
-}
-
-// How many differences two traces have.
-pub fn differences(first: &[u8], second: &[u8]) -> Compared
+// How many differences two traces have. The first is judged first.
+pub fn differences(first: &[u8], second: &[u8]) -> Result<usize, CompareError>
     ensures { result ≡ tallied_of first.now second.now }
 {
-    let j = fields::scan(first);
-    match j {
-        Judgement::Accepted => counted(first, second),
-        Judgement::BadTrace { at } => Compared::BadFirst { at },
-        Judgement::NotARun { at } => Compared::BadFirst { at },
+    if let Err(e) = fields::scan(first) {
+        return Err(CompareError::BadFirst { at: e.at() });
     }
+    if let Err(e) = fields::scan(second) {
+        return Err(CompareError::BadSecond { at: e.at() });
+    }
+    Ok(count(first, second))
 }
 
 // The differences of two traces, as rows at the front of the room; all of them, or none.
-pub fn compare(first: &[u8], second: &[u8], list: &mut [u8]) -> Compared
+pub fn compare(first: &[u8], second: &[u8], list: &mut [u8]) -> Result<usize, CompareError>
     ensures { (result ≡ compared_of first.now second.now (length list.old)) × (list.new ≡ listed_of first.now second.now list.old) }
 {
-    let r = differences(first, second);
-    match r {
-        Compared::Listed { count: n } => {
-            if list.len() / ROW < n {
-                return Compared::ListFull;
-            }
-            fill(first, second, list);
-            Compared::Listed { count: n }
-        }
-        Compared::BadFirst { at } => Compared::BadFirst { at },
-        Compared::BadSecond { at } => Compared::BadSecond { at },
-        Compared::ListFull => Compared::ListFull,
+    let n = differences(first, second)?;
+    if list.len() / ROW < n {
+        return Err(CompareError::ListFull);
     }
+    fill(first, second, list);
+    Ok(n)
 }

@@ -21,7 +21,7 @@ pub enum Difference {
 }
 
 // A field as its tag and three numbers, 0 where it has fewer.
-#[derive(Clone, Copy)]
+#[derive(Clone, Copy, PartialEq, Eq)]
 pub struct Contents {
     pub tag: u8,
     pub a: u32,
@@ -44,7 +44,7 @@ pub struct Row {
     pub z: u32,
 }
 
-// What differs at one position.
+// What differs at one position. Two Options would also say a second without a first.
 #[derive(Clone, Copy)]
 pub enum Gap {
     Same,
@@ -52,11 +52,9 @@ pub enum Gap {
     Two { d: Difference, e: Difference },
 }
 
-// What a comparison says: so many differences, which trace is none and where, or the list is too
-// short.
+// Why two traces are not compared: which of them is none and where, or the list is too short.
 #[derive(Clone, Copy)]
-pub enum Compared {
-    Listed { count: usize },
+pub enum CompareError {
     BadFirst { at: usize },
     BadSecond { at: usize },
     ListFull,

@@ -1,4 +1,7 @@
 // What a trace is made of, and what is said of one.
+ghost use Rattle.std.specs.Prelude.{◌≡◌};
+ghost use Rattle.trace.specs.Private.{error_at};
+
 use turns::Track;
 
 // One field of a trace: tag 1, length 2, contents.
@@ -34,31 +37,30 @@ pub enum Stage {
     Over,
 }
 
-// A field leads on, or the first of its bytes through which no run agrees.
+// Where a judge stands in a trace, and the transfer's track there.
 #[derive(Clone, Copy)]
-pub enum Moved {
-    On { stage: Stage, track: Track },
-    Off { at: usize },
+pub struct State {
+    pub stage: Stage,
+    pub track: Track,
 }
 
-// What is said of a trace: 0, 18 or 19, each refusal with its offset.
+// Why a trace is not accepted: 18 or 19, with its offset.
 #[derive(Clone, Copy)]
-pub enum Judgement {
-    Accepted,
+pub enum TraceError {
     BadTrace { at: usize },
     NotARun { at: usize },
 }
 
-// What the judge says: a mode that is none is 1.
-#[derive(Clone, Copy)]
-pub enum Judged {
-    Is(Judgement),
-    InvalidParam,
-}
+// What is said of a trace: it is accepted, or why it is not.
+pub type Judgement = Result<(), TraceError>;
 
-// The field at a place of a trace. None: an unknown tag, a wrong length or a cut field.
-#[derive(Clone, Copy)]
-pub enum Found {
-    Is(Field),
-    NoField,
+impl TraceError {
+    // The offset that it tells.
+    pub(crate) fn at(self) -> usize
+        ensures { result ≡ error_at self }
+    {
+        match self {
+            TraceError::BadTrace { at } | TraceError::NotARun { at } => at,
+        }
+    }
 }

@@ -12,7 +12,7 @@ mod writer;
 
 pub use course::judge;
 pub use diff::{ROW, compare, differences};
-pub use difference::Compared;
-pub use field::{Judged, Judgement};
+pub use difference::CompareError;
+pub use field::{Judgement, TraceError};
 pub use fields::scan;
 pub use writer::turn_traced;

@@ -8,7 +8,7 @@ ghost use Rattle.trace.specs.declared.field.Field.TheVariants.{Start, Submitted,
 
 use crate::field::Field;
 use layout;
-use turns::{Heard, Said, Sent};
+use turns::{Freed, Period, Said};
 
 pub(crate) fn put_start(room: &mut [u8], at: usize, stream: u32, total: u32, period: u32) -> usize
     requires { at + 15 ≤ length room.old }
@@ -89,33 +89,33 @@ fn put(room: &mut [u8], at: usize, f: Field) -> usize
     }
 }
 
-fn put_sent(room: &mut [u8], at: usize, sent: Sent) -> usize
+fn put_sent(room: &mut [u8], at: usize, sent: Option<Period>) -> usize
     requires { SentFits sent × (at + length (trace_bytes (sent_then sent [])) ≤ length room.old) }
     ensures { (result ≡ at + length (trace_bytes (sent_then sent []))) × (room.new ≡ sets room.old at (trace_bytes (sent_then sent []))) }
 {
     match sent {
-        Sent::Nothing => at,
-        Sent::Period { slot, offset, len } => {
+        None => at,
+        Some(p) => {
             let f = Field::Submitted {
-                slot: slot as u8,
-                offset: offset as u32,
-                len: len as u32,
+                slot: p.slot as u8,
+                offset: p.offset as u32,
+                len: p.len as u32,
             };
             put(room, at, f)
         }
     }
 }
 
-fn put_heard(room: &mut [u8], at: usize, heard: Heard) -> usize
+fn put_heard(room: &mut [u8], at: usize, heard: Option<Freed>) -> usize
     requires { HeardFits heard × (at + length (trace_bytes (heard_then heard [])) ≤ length room.old) }
     ensures { (result ≡ at + length (trace_bytes (heard_then heard []))) × (room.new ≡ sets room.old at (trace_bytes (heard_then heard []))) }
 {
     match heard {
-        Heard::Silent => at,
-        Heard::Freed { slot, status } => {
+        None => at,
+        Some(freed) => {
             let f = Field::Completed {
-                slot: slot as u8,
-                status,
+                slot: freed.slot as u8,
+                status: freed.status,
             };
             put(room, at, f)
         }
@@ -138,7 +138,13 @@ fn put_said(room: &mut [u8], at: usize, said: Said) -> usize
 }
 
 // What one turn writes behind `at`: its submission, its completion, the end. Where the trace ends then.
-pub(crate) fn put_turn(room: &mut [u8], at: usize, sent: Sent, heard: Heard, said: Said) -> usize
+pub(crate) fn put_turn(
+    room: &mut [u8],
+    at: usize,
+    sent: Option<Period>,
+    heard: Option<Freed>,
+    said: Said,
+) -> usize
     requires { SentFits sent × (HeardFits heard × (at + length (trace_bytes (turn_fields sent heard said)) ≤ length room.old)) }
     ensures { (result ≡ at + length (trace_bytes (turn_fields sent heard said))) × (room.new ≡ sets room.old at (trace_bytes (turn_fields sent heard said))) }
 {

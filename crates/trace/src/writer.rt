@@ -11,7 +11,7 @@ ghost use Rattle.trace.specs.Writer.{opening, ink_of, writing_call, room_after};
 
 use crate::pen;
 use codes::Refusal;
-use turns::{Heard, Reading, Said, Sent, Step, Track};
+use turns::{Completion, Freed, Period, Said, Step, Track};
 
 // It was refused, and ran no turn.
 fn is_refused(said: Said) -> bool
@@ -25,25 +25,22 @@ fn is_refused(said: Said) -> bool
     }
 }
 
-fn sent_size(sent: Sent) -> usize
+// The bytes of each field that a turn may write: two types, and so two functions.
+fn sent_size(sent: Option<Period>) -> usize
     ensures { (result ≡ length (trace_bytes (sent_then sent []))) × (result ≤ 12) }
 {
     match sent {
-        Sent::Nothing => 0,
-        Sent::Period {
-            slot: _,
-            offset: _,
-            len: _,
-        } => 12,
+        None => 0,
+        Some(_) => 12,
     }
 }
 
-fn heard_size(heard: Heard) -> usize
+fn heard_size(heard: Option<Freed>) -> usize
     ensures { (result ≡ length (trace_bytes (heard_then heard []))) × (result ≤ 8) }
 {
     match heard {
-        Heard::Silent => 0,
-        Heard::Freed { slot: _, status: _ } => 8,
+        None => 0,
+        Some(_) => 8,
     }
 }
 
@@ -122,14 +119,14 @@ fn barred(t: Track) -> Step
 {
     Step {
         track: t,
-        sent: Sent::Nothing,
-        heard: Heard::Silent,
+        sent: None,
+        heard: None,
         said: Said::Refused(Refusal::InvalidParam),
     }
 }
 
 // A turn of the track, lent frames of some length, and room for its trace. A refused one leaves the room as it was.
-pub fn turn_traced(t: Track, len: usize, room: &mut [u8], reading: Reading) -> Step
+pub fn turn_traced(t: Track, len: usize, room: &mut [u8], reading: Option<Completion>) -> Step
     ensures { (result ≡ writing_call t len (length room.old) reading) × (room.new ≡ room_after t (writing_call t len (length room.old) reading) room.old) }
 {
     let n = room.len();

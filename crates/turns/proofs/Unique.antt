@@ -1,10 +1,10 @@
 -- A public function's contract leaves one outcome: any two that it permits, for the same arguments, are equal.
 -- `Post` is the contract itself, as Rattle reads it off the source, so no statement here repeats a clause.
 -- Assumes nothing.
+use Rattle.std.specs.Prelude.{Option, Some, None, Result, Ok}
 use mathlib.Core.Path.{◌≡◌, refl, sym, ap, ◌∙◌}
 use mathlib.Core.List.{List, [], ◌∷◌}
 use Prim.Native.Nat.{ℕ}
-use lib.Dec.{eqb}
 use seplogic.Ra.Ura.{Ura}
 use base.Logic.{SProp, ent}
 use contract.Monad.{Fun, conj, conj_l, conj_r, fact, fact_i, fact_use}
@@ -12,16 +12,14 @@ use prog.Memory.{Memory}
 use prog.Routine.{Routine}
 use types.Logic.{Logic}
 use lib.ListN.{get_or}
-use Rattle.codes.specs.Says.{Says, pick}
-use Rattle.codes.specs.SaysLaws.{same, one}
+use Rattle.codes.specs.Says.{Says}
+use Rattle.codes.specs.SaysLaws.{same}
+use Rattle.codes.specs.ResultLaws.{one-result}
+use Rattle.codes.specs.declared.answers.Refusal.{Refusal}
 use Rattle.turns.specs.Cut.{payload}
 use Rattle.turns.specs.Calls.{shown_by}
-use Rattle.turns.specs.Reads.{says_number, says_carried, says_oldest}
-use Rattle.turns.specs.Types.{Sent, Offer, RingNumber, Carried, Oldest}
-use Rattle.turns.specs.declared.calls.Offer.TheVariants as offer
-use Rattle.turns.specs.declared.ring.RingNumber.TheVariants as number
-use Rattle.turns.specs.declared.ring.Carried.TheVariants as carried
-use Rattle.turns.specs.declared.ring.Oldest.TheVariants as oldest
+use Rattle.turns.specs.Reads.{says_number, oldest_values}
+use Rattle.turns.specs.Types.{Slot, Sent}
 use Rattle.turns.proofs.calls.is_idle.Reads as is-idle
 use Rattle.turns.proofs.consistent.is_consistent.Reads as is-consistent
 use Rattle.turns.proofs.consistent.mode_ok.Reads as mode-ok
@@ -37,7 +35,7 @@ use Rattle.turns.proofs.calls.drain_track.Reads as drain-track
 use Rattle.turns.proofs.calls.start_track.Reads as start-track
 use Rattle.turns.proofs.calls.offer_track.Reads as offer-track
 use Rattle.turns.proofs.script.transfer.Reads as transfer
-use Rattle.turns.proofs.reading.Reading.from_words.Reads as from-words
+use Rattle.turns.proofs.reading.Completion.from_words.Reads as from-words
 use Rattle.turns.proofs.ring.Ring.new.Reads as new
 use Rattle.turns.proofs.ring.Ring.new_indirect.Reads as new-indirect
 use Rattle.turns.proofs.calls.offered.Reads as offered
@@ -116,8 +114,8 @@ pub offered-one : (κs : _) (a : _) (r₁ r₂ : _) (e₁ e₂ : _) → offered.
 offered-one κs a r₁ r₂ e₁ e₂ p q = same p q
 
 -- and these contents are the part of the frames that `next_offer` names
-pub offered-part : (κs : _) (a : _) (r : _) (e e' : _) (sent : Sent) → offered.Post κs a r e → next-offer.Post κs a (offer.Is sent) e' → r.now ≡ payload a.1.0.now sent
-offered-part κs a r e e' sent p q = p ∙ ap (λ (o : Offer). shown_by o a.1.0.now) (sym q)
+pub offered-part : (κs : _) (a : _) (r : _) (e e' : _) (sent : Sent) → offered.Post κs a r e → next-offer.Post κs a (Ok sent) e' → r.now ≡ payload a.1.0.now sent
+offered-part κs a r e e' sent p q = p ∙ ap (λ (o : Result Sent Refusal). shown_by o a.1.0.now) (sym q)
 
 -- ---- the calls of a capture; what stands in the recording afterwards too
 
@@ -162,64 +160,47 @@ module _ {M : Type 1} {𝓤 : Ura M} (𝓛 : Logic 𝓤) (mem : Memory → SProp
 
 -- ---- the reads of a ring, by the way back from what they say
 
-un_number : Says → RingNumber
-un_number s = pick (eqb s.number 0) (number.Is (get_or s.values 0 0)) number.InvalidParam
-
-un-number : (r : RingNumber) → un_number (says_number r) ≡ r
-unfolding un_number
-un-number (number.Is n) = refl
-un-number number.InvalidParam = refl
+one-number : {x y : Result ℕ Refusal} {z : Says} → says_number x ≡ z → says_number y ≡ z → x ≡ y
+one-number = one-result (λ n. n ∷ []) (λ vs. get_or vs 0 0) (λ n. refl)
 
 pub running-one : (κs : _) (a : _) (r₁ r₂ : _) (e₁ e₂ : _) → running.Post κs a r₁ e₁ → running.Post κs a r₂ e₂ → r₁ ≡ r₂
-running-one κs a r₁ r₂ e₁ e₂ p q = one says_number un_number un-number p q
+running-one κs a r₁ r₂ e₁ e₂ p q = one-number p q
 
 pub in-flight-one : (κs : _) (a : _) (r₁ r₂ : _) (e₁ e₂ : _) → in-flight.Post κs a r₁ e₁ → in-flight.Post κs a r₂ e₂ → r₁ ≡ r₂
-in-flight-one κs a r₁ r₂ e₁ e₂ p q = one says_number un_number un-number p q
+in-flight-one κs a r₁ r₂ e₁ e₂ p q = one-number p q
 
 pub free-descriptors-one : (κs : _) (a : _) (r₁ r₂ : _) (e₁ e₂ : _) → free-descriptors.Post κs a r₁ e₁ → free-descriptors.Post κs a r₂ e₂ → r₁ ≡ r₂
-free-descriptors-one κs a r₁ r₂ e₁ e₂ p q = one says_number un_number un-number p q
+free-descriptors-one κs a r₁ r₂ e₁ e₂ p q = one-number p q
 
 pub turns-run-one : (κs : _) (a : _) (r₁ r₂ : _) (e₁ e₂ : _) → turns-run.Post κs a r₁ e₁ → turns-run.Post κs a r₂ e₂ → r₁ ≡ r₂
-turns-run-one κs a r₁ r₂ e₁ e₂ p q = one says_number un_number un-number p q
+turns-run-one κs a r₁ r₂ e₁ e₂ p q = one-number p q
 
 pub kept-one : (κs : _) (a : _) (r₁ r₂ : _) (e₁ e₂ : _) → kept.Post κs a r₁ e₁ → kept.Post κs a r₂ e₂ → r₁ ≡ r₂
-kept-one κs a r₁ r₂ e₁ e₂ p q = one says_number un_number un-number p q
+kept-one κs a r₁ r₂ e₁ e₂ p q = one-number p q
 
 pub trace-length-one : (κs : _) (a : _) (r₁ r₂ : _) (e₁ e₂ : _) → trace-length.Post κs a r₁ e₁ → trace-length.Post κs a r₂ e₂ → r₁ ≡ r₂
-trace-length-one κs a r₁ r₂ e₁ e₂ p q = one says_number un_number un-number p q
+trace-length-one κs a r₁ r₂ e₁ e₂ p q = one-number p q
 
 pub accepted-one : (κs : _) (a : _) (r₁ r₂ : _) (e₁ e₂ : _) → accepted.Post κs a r₁ e₁ → accepted.Post κs a r₂ e₂ → r₁ ≡ r₂
-accepted-one κs a r₁ r₂ e₁ e₂ p q = one says_number un_number un-number p q
+accepted-one κs a r₁ r₂ e₁ e₂ p q = one-number p q
 
 pub stream-one : (κs : _) (a : _) (r₁ r₂ : _) (e₁ e₂ : _) → stream.Post κs a r₁ e₁ → stream.Post κs a r₂ e₂ → r₁ ≡ r₂
-stream-one κs a r₁ r₂ e₁ e₂ p q = one says_number un_number un-number p q
-
-un_carried : Says → Carried
-un_carried s = pick (eqb s.number 0) (carried.Is (record { offset = get_or s.values 0 0; len = get_or s.values 1 0 })) carried.InvalidParam
-
-un-carried : (r : Carried) → un_carried (says_carried r) ≡ r
-unfolding un_carried
-un-carried (carried.Is s) = refl
-un-carried carried.InvalidParam = refl
+stream-one κs a r₁ r₂ e₁ e₂ p q = one-number p q
 
 pub carried-one : (κs : _) (a : _) (r₁ r₂ : _) (e₁ e₂ : _) → read-carried.Post κs a r₁ e₁ → read-carried.Post κs a r₂ e₂ → r₁ ≡ r₂
-carried-one κs a r₁ r₂ e₁ e₂ p q = one says_carried un_carried un-carried p q
+carried-one κs a r₁ r₂ e₁ e₂ p q = one-result (λ (s : Slot). s.offset ∷ s.len ∷ []) (λ vs. record { offset = get_or vs 0 0; len = get_or vs 1 0 }) (λ s. refl) p q
 
-un_slot : List ℕ → Oldest
-un_slot [] = oldest.Nothing
-un_slot (n ∷ ns) = oldest.Slot n
+un_oldest : List ℕ → Option ℕ
+un_oldest [] = None
+un_oldest (n ∷ ns) = Some n
 
-un_oldest : Says → Oldest
-un_oldest s = pick (eqb s.number 0) (un_slot s.values) oldest.InvalidParam
-
-un-oldest : (r : Oldest) → un_oldest (says_oldest r) ≡ r
-unfolding un_oldest un_slot
-un-oldest (oldest.Slot n) = refl
-un-oldest oldest.Nothing = refl
-un-oldest oldest.InvalidParam = refl
+un-oldest : (o : Option ℕ) → un_oldest (oldest_values o) ≡ o
+unfolding un_oldest
+un-oldest (Some n) = refl
+un-oldest None = refl
 
 pub oldest-one : (κs : _) (a : _) (r₁ r₂ : _) (e₁ e₂ : _) → read-oldest.Post κs a r₁ e₁ → read-oldest.Post κs a r₂ e₂ → r₁ ≡ r₂
-oldest-one κs a r₁ r₂ e₁ e₂ p q = one says_oldest un_oldest un-oldest p q
+oldest-one κs a r₁ r₂ e₁ e₂ p q = one-result oldest_values un_oldest un-oldest p q
 
 pub is-idle-one : (κs : _) (a : _) (r₁ r₂ : _) (e₁ e₂ : _) → is-idle.Post κs a r₁ e₁ → is-idle.Post κs a r₂ e₂ → r₁ ≡ r₂
 is-idle-one κs a r₁ r₂ e₁ e₂ p q = same p q

@@ -1,17 +1,17 @@
 -- The payloads that the log itself shows as accepted are those of the first good completions.
 -- Assumes nothing.
-use Rattle.std.specs.Prelude.{ℕ, zero, suc, ◌*◌, ◌%◌, ◌≤◌, ◌<◌, ◌≡◌, refl, Bool, true, false, ◌&&◌, List, [], ◌∷◌, map, eqb, length, get_or, take}
+use Rattle.std.specs.Prelude.{ℕ, zero, suc, ◌*◌, ◌%◌, ◌≤◌, ◌<◌, ◌≡◌, refl, Bool, true, false, ◌&&◌, List, [], ◌∷◌, map, eqb, length, get_or, take, None}
 use Rattle.std.proofs.Common.{arith, ap, ◌∙◌, eq-eqb, ne_eqb, eqb-true}
 use Rattle.codes.specs.Says.{pick}
 use Rattle.turns.specs.Cut.{cut, payload, span_of}
 use Rattle.turns.specs.Ring.{says_said}
 use Rattle.turns.specs.Log.{Ran, sends, frees}
 use Rattle.turns.specs.Heard.{HeardOut, spoken, failed, completes_good, accepted_payloads}
-use Rattle.turns.specs.Types.{Ring, Sent, Nothing, Period, Heard, Silent}
+use Rattle.turns.specs.Types.{Ring, Sent, Heard, sent_period}
 
 -- k good ones, and then at most one, which is not
 first_good : (frames : List ℕ) (k : ℕ) (ss : List Sent) (hs : List Heard) → k ≤ length ss → k ≤ length hs → length hs ≤ suc k
-    → ((i : ℕ) → i < k → completes_good (get_or ss i Nothing) (get_or hs i Silent) ≡ true) → (k < length hs → completes_good (get_or ss k Nothing) (get_or hs k Silent) ≡ false)
+    → ((i : ℕ) → i < k → completes_good (get_or ss i None) (get_or hs i None) ≡ true) → (k < length hs → completes_good (get_or ss k None) (get_or hs k None) ≡ false)
     → accepted_payloads frames ss hs ≡ map (payload frames) (take k ss)
 first_good frames zero [] hs a b c g e = refl
 first_good frames zero (s ∷ ss) [] a b c g e = refl
@@ -52,18 +52,18 @@ module _ (period : ℕ) (frames : List ℕ) (h : Ran Ring) (o : HeardOut period 
       by-test false p q = absurd (omega arith)
 
   abbrev out : ℕ → Sent
-  out i = Period (i % 32) (i * period) (span_of period (length frames) (i * period))
+  out i = sent_period (i % 32) (i * period) (span_of period (length frames) (i * period))
 
-  is-good : (i : ℕ) → i < spoken h → completes_good (get_or (sends h.log) i Nothing) (get_or (frees h.log) i Silent) ≡ true
+  is-good : (i : ℕ) → i < spoken h → completes_good (get_or (sends h.log) i None) (get_or (frees h.log) i None) ≡ true
   is-good i l =
-      ap (λ (x : Sent). completes_good x (get_or (frees h.log) i Silent)) (o.order i (omega (arith, o.all)))
+      ap (λ (x : Sent). completes_good x (get_or (frees h.log) i None)) (o.order i (omega (arith, o.all)))
       ∙ ap (completes_good (out i)) (o.good i l)
       ∙ both_true _ _ (eq-eqb (i % 32) (i % 32) refl) refl
 
-  is-bad : spoken h < length (frees h.log) → completes_good (get_or (sends h.log) (spoken h) Nothing) (get_or (frees h.log) (spoken h) Silent) ≡ false
+  is-bad : spoken h < length (frees h.log) → completes_good (get_or (sends h.log) (spoken h) None) (get_or (frees h.log) (spoken h) None) ≡ false
   is-bad l =
       let f = o.failing (fails (omega (arith, o.heard, few))) in
-      ap (λ (x : Sent). completes_good x (get_or (frees h.log) (spoken h) Silent)) (o.order (spoken h) f.0)
+      ap (λ (x : Sent). completes_good x (get_or (frees h.log) (spoken h) None)) (o.order (spoken h) f.0)
       ∙ ap (completes_good (out (spoken h))) f.2.1
       ∙ second-false (eqb (spoken h % 32) (spoken h % 32)) (eqb f.2.0 0x8000) (ne_eqb f.2.0 0x8000 f.2.2)
 

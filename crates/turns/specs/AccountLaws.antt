@@ -1,6 +1,6 @@
 -- The account of a run, however it ends: what went out is a beginning of what was ahead, what came back is a beginning of that, what is in flight is the rest.
 -- Assumes nothing.
-use Rattle.std.specs.Prelude.{ℕ, zero, suc, ◌+◌, ◌%◌, ◌≤◌, ◌<◌, ◌≡◌, refl, ◌⊎◌, Bool, true, false, List, [], ◌∷◌, ◌++◌, length, take}
+use Rattle.std.specs.Prelude.{ℕ, zero, suc, ◌+◌, ◌%◌, ◌≤◌, ◌<◌, ◌≡◌, refl, ◌⊎◌, Bool, true, false, List, [], ◌∷◌, ◌++◌, length, take, Ok, Err, Some, None}
 use Rattle.std.proofs.Common.{arith, sym, ap, ◌∙◌, subst, inl, inr}
 use Rattle.codes.specs.Answers.{says_refusal}
 use Rattle.codes.specs.AnswersLaws.{numbered}
@@ -12,7 +12,7 @@ use Rattle.turns.specs.RuleLaws.{Chosen, chosen, Judged, judged, played-fine, pl
 use Rattle.turns.specs.CaseLaws.{last_of, hear-cases}
 use Rattle.turns.specs.KeepLaws.{turn-plain, counted-track}
 use Rattle.turns.specs.Log.{Line, Ran, waiting_by, next_of, rest_of, onward, loop_of, line_of, Judge, played, judged_of, run, sends_more, sends, frees_more, frees}
-use Rattle.turns.specs.Types.{Track, Sent, Nothing, Period, Heard, Silent, Freed, Said, Going, Done, Ended, Step, Reading, Quiet, Completed, Choice, Submit, Finish, Wait, Outcome, Fine, Fails, Verdict, WrongSlot, Good, Bad}
+use Rattle.turns.specs.Types.{Track, Sent, Heard, Said, Going, Done, Ended, Step, Reading, Choice, Submit, Finish, Wait, Outcome, Verdict, WrongSlot, Good, Bad, completion, freed_slot}
 
 -- a turn, counted, and what follows it
 abbrev pub turned : ℕ → Reading → Bool → Step → Ran Track → Ran Track
@@ -31,8 +31,8 @@ hear-fuelled f sent t o reading h = hear-cases (λ s. Fuelled f s.track) sent t 
 -- ---- what the laws ask of a judgement: a completion that is fine has 0x8000, another ends with a fault of the judgement's, and 2 is of another status
 
 abbrev pub Fair : (ℕ → Type 0) → Outcome → ℕ → Type 0
-Fair Fault Fine status = status ≡ 0x8000
-Fair Fault (Fails r) status = Fault (says_refusal r).number × ((says_refusal r).number ≡ 2 → status ≡ 0x8000 → ⊥)
+Fair Fault (Ok tt) status = status ≡ 0x8000
+Fair Fault (Err r) status = Fault (says_refusal r).number × ((says_refusal r).number ≡ 2 → status ≡ 0x8000 → ⊥)
 
 pub record Just {R : Type 0} (j : Judge R) (Fault : ℕ → Type 0) : Type 0 where
   pub fair : (t : Track) (x : R) (status : ℕ) → Fair Fault (j.judge t x status) status
@@ -40,12 +40,12 @@ pub record Just {R : Type 0} (j : Judge R) (Fault : ℕ → Type 0) : Type 0 whe
 
 -- the same of a reading
 abbrev pub FairOf : (ℕ → Type 0) → Outcome → Reading → Type 0
-FairOf Fault o Quiet = Unit {0}
-FairOf Fault o (Completed slot status) = Fair Fault o status
+FairOf Fault o None = Unit {0}
+FairOf Fault o (Some c) = Fair Fault o c.status
 
 fair-by : (Fault : ℕ → Type 0) (judge : ℕ → Outcome) (reading : Reading) → ((status : ℕ) → Fair Fault (judge status) status) → FairOf Fault (comes_to judge reading) reading
-fair-by Fault judge Quiet h = tt
-fair-by Fault judge (Completed slot status) h = h status
+fair-by Fault judge None h = tt
+fair-by Fault judge (Some c) h = h c.status
 
 pub fair-of : {R : Type 0} {Fault : ℕ → Type 0} (j : Judge R) → Just j Fault → (t : Track) (x : R) → FairOf Fault (judged_of j t x) (j.reading x)
 fair-of {Fault = Fault} j just t x = fair-by Fault (j.judge t x) (j.reading x) (just.fair t x)
@@ -55,8 +55,8 @@ abbrev pub Two : ℕ → Type 0
 Two n = n ≡ 2
 
 played-fair : (status : ℕ) (o : Outcome) → played_of status ≡ o → Fair Two o status
-played-fair status Fine e = played-fine status e
-played-fair status (Fails r) e = let p = played-fails status r e in (sym (ap (λ (x : Refusal). (says_refusal x).number) p.1), λ _. p.0)
+played-fair status (Ok tt) e = played-fine status e
+played-fair status (Err r) e = let p = played-fails status r e in (sym (ap (λ (x : Refusal). (says_refusal x).number) p.1), λ _. p.0)
 
 pub played-just : Just played Two
 played-just = record { fair = λ t x status. played-fair status (played_of status) refl; known = λ n e. inl e }
@@ -64,8 +64,8 @@ played-just = record { fair = λ t x status. played-fair status (played_of statu
 -- completions in order from a slot on, each with 0x8000, but for a last one where the answer is a fault
 abbrev pub InOrder : (ℕ → Type 0) → ℕ → ℕ → List Heard → Type 0
 InOrder Fault answer slot [] = Fault answer → ⊥
-InOrder Fault answer slot (Silent ∷ back) = ⊥
-InOrder Fault answer slot (Freed s status ∷ back) = (s ≡ slot) × (((status ≡ 0x8000) × InOrder Fault answer (after slot) back) ⊎ ((answer ≡ 2 → status ≡ 0x8000 → ⊥) × Fault answer × (back ≡ [])))
+InOrder Fault answer slot (None ∷ back) = ⊥
+InOrder Fault answer slot (Some f ∷ back) = (f.slot ≡ slot) × (((f.status ≡ 0x8000) × InOrder Fault answer (after slot) back) ⊎ ((answer ≡ 2 → f.status ≡ 0x8000 → ⊥) × Fault answer × (back ≡ [])))
 
 abbrev one : Sent → ℕ
 one sent = length (sends_more sent [])
@@ -74,16 +74,16 @@ abbrev gone : Heard → ℕ
 gone heard = length (frees_more heard [])
 
 more-append : (sent : Sent) (xs ys : List Sent) → sends_more sent xs ++ ys ≡ sends_more sent (xs ++ ys)
-more-append Nothing xs ys = refl
-more-append (Period s o l) xs ys = refl
+more-append None xs ys = refl
+more-append (Some p) xs ys = refl
 
 more-sends : (sent : Sent) (xs : List Sent) → length (sends_more sent xs) ≡ one sent + length xs
-more-sends Nothing xs = omega arith
-more-sends (Period s o l) xs = omega arith
+more-sends None xs = omega arith
+more-sends (Some p) xs = omega arith
 
 pub more-frees : (heard : Heard) (xs : List Heard) → length (frees_more heard xs) ≡ gone heard + length xs
-more-frees Silent xs = omega arith
-more-frees (Freed s status) xs = omega arith
+more-frees None xs = omega arith
+more-frees (Some f) xs = omega arith
 
 -- from a track that had `out` ahead, `inflight` in flight from `tail` on, `had` of them sent in this turn
 pub record Account (Fault : ℕ → Type 0) (out : List Sent) (had inflight tail : ℕ) (o : Ran Track) : Type 0 where
@@ -156,23 +156,23 @@ module _ (Fault : ℕ → Type 0) (known : (n : ℕ) → Fault n → (n ≡ 2) �
 
   settle-account : (f w : ℕ) (sent : Sent) (t : Track) (slot status : ℕ) (o : Outcome) (last : Bool) (rest : Ran Track) → one sent ≤ t.inflight → Fuelled f t → Fair Fault o status → (v : Verdict) → Judged t slot o v
       → Follows f (settle v sent t slot status).track rest
-      → Account Fault (sends_more sent (ahead f t)) (one sent) t.inflight t.tail (turned w (Completed slot status) last (settle v sent t slot status) rest)
+      → Account Fault (sends_more sent (ahead f t)) (one sent) t.inflight t.tail (turned w (completion slot status) last (settle v sent t slot status) rest)
   settle-account f w sent t slot status o last rest h fu fair WrongSlot j k =
-      ends Fault f w sent t t (Completed slot status) Silent h (omega arith) (λ s. omega arith) _ fu (spares 6 (λ e. omega arith) (λ e. omega arith))
+      ends Fault f w sent t t (completion slot status) None h (omega arith) (λ s. omega arith) _ fu (spares 6 (λ e. omega arith) (λ e. omega arith))
   settle-account f w sent t slot status o true rest h fu fair Good j k =
-      ends Fault f w sent t (accept t) (Completed slot status) (Freed slot status) h (omega arith) (λ s. omega arith) _ fu (j.1, inl (subst (λ (x : Outcome). Fair Fault x status) j.2 fair, spares 9 (λ e. omega arith) (λ e. omega arith)))
+      ends Fault f w sent t (accept t) (completion slot status) (freed_slot slot status) h (omega arith) (λ s. omega arith) _ fu (j.1, inl (subst (λ (x : Outcome). Fair Fault x status) j.2 fair, spares 9 (λ e. omega arith) (λ e. omega arith)))
   settle-account f w sent t slot status o false rest h fu fair Good j k =
-      goes Fault f w sent t (accept t) (Completed slot status) (Freed slot status) h (omega arith) (λ s. omega arith) rest k (j.1, inl (subst (λ (x : Outcome). Fair Fault x status) j.2 fair, k.back))
+      goes Fault f w sent t (accept t) (completion slot status) (freed_slot slot status) h (omega arith) (λ s. omega arith) rest k (j.1, inl (subst (λ (x : Outcome). Fair Fault x status) j.2 fair, k.back))
   settle-account f w sent t slot status o last rest h fu fair (Bad a) j k =
       let p = subst (λ (x : Outcome). Fair Fault x status) j.2 fair in
-      ends Fault f w sent t (release t) (Completed slot status) (Freed slot status) h (omega arith) (λ s. omega arith) a fu (j.1, inr (p.1, p.0, refl))
+      ends Fault f w sent t (release t) (completion slot status) (freed_slot slot status) h (omega arith) (λ s. omega arith) a fu (j.1, inr (p.1, p.0, refl))
 
   hear-account : (f w : ℕ) (sent : Sent) (t : Track) (o : Outcome) (reading : Reading) (last : Bool) (rest : Ran Track) → one sent ≤ t.inflight → Fuelled f t → FairOf Fault o reading
       → Follows f (hear o sent t reading).track rest
       → Account Fault (sends_more sent (ahead f t)) (one sent) t.inflight t.tail (turned w reading last (hear o sent t reading) rest)
-  hear-account f w sent t o Quiet true rest h fu fair k = ends Fault f w sent t t Quiet Silent h (omega arith) (λ s. omega arith) _ fu (spares 9 (λ e. omega arith) (λ e. omega arith))
-  hear-account f w sent t o Quiet false rest h fu fair k = goes Fault f w sent t t Quiet Silent h (omega arith) (λ s. omega arith) rest k k.back
-  hear-account f w sent t o (Completed slot status) last rest h fu fair k = settle-account f w sent t slot status o last rest h fu fair (judge_of t slot o) (judged t slot o) k
+  hear-account f w sent t o None true rest h fu fair k = ends Fault f w sent t t None None h (omega arith) (λ s. omega arith) _ fu (spares 9 (λ e. omega arith) (λ e. omega arith))
+  hear-account f w sent t o None false rest h fu fair k = goes Fault f w sent t t None None h (omega arith) (λ s. omega arith) rest k k.back
+  hear-account f w sent t o (Some c) last rest h fu fair k = settle-account f w sent t c.slot c.status o last rest h fu fair (judge_of t c.slot o) (judged t c.slot o) k
 
   act-account : (least f : ℕ) (t : Track) (o : Outcome) (reading : Reading) (last : Bool) (c : Choice) → Chosen least t c → Fuelled f t → FairOf Fault o reading → (rest : Ran Track)
       → ((k : ℕ) → Fuelled k (act c t o reading).track → Follows k (act c t o reading).track rest)
@@ -192,8 +192,8 @@ module _ (Fault : ℕ → Type 0) (known : (n : ℕ) → Fault n → (n ≡ 2) �
         done = b.done;
       }
   act-account least f t o reading last Finish ch fu fair rest k =
-      record { fuel = f; fuelled = fu; sent = refl; owed = omega arith; oldest = λ h. omega arith; back = spares 0 (λ e. omega arith) (λ e. omega arith); timely = ends-timely Fault f 0 Nothing t t reading Silent (omega arith) (omega arith) (λ s. omega arith) Done; done = λ e. (ch.1, ch.2) }
-  act-account least f t o reading last Wait ch fu fair rest k = hear-account f t.inflight Nothing t o reading last rest (omega arith) fu fair (k f (hear-fuelled f Nothing t o reading fu))
+      record { fuel = f; fuelled = fu; sent = refl; owed = omega arith; oldest = λ h. omega arith; back = spares 0 (λ e. omega arith) (λ e. omega arith); timely = ends-timely Fault f 0 None t t reading None (omega arith) (omega arith) (λ s. omega arith) Done; done = λ e. (ch.1, ch.2) }
+  act-account least f t o reading last Wait ch fu fair rest k = hear-account f t.inflight None t o reading last rest (omega arith) fu fair (k f (hear-fuelled f None t o reading fu))
 
 nil-timely : (inflight k : ℕ) → length (frees (take k [])) + 0 ≤ inflight + length (sends (take k []))
 nil-timely inflight zero = omega arith

@@ -1,6 +1,6 @@
 -- What demand 3 takes of a transfer and what it asks, as definitions over its log and its ring.
 -- Assumes nothing.
-use Rattle.std.specs.Prelude.{ℕ, suc, ◌+◌, ◌*◌, ◌%◌, ◌≤◌, ◌<◌, ◌≡◌, ◌⊎◌, true, false, List, [], ◌∷◌, ◌++◌, map, length, get_or, take, drop}
+use Rattle.std.specs.Prelude.{ℕ, suc, ◌+◌, ◌*◌, ◌%◌, ◌≤◌, ◌<◌, ◌≡◌, ◌⊎◌, true, false, List, [], ◌∷◌, ◌++◌, map, length, get_or, take, drop, Some, None}
 use Rattle.codes.specs.declared.answers.Cause.{Cause}
 use Rattle.codes.specs.declared.answers.Cause.TheVariants.{Status}
 use Rattle.codes.specs.declared.answers.Refusal.TheVariants.{IoError}
@@ -11,7 +11,7 @@ use Rattle.turns.specs.Ring.{blank_slot, says_said}
 use Rattle.turns.specs.Consistent.{consistent_of}
 use Rattle.turns.specs.Calls.{start_call, started_of}
 use Rattle.turns.specs.Log.{Line, Ran, turn_by_turn, sends, frees}
-use Rattle.turns.specs.Types.{Track, Ring, Nothing, Period, Heard, Silent, Freed, Said, Ended, Turned, Reading, Quiet, Completed}
+use Rattle.turns.specs.Types.{Track, Ring, Heard, Said, Ended, Turned, Reading, completion, freed_slot, sent_period}
 
 -- the start of a transfer on a ring, and the turns after it
 abbrev pub starts : Ring → ℕ → ℕ → ℕ → List ℕ → Turned
@@ -45,8 +45,8 @@ abbrev pub InFlight : Line → Type 0
 InFlight line = 0 < line.waiting
 
 abbrev pub Completes : Reading → Type 0
-Completes Quiet = ⊥
-Completes (Completed slot status) = Unit {0}
+Completes None = ⊥
+Completes (Some c) = Unit {0}
 
 -- "reports a completion"
 abbrev pub Reports : Line → Type 0
@@ -58,16 +58,16 @@ CompletesWithin g log = (i : ℕ) → i + g ≤ length log → All InFlight (tak
 
 -- nothing was freed, or what a reading names
 abbrev pub NamedBy : Heard → Reading → Type 0
-NamedBy Silent reading = Unit {0}
-NamedBy (Freed slot status) reading = reading ≡ Completed slot status
+NamedBy None reading = Unit {0}
+NamedBy (Some f) reading = reading ≡ completion f.slot f.status
 
 abbrev pub FreesWhatWasRead : Line → Type 0
 FreesWhatWasRead line = NamedBy line.heard line.reading
 
 -- a cause is the status of a completion, which is not 0x8000 and whose slot was freed
 abbrev pub Explains : Reading → Heard → Cause → Type 0
-Explains Quiet heard c = ⊥
-Explains (Completed slot status) heard c = (heard ≡ Freed slot status) × (c ≡ Status status) × (status ≡ 0x8000 → ⊥)
+Explains None heard c = ⊥
+Explains (Some c₁) heard c = (heard ≡ freed_slot c₁.slot c₁.status) × (c ≡ Status c₁.status) × (c₁.status ≡ 0x8000 → ⊥)
 
 -- a 2 carries it
 abbrev pub CarriesStatus : Said → Reading → Heard → Type 0
@@ -82,10 +82,10 @@ LineCarries line = CarriesStatus line.said line.reading line.heard
 pub record Whole (stream period : ℕ) (frames : List ℕ) (log : List Line) : Type 0 where
   -- "all n periods went out in order": the i-th at slot i % 32, from byte i * period on
   pub out : length (sends log) ≡ length (cut period frames)
-  pub order : (i : ℕ) → i < length (cut period frames) → get_or (sends log) i Nothing ≡ Period (i % 32) (i * period) (span_of period (length frames) (i * period))
+  pub order : (i : ℕ) → i < length (cut period frames) → get_or (sends log) i None ≡ sent_period (i % 32) (i * period) (span_of period (length frames) (i * period))
   -- "each was completed with 0x8000": n completions, the i-th names the slot of the i-th period
   pub heard : length (frees log) ≡ length (cut period frames)
-  pub completed : (i : ℕ) → i < length (cut period frames) → get_or (frees log) i Silent ≡ Freed (i % 32) 0x8000
+  pub completed : (i : ℕ) → i < length (cut period frames) → get_or (frees log) i None ≡ freed_slot (i % 32) 0x8000
   -- and comes no earlier than its submission: after every turn, completions so far ≤ submissions so far
   pub timely : (k : ℕ) → length (frees (take k log)) ≤ length (sends (take k log))
   -- what the device got, period by period: the stream id that the ring tells (`stream-told`), 4 bytes little-endian, then the period
@@ -100,17 +100,17 @@ pub record Whole (stream period : ℕ) (frames : List ℕ) (log : List Line) : T
 -- after k completions there is none, or a last one with another status than 0x8000 where the answer is 2
 abbrev pub Ending : ℕ → ℕ → List Heard → ℕ → Type 0
 Ending answer slot back k = ((answer ≡ 2 → ⊥) × (length back ≡ k))
-    ⊎ ((answer ≡ 2) × (length back ≡ suc k) × ((status : ℕ) × (get_or back k Silent ≡ Freed ((slot + k) % 32) status) × (status ≡ 0x8000 → ⊥)))
+    ⊎ ((answer ≡ 2) × (length back ≡ suc k) × ((status : ℕ) × (get_or back k None ≡ freed_slot ((slot + k) % 32) status) × (status ≡ 0x8000 → ⊥)))
 
 -- completions from a slot on, in order: the first ones accepted with 0x8000
 pub record Accepted (answer slot : ℕ) (back : List Heard) : Type 0 where
   pub accepted : ℕ
-  pub good : (i : ℕ) → i < accepted → get_or back i Silent ≡ Freed ((slot + i) % 32) 0x8000
+  pub good : (i : ℕ) → i < accepted → get_or back i None ≡ freed_slot ((slot + i) % 32) 0x8000
   pub end : Ending answer slot back accepted
 
 -- what went out are the first periods in order; what came back is of the first of these; what is in flight is the rest, from slot `completed % 32` on
 pub record Accounted (period : ℕ) (frames : List ℕ) (said : Said) (track : Track) (log : List Line) : Type 0 where
-  pub order : (i : ℕ) → i < length (sends log) → get_or (sends log) i Nothing ≡ Period (i % 32) (i * period) (span_of period (length frames) (i * period))
+  pub order : (i : ℕ) → i < length (sends log) → get_or (sends log) i None ≡ sent_period (i % 32) (i * period) (span_of period (length frames) (i * period))
   pub payloads : map (payload frames) (sends log) ≡ take (length (sends log)) (cut period frames)
   pub back : Accepted (says_said said).number 0 (frees log)
   pub owed : length (sends log) ≡ length (frees log) + track.inflight

@@ -1,19 +1,18 @@
 -- The calls on a ring, with their refusals: a turn, a drain turn, the start of a transfer, and what the next turn submits.
 -- Assumes nothing.
-use Rattle.std.specs.Prelude.{Bool, true, false, ◌&&◌, ◌||◌, not, List, [], ◌∷◌, ℕ, ◌+◌, ◌*◌, ◌/◌, ◌%◌, ltb, leb, eqb, set}
+use Rattle.std.specs.Prelude.{Bool, true, false, ◌&&◌, ◌||◌, not, List, [], ◌∷◌, ℕ, ◌+◌, ◌*◌, ◌/◌, ◌%◌, ltb, leb, eqb, set, Result, Ok, Err, Some, None}
 use Rattle.codes.specs.Says.{guard, pick, Says, says}
 use Rattle.codes.specs.declared.answers.Refusal.{Refusal}
 use Rattle.codes.specs.declared.answers.Refusal.TheVariants.{InvalidParam, WrongToken, Busy, OutOfTurns, BadLength}
 use Rattle.turns.specs.Cut.{payload}
 use Rattle.turns.specs.Rules.{choose_of, sent_of, comes_to, played_of, is_oldest, release, turn_of, counted_of}
 use Rattle.turns.specs.Consistent.{consistent_of}
-use Rattle.turns.specs.Types.{Slot, Track, Ring, Sent, Nothing, Period, Silent, Freed, Said, Going, Done, Ended, Refused, Step, Turned, Reading, Quiet, Completed, Choice, Submit, Finish, Wait, Offer}
-use Rattle.turns.specs.declared.calls.Offer.TheVariants as offer
+use Rattle.turns.specs.Types.{Slot, Track, Ring, Sent, Said, Going, Done, Ended, Refused, Step, Turned, Reading, Choice, Submit, Finish, Wait, freed_slot}
 use Rattle.codes.specs.Answers.{says_refusal}
 
 -- nothing was submitted and nothing freed: so it is with every refusal
 abbrev pub unchanged_of : Said → Track → Step
-unchanged_of said t = record { track = t; sent = Nothing; heard = Silent; said = said }
+unchanged_of said t = record { track = t; sent = None; heard = None; said = said }
 
 abbrev pub refused_of : Refusal → Track → Step
 refused_of r t = unchanged_of (Refused r) t
@@ -77,11 +76,11 @@ turn_call t len reading = traced_call t len 0 reading
 abbrev pub freed_of : Track → ℕ → ℕ → Step
 freed_of t slot status =
     guard (is_oldest t slot) (unchanged_of (Ended WrongToken) t)
-    (record { track = release t; sent = Nothing; heard = Freed slot status; said = Done })
+    (record { track = release t; sent = None; heard = freed_slot slot status; said = Done })
 
 abbrev pub drained : Track → Reading → Step
-drained t Quiet = unchanged_of Done t
-drained t (Completed slot status) = freed_of t slot status
+drained t None = unchanged_of Done t
+drained t (Some c) = freed_of t c.slot c.status
 
 -- A DRAIN TURN: 1 for an inconsistent ring, 1 while a transfer runs
 unfoldable pub drain_call : Track → Reading → Step
@@ -126,17 +125,17 @@ abbrev pub idle_of : Track → Bool
 idle_of t = not t.running && eqb t.inflight 0
 
 -- the start of either direction: 1 for an inconsistent ring, 8, 1 for a period of 0, 9 for a budget of 0
-abbrev pub ready : Track → ℕ → ℕ → Step → Step
-ready t period budget rest =
-    guard (consistent_of t) (refused_of InvalidParam t)
-    (guard (idle_of t) (refused_of Busy t)
-    (guard (ltb 0 period) (refused_of InvalidParam t)
-    (guard (ltb 0 budget) (refused_of OutOfTurns t)
+abbrev pub ready : {A : Type 0} → Track → ℕ → ℕ → (Refusal → A) → A → A
+ready t period budget refused rest =
+    guard (consistent_of t) (refused InvalidParam)
+    (guard (idle_of t) (refused Busy)
+    (guard (ltb 0 period) (refused InvalidParam)
+    (guard (ltb 0 budget) (refused OutOfTurns)
     rest)))
 
 -- THE START of a transfer, "nothing submitted"
 unfoldable pub start_call : Track → ℕ → ℕ → ℕ → ℕ → Step
-start_call t stream total period budget = ready t period budget (unchanged_of Going (begun t stream total period budget))
+start_call t stream total period budget = ready t period budget (λ r. refused_of r t) (unchanged_of Going (begun t stream total period budget))
 
 -- the periods of so many bytes, the last one perhaps shorter
 abbrev pub periods_of : ℕ → ℕ → ℕ
@@ -146,7 +145,7 @@ periods_of total period = total / period + pick (eqb (total % period) 0) 0 1
 -- under 19 + 20n"
 unfoldable pub start_traced : Track → ℕ → ℕ → ℕ → ℕ → ℕ → Step
 start_traced t stream total period budget room =
-    ready t period budget
+    ready t period budget (λ r. refused_of r t)
     (guard (ltb total 4294967296) (refused_of BadLength t)
     (guard (leb (19 + 20 * periods_of total period) room) (refused_of BadLength t)
     (unchanged_of Going (begun_in room false total t stream total period budget))))
@@ -154,8 +153,8 @@ start_traced t stream total period budget room =
 -- ---- the same of the ring: what was submitted stands in its slot
 
 abbrev pub carry : List Slot → Sent → List Slot
-carry slots Nothing = slots
-carry slots (Period slot offset len) = set slots slot (record { offset = offset; len = len })
+carry slots None = slots
+carry slots (Some p) = set slots p.slot (record { offset = p.offset; len = p.len })
 
 abbrev pub ring_after : Ring → Step → Ring
 ring_after r s = record { track = s.track; slots = carry r.slots s.sent }
@@ -171,25 +170,25 @@ started_of r s = record { ring = ring_after r s; sent = s.sent; heard = s.heard;
 
 abbrev pub offer_by : Choice → Track → Sent
 offer_by Submit t = sent_of t
-offer_by Finish t = Nothing
-offer_by Wait t = Nothing
+offer_by Finish t = None
+offer_by Wait t = None
 
-unfoldable pub offer_as : Bool → Track → ℕ → Offer
-offer_as capture t len = admit capture t len offer.Refused (offer.Is (offer_by (choose_of t.descriptors t) t))
+unfoldable pub offer_as : Bool → Track → ℕ → Result Sent Refusal
+offer_as capture t len = admit capture t len Err (Ok (offer_by (choose_of t.descriptors t) t))
 
-abbrev pub offer_call : Track → ℕ → Offer
+abbrev pub offer_call : Track → ℕ → Result Sent Refusal
 offer_call = offer_as false
 
 -- the period itself, as a part of the frames; where there is none, or the turn would be refused, an empty part
-abbrev pub shown_by : {A : Type 0} → Offer → List A → List A
-shown_by (offer.Is sent) frames = payload frames sent
-shown_by (offer.Refused r) frames = []
+abbrev pub shown_by : {A : Type 0} → Result Sent Refusal → List A → List A
+shown_by (Ok sent) frames = payload frames sent
+shown_by (Err r) frames = []
 
 -- what the next turn submits: 1, slot, offset and length; or four zeros
 abbrev pub says_sent : Sent → Says
-says_sent Nothing = says 0 (0 ∷ 0 ∷ 0 ∷ 0 ∷ [])
-says_sent (Period slot offset len) = says 0 (1 ∷ slot ∷ offset ∷ len ∷ [])
+says_sent None = says 0 (0 ∷ 0 ∷ 0 ∷ 0 ∷ [])
+says_sent (Some p) = says 0 (1 ∷ p.slot ∷ p.offset ∷ p.len ∷ [])
 
-abbrev pub says_offer : Offer → Says
-says_offer (offer.Is sent) = says_sent sent
-says_offer (offer.Refused r) = says_refusal r
+abbrev pub says_offer : Result Sent Refusal → Says
+says_offer (Ok sent) = says_sent sent
+says_offer (Err r) = says_refusal r

@@ -1,14 +1,15 @@
 -- RECEIVE TURNS (2026-09): the calls of a capture. Turn order, ring and budget are playback's: `turn_of`, `counted_of`, `admit` and `ready` are the very same.
 -- Assumes nothing.
-use Rattle.std.specs.Prelude.{Bool, true, ◌&&◌, ◌||◌, not, ◌≡◌, List, ℕ, ◌+◌, ◌-◌, ◌*◌, min, leb, length, take}
+use Rattle.std.specs.Prelude.{Bool, true, ◌&&◌, ◌||◌, not, ◌≡◌, List, ℕ, ◌+◌, ◌-◌, ◌*◌, min, leb, length, take, Result, Ok, Err, Some, None}
 use Rattle.std.proofs.lemmas.List.Edits.{sets}
 use Rattle.codes.specs.Says.{pick, guard}
+use Rattle.codes.specs.declared.answers.Refusal.{Refusal}
 use Rattle.codes.specs.declared.answers.Refusal.TheVariants.{BadLength, BadCapture}
 use Rattle.layout.specs.Bytes.{num_at}
 use Rattle.turns.specs.Rules.{comes_to, played_of, turn_of, counted_of}
 use Rattle.turns.specs.Calls.{unchanged_of, refused_of, admit, begun_as, ready, turned_of, offer_as}
 use Rattle.turns.specs.Script.{reading_of}
-use Rattle.turns.specs.Types.{Track, Ring, Heard, Silent, Freed, Going, Step, Turned, Reading, Quiet, Completed, Outcome, Fine, Fails, Catch, Offer}
+use Rattle.turns.specs.Types.{Track, Ring, Sent, Heard, Going, Step, Turned, Reading, Outcome, Catch}
 
 -- "the completion gives the bytes written, payload then the 8-byte status": its 4 bytes of status stand right behind the payload
 unfoldable pub catch_of : ℕ → ℕ → ℕ → List ℕ → Catch
@@ -20,24 +21,24 @@ length_good period written = leb 8 written && leb written (period + 8)
 
 -- "then 17 .., then 2": what a completion comes to, by its written length and then by its status
 unfoldable pub captured_of : ℕ → ℕ → ℕ → Outcome
-captured_of period written status = pick (length_good period written) (played_of status) (Fails BadCapture)
+captured_of period written status = pick (length_good period written) (played_of status) (Err BadCapture)
 
 abbrev pub caught_of : Track → Catch → Outcome
 caught_of t c = comes_to (captured_of t.period c.written) c.reading
 
 -- a completion is lent what the device wrote, or all that it could have written: period plus 8 bytes
 abbrev pub reaches : Reading → ℕ → ℕ → Bool
-reaches Quiet lent need = true
-reaches (Completed slot status) lent need = leb need lent
+reaches None lent need = true
+reaches (Some c) lent need = leb need lent
 
 abbrev pub lends_all : Track → Catch → Bool
 lends_all t c = not t.running || reaches c.reading c.lent (min c.written (t.period + 8))
 
 -- "both last free the slot and accept nothing": a payload is accepted where its slot was freed and it came to no refusal
 abbrev pub accepts : Outcome → Heard → ℕ → ℕ
-accepts Fine (Freed slot status) payload = payload
-accepts Fine Silent payload = 0
-accepts (Fails r) heard payload = 0
+accepts (Ok tt) (Some f) payload = payload
+accepts (Ok tt) None payload = 0
+accepts (Err r) heard payload = 0
 
 -- the payload, as far as the recording goes: a capture that was started always has room (`recorded`)
 abbrev pub payload_for : Track → Catch → ℕ
@@ -91,10 +92,10 @@ Captures r s bytes before after told = (told ≡ turned_of r s) × (after ≡ re
 -- THE START of a capture of so many periods: the refusals of a start, and then "a recording shorter than n periods gives 10, the last check before the first turn"
 unfoldable pub capture_start : Track → ℕ → ℕ → ℕ → ℕ → ℕ → Step
 capture_start t stream periods period lent budget =
-    ready t period budget
+    ready t period budget (λ r. refused_of r t)
     (guard (leb (periods * period) lent) (refused_of BadLength t)
     (unchanged_of Going (begun_as true lent t stream (periods * period) period budget)))
 
 -- what the next turn submits: a period for the device to write
-abbrev pub capture_offer : Track → ℕ → Offer
+abbrev pub capture_offer : Track → ℕ → Result Sent Refusal
 capture_offer = offer_as true

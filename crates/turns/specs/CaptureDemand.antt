@@ -1,7 +1,7 @@
 -- RECEIVE TURNS: DEMAND 3 of a capture, both halves, and what the recording holds however it ends (2026-09).
 -- The time law and the account are playback's own, `run-in-time` and `run-through`, by another judgement of a completion.
 -- Assumes nothing.
-use Rattle.std.specs.Prelude.{ℕ, zero, suc, ◌+◌, ◌-◌, ◌*◌, ◌%◌, ◌≤◌, ◌<◌, ◌≡◌, refl, Bool, true, false, not, ◌&&◌, List, ◌++◌, eqb, length, take, drop}
+use Rattle.std.specs.Prelude.{ℕ, zero, suc, ◌+◌, ◌-◌, ◌*◌, ◌%◌, ◌≤◌, ◌<◌, ◌≡◌, refl, Bool, true, false, not, ◌&&◌, List, ◌++◌, eqb, length, take, drop, Ok, Err}
 use Rattle.std.proofs.Common.{arith, zero-add, ap, sym, ◌∙◌, subst, inl, inr, ltb-true, leb-true, le-leb, lt-ltb, eq-eqb}
 use Rattle.std.proofs.lemmas.Bool.{false≢true}
 use Rattle.std.proofs.lemmas.List.Edits.{sets, sets-eq}
@@ -25,8 +25,7 @@ use Rattle.turns.specs.Capture.{lends_all, capture_call, recording_after, captur
 use Rattle.turns.specs.Captured.{Came, nothing_came, captured, Taken, taking, capture_starts, captures, Lends, LengthGood, taken, Joined, Recorded}
 use Rattle.turns.specs.TakenLaws.{TwoOrSeventeen, captured-just, bare, Taking, seen_as, takes_run, judges-status, status-just, run-alike, Roomy, Filled, takes-filled}
 use Rattle.turns.specs.LoopLaws.{loop-prefix}
-use Rattle.turns.specs.declared.calls.Offer.TheVariants as offer
-use Rattle.turns.specs.Types.{Track, Ring, Sent, Period, Said, Going, Done, Refused, Step, Reading, Catch}
+use Rattle.turns.specs.Types.{Track, Ring, Sent, Said, Going, Done, Refused, Step, Reading, Catch, sent_period}
 
 -- ---- n whole periods are n submissions
 
@@ -171,7 +170,7 @@ module _ (r : Ring) (stream periods period budget : ℕ) (recording : List ℕ) 
       let all = through.out in
       record {
         out = ap length all ∙ n;
-        order = λ i h. rw all (plan-at period (periods * period) i some (omega arith) ∙ ap (λ (k : ℕ). Period (i % 32) (i * period) k) (span-whole periods period i h));
+        order = λ i h. rw all (plan-at period (periods * period) i some (omega arith) ∙ ap (λ (k : ℕ). sent_period (i % 32) (i * period) k) (span-whole periods period i h));
         heard = through.heard ∙ n;
         completed = λ i h. through.good i (omega (arith, through.heard));
         accepted = filled.count (λ f. zero-is-none (subst TwoOrSeventeen (ap (λ (x : Said). (says_said x).number) ok) f)) ∙ through.heard ∙ n;
@@ -213,11 +212,11 @@ capture-in-time-of-turns r stream periods period budget g recording script idle 
 
 -- ---- a capture's turn submits just what was offered, whatever it reads, if it is run; and it is refused, changing nothing, where the offer is and enough bytes are lent
 
-pub capture-offered-is-sent : (t : Track) (len : ℕ) (sent : Sent) → capture_offer t len ≡ offer.Is sent → (c : Catch) → is_refused (capture_call t len c).said ≡ false
+pub capture-offered-is-sent : (t : Track) (len : ℕ) (sent : Sent) → capture_offer t len ≡ Ok sent → (c : Catch) → is_refused (capture_call t len c).said ≡ false
     → (capture_call t len c).sent ≡ sent
 capture-offered-is-sent t len sent e c = (capture-offers t len c).is sent e
 
-pub capture-offered-refused : (t : Track) (len : ℕ) (x : Refusal) → capture_offer t len ≡ offer.Refused x → (c : Catch) → lends_all t c ≡ true → capture_call t len c ≡ refused_of x t
+pub capture-offered-refused : (t : Track) (len : ℕ) (x : Refusal) → capture_offer t len ≡ Err x → (c : Catch) → lends_all t c ≡ true → capture_call t len c ≡ refused_of x t
 capture-offered-refused t len x e c = (capture-offers t len c).refused x e
 
 -- ---- a refusal changes neither the ring nor the recording

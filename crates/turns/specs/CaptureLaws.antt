@@ -1,6 +1,6 @@
 -- What the code of a capture leans on, and what its turn keeps.
 -- Assumes nothing.
-use Rattle.std.specs.Prelude.{ℕ, ◌+◌, ◌-◌, ◌*◌, ◌/◌, ◌≤◌, ◌<◌, min, ◌≡◌, Bool, true, false, ◌||◌, not, List, leb, take}
+use Rattle.std.specs.Prelude.{ℕ, ◌+◌, ◌-◌, ◌*◌, ◌/◌, ◌≤◌, ◌<◌, min, ◌≡◌, Bool, true, false, ◌||◌, not, List, leb, take, Ok, Err, None, Some}
 use Rattle.std.proofs.Common.{arith, le-div_iff_mul-le, div-lt_iff_lt-mul, sym, ap, ◌∙◌, le-leb, leb-true, leb-false}
 use Rattle.std.proofs.lemmas.List.Edits.{sets}
 use Rattle.std.proofs.lemmas.Bool.{lt-leb}
@@ -8,7 +8,7 @@ use Rattle.turns.specs.Rules.{turn_of, counted_of}
 use Rattle.turns.specs.CallLaws.{both-fails, both_rest}
 use Rattle.turns.specs.KeepLaws.{turn-after}
 use Rattle.turns.specs.Capture.{length_good, reaches, lends_all, accepts, payload_for, recording_after}
-use Rattle.turns.specs.Types.{Track, Heard, Silent, Freed, Step, Reading, Quiet, Completed, Outcome, Fine, Fails, Catch}
+use Rattle.turns.specs.Types.{Track, Heard, Step, Reading, Outcome, Catch, completion}
 
 -- ---- the written length
 
@@ -33,19 +33,19 @@ or-last a b z e f = rw f e
 pub lends-idle : (t : Track) (c : Catch) → not t.running ≡ true → true ≡ lends_all t c
 lends-idle t c e = or-first _ _ e
 
-pub lends-quiet : (t : Track) (c : Catch) → not t.running ≡ false → c.reading ≡ Quiet → true ≡ lends_all t c
+pub lends-quiet : (t : Track) (c : Catch) → not t.running ≡ false → c.reading ≡ None → true ≡ lends_all t c
 lends-quiet t c e q = or-last _ _ true (sym (ap (λ (x : Reading). reaches x c.lent (min c.written (t.period + 8))) q)) e
 
-pub lends-last : (t : Track) (c : Catch) (slot status need : ℕ) (b : Bool) → not t.running ≡ false → c.reading ≡ Completed slot status → need ≡ min c.written (t.period + 8) → b ≡ leb need c.lent → b ≡ lends_all t c
+pub lends-last : (t : Track) (c : Catch) (slot status need : ℕ) (b : Bool) → not t.running ≡ false → c.reading ≡ completion slot status → need ≡ min c.written (t.period + 8) → b ≡ leb need c.lent → b ≡ lends_all t c
 lends-last t c slot status need b e q n h =
     or-last _ _ b (h ∙ ap (λ (k : ℕ). leb k c.lent) n ∙ sym (ap (λ (x : Reading). reaches x c.lent (min c.written (t.period + 8))) q)) e
 
 -- ---- what is accepted
 
 pub accepts-most : (o : Outcome) (heard : Heard) (payload : ℕ) → accepts o heard payload ≤ payload
-accepts-most Fine (Freed slot status) payload = omega arith
-accepts-most Fine Silent payload = omega arith
-accepts-most (Fails r) heard payload = omega arith
+accepts-most (Ok tt) (Some f) payload = omega arith
+accepts-most (Ok tt) None payload = omega arith
+accepts-most (Err r) heard payload = omega arith
 
 -- what a turn accepts has room in the recording
 pub keeps-room : (least : ℕ) (t : Track) (c : Catch) (o : Outcome) (reading : Reading) → t.kept ≤ t.lent

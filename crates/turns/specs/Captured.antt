@@ -1,12 +1,12 @@
 -- What demand 3 takes of a capture and what it asks (2026-09), as definitions over its log, its ring and its recording.
 -- Assumes nothing.
-use Rattle.std.specs.Prelude.{ℕ, ◌+◌, ◌-◌, ◌*◌, ◌%◌, ◌≤◌, ◌<◌, min, ◌≡◌, ◌⊎◌, List, [], ◌∷◌, ◌++◌, length, get_or, take, drop}
+use Rattle.std.specs.Prelude.{ℕ, ◌+◌, ◌-◌, ◌*◌, ◌%◌, ◌≤◌, ◌<◌, min, ◌≡◌, ◌⊎◌, List, [], ◌∷◌, ◌++◌, length, get_or, take, drop, Ok, Err, Some, None}
 use Rattle.turns.specs.Cut.{join}
 use Rattle.turns.specs.Rules.{choose_of, comes_to}
 use Rattle.turns.specs.Calls.{turned_of, started_of}
 use Rattle.turns.specs.Capture.{catch_of, captured_of, capture_call, recording_after, capture_start}
 use Rattle.turns.specs.Log.{Line, Ran, Told, waiting_by, next_of, rest_of, loop_of, Judge, sends, frees}
-use Rattle.turns.specs.Types.{Ring, Nothing, Period, Heard, Silent, Freed, Turned, Outcome, Fine, Fails, Catch}
+use Rattle.turns.specs.Types.{Ring, Heard, Turned, Outcome, Catch, freed_slot, sent_period}
 
 -- what the queue says in one turn, with the bytes that the host lends of its buffer
 pub record Came : Type 0 where
@@ -67,9 +67,9 @@ LengthGood period x = (x.kind ≡ 0) ⊎ ((8 ≤ x.written) × (x.written ≤ pe
 
 -- the accepted payloads: of completions that freed their slot and came to no refusal
 abbrev pub taken_more : Outcome → Heard → List ℕ → List (List ℕ) → List (List ℕ)
-taken_more Fine (Freed slot status) payload rest = payload ∷ rest
-taken_more Fine Silent payload rest = rest
-taken_more (Fails r) heard payload rest = rest
+taken_more (Ok tt) (Some f) payload rest = payload ∷ rest
+taken_more (Ok tt) None payload rest = rest
+taken_more (Err r) heard payload rest = rest
 
 abbrev pub taken : ℕ → List Line → List Came → List (List ℕ)
 taken period [] script = []
@@ -88,8 +88,8 @@ pub record Joined (periods period : ℕ) (recording : List ℕ) (script : List C
 -- payload was accepted, no earlier than it went out
 pub record Recorded (periods period : ℕ) (script : List Came) (log : List Line) : Type 0 where
   pub out : length (sends log) ≡ periods
-  pub order : (i : ℕ) → i < periods → get_or (sends log) i Nothing ≡ Period (i % 32) (i * period) period
+  pub order : (i : ℕ) → i < periods → get_or (sends log) i None ≡ sent_period (i % 32) (i * period) period
   pub heard : length (frees log) ≡ periods
-  pub completed : (i : ℕ) → i < periods → get_or (frees log) i Silent ≡ Freed (i % 32) 0x8000
+  pub completed : (i : ℕ) → i < periods → get_or (frees log) i None ≡ freed_slot (i % 32) 0x8000
   pub accepted : length (taken period log script) ≡ periods
   pub timely : (k : ℕ) → length (frees (take k log)) ≤ length (sends (take k log))

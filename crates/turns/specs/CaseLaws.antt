@@ -1,6 +1,6 @@
 -- The cases of rule 2, of the count and of a loop: what holds in each of them holds of what they leave.
 -- Assumes nothing.
-use Rattle.std.specs.Prelude.{ℕ, ◌+◌, ◌≤◌, ◌<◌, ◌≡◌, ◌≢◌, Bool, true, false, [], ◌∷◌, eqb}
+use Rattle.std.specs.Prelude.{ℕ, ◌+◌, ◌≤◌, ◌<◌, ◌≡◌, ◌≢◌, Bool, true, false, [], ◌∷◌, eqb, Some, None}
 use Rattle.std.proofs.Common.{arith, sym, ap, ◌∙◌, subst}
 use Rattle.std.proofs.Math.Path.{refl}
 use Rattle.std.proofs.lemmas.Bool.{false≢true, eqb-false}
@@ -10,7 +10,7 @@ use Rattle.turns.specs.Rules.{freeing, judge_of, settle, hear, ticked, counted_b
 use Rattle.turns.specs.RuleLaws.{Judged, judged}
 use Rattle.turns.specs.Ring.{goes_on}
 use Rattle.turns.specs.Log.{Line, Ran, onward}
-use Rattle.turns.specs.Types.{Track, Sent, Silent, Freed, Said, Going, Done, Ended, Refused, Step, Reading, Quiet, Completed, Outcome, Verdict, WrongSlot, Good, Bad}
+use Rattle.turns.specs.Types.{Track, Sent, Said, Going, Done, Ended, Refused, Step, Reading, Outcome, Verdict, WrongSlot, Good, Bad, freed_slot}
 
 -- no refusal
 abbrev pub Plain : Said → Type 0
@@ -41,8 +41,8 @@ last_of s = eqb (s.track.turns + 1) s.track.budget
 
 module _ (P : Step → Type 0) where
   settle-cases : (sent : Sent) (t : Track) (slot status : ℕ) (outcome : Outcome) (v : Verdict) → Judged t slot outcome v
-      → ((said : Said) → Plain said → P (record { track = t; sent = sent; heard = Silent; said = said }))
-      → ((said : Said) → Plain said → 0 < t.inflight → (good : ℕ) → good ≤ t.good + 1 → P (record { track = freeing good t; sent = sent; heard = Freed slot status; said = said }))
+      → ((said : Said) → Plain said → P (record { track = t; sent = sent; heard = None; said = said }))
+      → ((said : Said) → Plain said → 0 < t.inflight → (good : ℕ) → good ≤ t.good + 1 → P (record { track = freeing good t; sent = sent; heard = freed_slot slot status; said = said }))
       → P (settle v sent t slot status)
   settle-cases sent t slot status outcome WrongSlot j silent freed = silent _ tt
   settle-cases sent t slot status outcome Good j silent freed = freed _ tt j.0 (t.good + 1) (omega arith)
@@ -50,11 +50,11 @@ module _ (P : Step → Type 0) where
 
   -- rule 2 frees nothing, or the oldest in flight
   pub hear-cases : (sent : Sent) (t : Track) (o : Outcome) (reading : Reading)
-      → ((said : Said) → Plain said → P (record { track = t; sent = sent; heard = Silent; said = said }))
-      → ((slot status : ℕ) (said : Said) → Plain said → 0 < t.inflight → (good : ℕ) → good ≤ t.good + 1 → P (record { track = freeing good t; sent = sent; heard = Freed slot status; said = said }))
+      → ((said : Said) → Plain said → P (record { track = t; sent = sent; heard = None; said = said }))
+      → ((slot status : ℕ) (said : Said) → Plain said → 0 < t.inflight → (good : ℕ) → good ≤ t.good + 1 → P (record { track = freeing good t; sent = sent; heard = freed_slot slot status; said = said }))
       → P (hear o sent t reading)
-  hear-cases sent t o Quiet silent freed = silent _ tt
-  hear-cases sent t o (Completed slot status) silent freed = settle-cases sent t slot status o (judge_of t slot o) (judged t slot o) silent (freed slot status)
+  hear-cases sent t o None silent freed = silent _ tt
+  hear-cases sent t o (Some c) silent freed = settle-cases sent t c.slot c.status o (judge_of t c.slot o) (judged t c.slot o) silent (freed c.slot c.status)
 
   counted-by : (s : Step) (said : Said) (last : Bool) → last_of s ≡ last → Plain said
       → (s.track.turns + 1 ≢ s.track.budget → P (record { track = ticked true s.track; sent = s.sent; heard = s.heard; said = Going }))

@@ -1,7 +1,7 @@
 -- "Frames are cut into periods of period_bytes, the last may be shorter; empty frames make none."
 -- Assumes nothing.
-use Rattle.std.specs.Prelude.{ℕ, zero, suc, ◌-◌, min, List, [], ◌∷◌, ◌++◌, length, take, drop}
-use Rattle.turns.specs.Types.{Sent, Nothing, Period}
+use Rattle.std.specs.Prelude.{ℕ, zero, suc, ◌-◌, min, List, [], ◌∷◌, ◌++◌, length, take, drop, Some, None}
+use Rattle.turns.specs.Types.{Sent}
 use Rattle.layout.specs.Bytes.{le}
 
 -- at most fuel periods; each takes at least one byte, so as much fuel as bytes is enough
@@ -24,8 +24,8 @@ span_of period total offset = min period (total - offset)
 
 -- the part of the frames that a submission shows
 abbrev pub payload : {A : Type 0} → List A → Sent → List A
-payload frames Nothing = []
-payload frames (Period slot offset len) = take len (drop offset frames)
+payload frames None = []
+payload frames (Some p) = take p.len (drop p.offset frames)
 
 -- what the device gets in a submission: the stream id, 4 bytes little-endian, then the payload
 abbrev pub message : ℕ → List ℕ → Sent → List ℕ

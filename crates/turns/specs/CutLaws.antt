@@ -5,7 +5,7 @@ use native.Mathlib.Omega.{arith}
 use Rattle.std.proofs.Common.{zero-add, ◌∙◌, length-take, take-append-drop, drop-drop, take-add, lt-ltb, le-ltb}
 use Rattle.std.proofs.Math.Nat.{zero-min, min-zero, suc-min-suc}
 use Rattle.std.proofs.Math.Decide.{dec_lt}
-use Rattle.std.specs.Prelude.{◌≡◌, ltb, length, get_or, drop}
+use Rattle.std.specs.Prelude.{◌≡◌, ltb, length, get_or, drop, None}
 use Rattle.std.proofs.Math.Path.{refl, ap, sym}
 use mathlib.Core.List.{List, [], ◌∷◌, ◌++◌, map}
 use Rattle.std.proofs.Math.ListN.{take, length-drop}
@@ -14,20 +14,20 @@ use Rattle.std.proofs.Math.Seq.{take-nil}
 use Rattle.codes.specs.Says.{pick}
 use Rattle.turns.specs.Cut.{cut_by, cut, join, span_of, payload}
 use Rattle.turns.specs.Ring.{after}
-use Rattle.turns.specs.Types.{Sent, Nothing, Period}
+use Rattle.turns.specs.Types.{Sent, sent_period}
 
 -- at most fuel periods of total bytes, from an offset and a slot on, in the order in which they go out
 unfoldable pub spans : ℕ → ℕ → ℕ → ℕ → ℕ → List Sent
 spans zero period total offset slot = []
 spans (suc fuel) period total offset slot =
-    pick (ltb offset total) (Period slot offset (span_of period total offset) ∷ spans fuel period total (offset + span_of period total offset) (after slot)) []
+    pick (ltb offset total) (sent_period slot offset (span_of period total offset) ∷ spans fuel period total (offset + span_of period total offset) (after slot)) []
 
 -- all of them: slots from 0, offsets from 0
 abbrev pub plan : ℕ → ℕ → List Sent
 plan period total = spans total period total 0 0
 
 -- with a period left, and with none
-pub spans-more : (f p t o s : ℕ) → o < t → spans (suc f) p t o s ≡ Period s o (span_of p t o) ∷ spans f p t (o + span_of p t o) (after s)
+pub spans-more : (f p t o s : ℕ) → o < t → spans (suc f) p t o s ≡ sent_period s o (span_of p t o) ∷ spans f p t (o + span_of p t o) (after s)
 unfolding spans
 spans-more f p t o s h = simp (lt-ltb o t h)
 
@@ -132,8 +132,8 @@ spans-some : (f p t o s : ℕ) → 0 < length (spans f p t o s) → Dec (o < t) 
 spans-some f p t o s h (yes y) = y
 spans-some f p t o s h (no n) = absurd (omega (arith, ap length (spans-done f p t o s (omega arith))))
 
-spans-at-by : (f p t o s i : ℕ) → 0 < p → ((o s i : ℕ) → s < 32 → i < length (spans f p t o s) → get_or (spans f p t o s) i Nothing ≡ Period ((s + i) % 32) (o + i * p) (span_of p t (o + i * p)))
-    → Dec (o < t) → s < 32 → i < length (spans (suc f) p t o s) → get_or (spans (suc f) p t o s) i Nothing ≡ Period ((s + i) % 32) (o + i * p) (span_of p t (o + i * p))
+spans-at-by : (f p t o s i : ℕ) → 0 < p → ((o s i : ℕ) → s < 32 → i < length (spans f p t o s) → get_or (spans f p t o s) i None ≡ sent_period ((s + i) % 32) (o + i * p) (span_of p t (o + i * p)))
+    → Dec (o < t) → s < 32 → i < length (spans (suc f) p t o s) → get_or (spans (suc f) p t o s) i None ≡ sent_period ((s + i) % 32) (o + i * p) (span_of p t (o + i * p))
 spans-at-by f p t o s i h k (no n) sm b = absurd (omega (arith, ap length (spans-done (suc f) p t o s (omega arith))))
 spans-at-by f p t o s zero h k (yes y) sm b =
     let e₁ : (s + 0) % 32 ≡ s = omega arith in
@@ -147,7 +147,7 @@ spans-at-by f p t o s (suc i) h k (yes y) sm b =
     rw (spans-more f p t o s y) (k (o + span_of p t o) (after s) i (omega arith) b' ∙ rw (e₁, e₂))
 
 -- where each span stands: at the next slot, one period further
-pub spans-at : (f p t o s i : ℕ) → 0 < p → s < 32 → i < length (spans f p t o s) → get_or (spans f p t o s) i Nothing ≡ Period ((s + i) % 32) (o + i * p) (span_of p t (o + i * p))
+pub spans-at : (f p t o s i : ℕ) → 0 < p → s < 32 → i < length (spans f p t o s) → get_or (spans f p t o s) i None ≡ sent_period ((s + i) % 32) (o + i * p) (span_of p t (o + i * p))
 unfolding spans
 spans-at zero p t o s i h sm b = absurd (omega arith)
 spans-at (suc f) p t o s i h sm b = spans-at-by f p t o s i h (λ o s i. spans-at f p t o s i h) (dec_lt o t) sm b
@@ -170,5 +170,5 @@ module _ (period : ℕ) (frames : List ℕ) where
   pub cut-whole : (i : ℕ) → suc i < length (cut period frames) → length (get_or (cut period frames) i []) ≡ period
   cut-whole = whole (length frames) period frames
 
-pub plan-at : (period total i : ℕ) → 0 < period → i < length (plan period total) → get_or (plan period total) i Nothing ≡ Period (i % 32) (i * period) (span_of period total (i * period))
+pub plan-at : (period total i : ℕ) → 0 < period → i < length (plan period total) → get_or (plan period total) i None ≡ sent_period (i % 32) (i * period) (span_of period total (i * period))
 plan-at period total i some h = simp zero-add at (spans-at total period total 0 0 i some (omega arith) h)

@@ -1,6 +1,6 @@
 -- From facts to the decisions of the rules: each return of `choose` and `judge` is one of these.
 -- Assumes nothing.
-use Rattle.std.specs.Prelude.{ℕ, ◌≤◌, ◌<◌, ◌≡◌, Bool, true, false, eqb}
+use Rattle.std.specs.Prelude.{ℕ, ◌≤◌, ◌<◌, ◌≡◌, Bool, true, false, eqb, Ok}
 use Rattle.std.proofs.Common.{sym, ◌∙◌, subst, lt-ltb, le-ltb, le-leb, eq-eqb, ne_eqb}
 use Rattle.std.proofs.lemmas.Bool.{lt-leb}
 use Rattle.codes.specs.SaysLaws.{picks, skips}
@@ -9,7 +9,7 @@ use Rattle.turns.specs.Ring.{free}
 use Rattle.turns.specs.Rules.{choose_of, submit, is_oldest, verdict_of, judge_of}
 use Rattle.turns.specs.CallLaws.{both-fails, both_rest, positive, nought}
 use Rattle.turns.specs.RuleLaws.{Judged, judged, oldest-true}
-use Rattle.turns.specs.Types.{Track, Submit, Finish, Wait, Outcome, Fine, Verdict, WrongSlot, Good, Bad}
+use Rattle.turns.specs.Types.{Track, Submit, Finish, Wait, Outcome, Verdict, WrongSlot, Good, Bad}
 
 -- ---- rule 1
 
@@ -47,8 +47,8 @@ pub judges : (t : Track) (slot : ℕ) (outcome : Outcome) → is_oldest t slot �
 unfolding judge_of
 judges t slot outcome e = sym (picks _ _ _ e)
 
-pub good : (t : Track) (slot : ℕ) → 0 < t.inflight → slot ≡ t.tail → Good ≡ judge_of t slot Fine
-good t slot h e = judges t slot Fine (oldest-true t slot h e)
+pub good : (t : Track) (slot : ℕ) → 0 < t.inflight → slot ≡ t.tail → Good ≡ judge_of t slot (Ok tt)
+good t slot h e = judges t slot (Ok tt) (oldest-true t slot h e)
 
 -- a verdict other than `WrongSlot` found a slot in flight
 pub some_good : (v : Verdict) (t : Track) (slot : ℕ) (outcome : Outcome) → v ≡ judge_of t slot outcome → v ≡ Good → 0 < t.inflight

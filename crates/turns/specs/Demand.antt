@@ -1,7 +1,7 @@
 -- DEMAND 3, both halves: of a start and then turns, and of a transfer over a script. Then what the auditor asks, however a transfer ends.
 -- The start is `starts`, the turns after it `plays`, the premises and `Whole`, `Accounted`, `Carried` stand in Asked.
 -- Assumes nothing.
-use Rattle.std.specs.Prelude.{ℕ, ◌+◌, ◌*◌, ◌%◌, ◌≤◌, ◌<◌, ◌≡◌, List, length, take}
+use Rattle.std.specs.Prelude.{ℕ, ◌+◌, ◌*◌, ◌%◌, ◌≤◌, ◌<◌, ◌≡◌, List, length, take, Ok, Err, None}
 use Rattle.std.proofs.Common.{arith, ap, sym, ◌∙◌, subst}
 use Rattle.turns.specs.Ring.{direct, indirect, most_of}
 use Rattle.turns.specs.Rules.{choose_of}
@@ -17,8 +17,7 @@ use Rattle.turns.specs.ConsistentLaws.{consistent-facts}
 use Rattle.turns.specs.HostLaws.{goes}
 use Rattle.turns.specs.RefusalLaws.{turn-refused, drain-refused, start-refused, ring-untouched, offered}
 use Rattle.turns.specs.DemandLaws.{loop-length, plays-in-time, plays-only-if, plays-accounted, plays-timely, plays-ends, plays-most, plays-carried, script-plays, script-ok, script-within, script-answers}
-use Rattle.turns.specs.Types.{Track, Ring, Sent, Going, Done, Refused, Reading, Quiet, Wait, Transferred}
-use Rattle.turns.specs.declared.calls.Offer.TheVariants as offer
+use Rattle.turns.specs.Types.{Track, Ring, Sent, Going, Done, Refused, Reading, Wait, Transferred}
 
 -- "Take a state and ring that calls left, .. no exchange or transfer open, nothing in flight, and frames that make n periods. If no turn reports a
 -- wrong token or a status other than 0x8000, and among any g turns running (g at least 1), each with something in flight at its reading, one reports
@@ -59,7 +58,7 @@ ok-only-if-script r stream period budget frames bytes ok =
 -- ---- "how long may the console sit inside one announcement?" At most budget turns
 pub turns-within-budget : (r : Ring) (stream period budget : ℕ) (frames bytes : List ℕ) (script : List Reading)
     → (length (plays r stream period budget frames script).log ≤ budget) × ((transfer_of r stream (length frames) period budget bytes).turns ≤ budget)
-turns-within-budget r stream period budget frames bytes script = (loop-length Quiet _ budget _ script, script-within r stream period budget frames bytes)
+turns-within-budget r stream period budget frames bytes script = (loop-length None _ budget _ script, script-within r stream period budget frames bytes)
 
 -- a transfer over a script comes to an answer
 pub always-answers-script : (r : Ring) (stream period budget : ℕ) (frames bytes : List ℕ) → (transfer_of r stream (length frames) period budget bytes).said ≡ Going → ⊥
@@ -111,10 +110,10 @@ pub full-is-not-done : (t : Track) → t.descriptors ≡ indirect → t.inflight
 full-is-not-done t d n = sym (waits-full t.descriptors t (rw (d, n) (omega arith)))
 
 -- ---- a turn submits just what was offered, whatever it reads; and it is refused, changing nothing, where the offer is
-pub offered-is-sent : (t : Track) (len : ℕ) (sent : Sent) → offer_call t len ≡ offer.Is sent → (reading : Reading) → (traced_call t len t.room reading).sent ≡ sent
+pub offered-is-sent : (t : Track) (len : ℕ) (sent : Sent) → offer_call t len ≡ Ok sent → (reading : Reading) → (traced_call t len t.room reading).sent ≡ sent
 offered-is-sent t len sent e reading = (offered t len reading).is sent e
 
-pub offered-refused : (t : Track) (len : ℕ) (x : Refusal) → offer_call t len ≡ offer.Refused x → (reading : Reading) → traced_call t len t.room reading ≡ refused_of x t
+pub offered-refused : (t : Track) (len : ℕ) (x : Refusal) → offer_call t len ≡ Err x → (reading : Reading) → traced_call t len t.room reading ≡ refused_of x t
 offered-refused t len x e reading = (offered t len reading).refused x e
 
 -- ---- a refusal leaves the ring as it was

@@ -1,6 +1,6 @@
 -- Demand 3 and the auditor's questions, of a start and then turns, with as much room as a submission takes.
 -- Assumes nothing.
-use Rattle.std.specs.Prelude.{ℕ, zero, suc, ◌+◌, ◌*◌, ◌%◌, ◌≤◌, ◌<◌, ◌≡◌, refl, List, length, get_or, take, Bool, false}
+use Rattle.std.specs.Prelude.{ℕ, zero, suc, ◌+◌, ◌*◌, ◌%◌, ◌≤◌, ◌<◌, ◌≡◌, refl, List, length, get_or, take, Bool, false, None}
 use Rattle.std.proofs.Common.{arith, zero-add, ap, ◌∙◌, subst, eq-eqb}
 use Rattle.std.proofs.Math.Path.{sym}
 use Rattle.codes.specs.SaysLaws.{passes, guarded-by}
@@ -24,7 +24,7 @@ use Rattle.turns.specs.StaysConsistentLaws.{start-keeps}
 use Rattle.turns.specs.HostLaws.{seen, RunsAs, Runs, runs_on, link, Ends, run_ends, Begins, begins, never}
 use Rattle.turns.specs.OwedLaws.{host-carries, carries-at}
 use Rattle.turns.specs.RunLaws.{InTime, OnlyIf, run-in-time, run-only-if, run-accounted, run-timely}
-use Rattle.turns.specs.Types.{Track, Ring, Sent, Said, Going, Done, Refused, Step, Reading, Quiet, Choice, Submit, Finish, Wait, Transferred}
+use Rattle.turns.specs.Types.{Track, Ring, Sent, Said, Going, Done, Refused, Step, Reading, Choice, Submit, Finish, Wait, Transferred}
 
 -- ---- a loop has as many lines as fuel at most
 
@@ -149,7 +149,7 @@ module _ (r : Ring) (stream period budget : ℕ) (frames bytes : List ℕ) where
       (λ _ e. absurd (not-ok _ e))
 
   script-turns : (said : Said) (x : Ring) → (transfer_by said (length frames) budget x (script_of bytes)).turns ≤ budget
-  script-turns said x = goes_by (λ (d : Transferred). d.turns ≤ budget) said _ _ (λ _. loop-length Quiet (called (length frames)) budget x (script_of bytes)) (λ _. omega arith)
+  script-turns said x = goes_by (λ (d : Transferred). d.turns ≤ budget) said _ _ (λ _. loop-length None (called (length frames)) budget x (script_of bytes)) (λ _. omega arith)
 
   pub script-within : (transfer_of r stream (length frames) period budget bytes).turns ≤ budget
   unfolding transfer_of

@@ -1,6 +1,6 @@
 -- DRAINING: as many drain turns as slots are in flight, each told the oldest of them, make the ring idle again, whatever the statuses.
 -- Assumes nothing.
-use Rattle.std.specs.Prelude.{ℕ, ◌<◌, ◌≡◌, refl, false, List, [], ◌∷◌, length}
+use Rattle.std.specs.Prelude.{ℕ, ◌<◌, ◌≡◌, refl, false, List, [], ◌∷◌, length, None}
 use Rattle.std.proofs.Common.{arith, sym, ap, ◌∙◌}
 use Rattle.codes.specs.SaysLaws.{passes, stops}
 use Rattle.layout.specs.All.{All}
@@ -11,7 +11,7 @@ use Rattle.turns.specs.Calls.{unchanged_of, drain_call, ring_after, turned_of}
 use Rattle.turns.specs.Asked.{starts, Idle}
 use Rattle.turns.specs.StaysConsistentLaws.{drain-keeps}
 use Rattle.turns.specs.HostLaws.{goes}
-use Rattle.turns.specs.Types.{Track, Ring, Nothing, Freed, Said, Going, Done, Step, Turned, Quiet, Completed}
+use Rattle.turns.specs.Types.{Track, Ring, Said, Going, Done, Step, Turned, completion, freed_slot}
 
 -- what each of some drain turns said, and the ring after the last
 pub record Drains : Type 0 where
@@ -20,7 +20,7 @@ pub record Drains : Type 0 where
 
 -- a drain turn that is told the oldest slot in flight, with some status
 abbrev pub drain_oldest : Ring → ℕ → Turned
-drain_oldest r status = turned_of r (drain_call r.track (Completed r.track.tail status))
+drain_oldest r status = turned_of r (drain_call r.track (completion r.track.tail status))
 
 -- one after the other, as many as statuses
 abbrev pub drains : Ring → List ℕ → Drains
@@ -34,9 +34,9 @@ drains r (status ∷ statuses) =
 
 -- the oldest slot is freed, with any status
 abbrev freed : Track → ℕ → Step
-freed t status = record { track = release t; sent = Nothing; heard = Freed t.tail status; said = Done }
+freed t status = record { track = release t; sent = None; heard = freed_slot t.tail status; said = Done }
 
-drain-frees : (t : Track) (status : ℕ) → Consistent t → t.running ≡ false → 0 < t.inflight → freed t status ≡ drain_call t (Completed t.tail status)
+drain-frees : (t : Track) (status : ℕ) → Consistent t → t.running ≡ false → 0 < t.inflight → freed t status ≡ drain_call t (completion t.tail status)
 unfolding drain_call
 drain-frees t status c off h =
     passes _ _ _ (consistent-true t c) (stops _ _ _ off (passes _ _ _ (oldest-true t t.tail h refl) refl))
@@ -60,8 +60,8 @@ drained-starts r statuses c off k stream period budget frames p b =
     sym (goes (drains r statuses).at.track stream (length frames) period budget (consistent-facts _ i.consistent) i.stopped i.empty p b)
 
 -- a quiet reading says Ok too, and leaves the ring as it is
-pub quiet-drains-nothing : (r : Ring) → Consistent r.track → r.track.running ≡ false → ((turned_of r (drain_call r.track Quiet)).said ≡ Done) × ((turned_of r (drain_call r.track Quiet)).ring ≡ r)
+pub quiet-drains-nothing : (r : Ring) → Consistent r.track → r.track.running ≡ false → ((turned_of r (drain_call r.track None)).said ≡ Done) × ((turned_of r (drain_call r.track None)).ring ≡ r)
 unfolding drain_call
 quiet-drains-nothing r c off =
-    let e : unchanged_of Done r.track ≡ drain_call r.track Quiet = passes _ _ _ (consistent-true r.track c) (stops _ _ _ off refl) in
+    let e : unchanged_of Done r.track ≡ drain_call r.track None = passes _ _ _ (consistent-true r.track c) (stops _ _ _ off refl) in
     (ap (λ (s : Step). s.said) (sym e), ap (λ (s : Step). ring_after r s) (sym e))

@@ -1,7 +1,7 @@
 -- WHAT WAS HEARD BEFORE A FAILURE (2026-13): of a start that goes on and the turns after it, where the transfer ended or ran on.
 -- k is the number of its good completions, which the ring tells (`Ring::accepted`); it is still told after draining.
 -- Assumes nothing.
-use Rattle.std.specs.Prelude.{ℕ, ◌+◌, ◌*◌, ◌%◌, ◌≤◌, ◌<◌, ◌≡◌, refl, Bool, false, ◌&&◌, List, [], ◌∷◌, map, eqb, length, get_or, take, drop}
+use Rattle.std.specs.Prelude.{ℕ, ◌+◌, ◌*◌, ◌%◌, ◌≤◌, ◌<◌, ◌≡◌, refl, Bool, false, ◌&&◌, List, [], ◌∷◌, map, eqb, length, get_or, take, drop, None, Some}
 use Rattle.std.proofs.Common.{arith, ap, sym, ◌∙◌, eq-eqb, ne_eqb}
 use Rattle.codes.specs.Says.{says, pick, guard}
 use Rattle.codes.specs.SaysLaws.{passes}
@@ -21,7 +21,7 @@ use Rattle.turns.specs.Demand.{accounted-so-far, ok-only-if, start-refusal}
 use Rattle.turns.specs.DemandLaws.{some, plays-ends, plays-carried, script-plays}
 use Rattle.turns.specs.Drained.{drain_oldest, drains, drains-to-idle}
 use Rattle.turns.specs.HeardLaws.{goods, heard_all, accepted-good, failing-next, payload-at, payloads-first, within, plays-counts, drain-keeps-count}
-use Rattle.turns.specs.Types.{Slot, Ring, Sent, Nothing, Period, Heard, Silent, Freed, Said, Going, Done, Refused, Reading, Quiet, Completed, Transferred}
+use Rattle.turns.specs.Types.{Slot, Ring, Sent, Heard, Said, Going, Done, Refused, Reading, Transferred, completion, freed_slot, sent_period}
 
 -- k, "after k good completions"
 abbrev pub spoken : Ran Ring → ℕ
@@ -40,9 +40,9 @@ shows frames s = take s.len (drop s.offset frames)
 
 -- read off the log: a submission was accepted where the completion at its place names its slot with 0x8000
 abbrev pub completes_good : Sent → Heard → Bool
-completes_good (Period slot offset len) (Freed s status) = eqb s slot && eqb status 0x8000
-completes_good (Period slot offset len) Silent = false
-completes_good Nothing h = false
+completes_good (Some p) (Some f) = eqb f.slot p.slot && eqb f.status 0x8000
+completes_good (Some p) None = false
+completes_good None h = false
 
 -- the payloads that were accepted, submission by submission and completion by completion
 abbrev pub accepted_payloads : List ℕ → List Sent → List Heard → List (List ℕ)
@@ -55,14 +55,14 @@ pub record HeardOut (period : ℕ) (frames : List ℕ) (h : Ran Ring) : Type 0 w
   pub told : accepted_read h.at.track ≡ says 0 (spoken h ∷ [])
   -- "the accepted payloads are exactly the first k periods": the first k completions are good, the i-th names the slot of the i-th submission
   pub accepted : map (payload frames) (take (spoken h) (sends h.log)) ≡ take (spoken h) (cut period frames)
-  pub good : (i : ℕ) → i < spoken h → get_or (frees h.log) i Silent ≡ Freed (i % 32) 0x8000
-  pub order : (i : ℕ) → i < length (sends h.log) → get_or (sends h.log) i Nothing ≡ Period (i % 32) (i * period) (span_of period (length frames) (i * period))
+  pub good : (i : ℕ) → i < spoken h → get_or (frees h.log) i None ≡ freed_slot (i % 32) 0x8000
+  pub order : (i : ℕ) → i < length (sends h.log) → get_or (sends h.log) i None ≡ sent_period (i % 32) (i * period) (span_of period (length frames) (i * period))
   -- "how much was spoken": joined they are the first k * period bytes, or all the frames where these are shorter
   pub bytes : join (map (payload frames) (take (spoken h) (sends h.log))) ≡ take (spoken h * period) frames
   -- "the failing one is the next": the completion after these names the slot of the next submission, whose payload is the next period, with another status
   pub failing : (says_said h.said).number ≡ 2 → (spoken h < length (sends h.log))
-      × (payload frames (get_or (sends h.log) (spoken h) Nothing) ≡ get_or (cut period frames) (spoken h) [])
-      × ((status : ℕ) × (get_or (frees h.log) (spoken h) Silent ≡ Freed (spoken h % 32) status) × (status ≡ 0x8000 → ⊥))
+      × (payload frames (get_or (sends h.log) (spoken h) None) ≡ get_or (cut period frames) (spoken h) [])
+      × ((status : ℕ) × (get_or (frees h.log) (spoken h) None ≡ freed_slot (spoken h % 32) status) × (status ≡ 0x8000 → ⊥))
   -- there is no other completion
   pub heard : length (frees h.log) ≡ spoken h + failed h
   -- "and those still owed follow it without a gap": the j-th in flight, from the oldest on, carries period k + j behind the failing one
@@ -136,7 +136,7 @@ heard-script r stream period budget frames bytes whole began =
 
 pub drains-keep-count : (r : Ring) (statuses : List ℕ) → (drains r statuses).at.track.good ≡ r.track.good
 drains-keep-count r [] = refl
-drains-keep-count r (status ∷ statuses) = drains-keep-count (drain_oldest r status).ring statuses ∙ drain-keeps-count r.track (Completed r.track.tail status)
+drains-keep-count r (status ∷ statuses) = drains-keep-count (drain_oldest r status).ring statuses ∙ drain-keeps-count r.track (completion r.track.tail status)
 
 pub told-after-draining : (r : Ring) (statuses : List ℕ) → Consistent r.track → r.track.running ≡ false → r.track.inflight ≡ length statuses
     → says 0 (r.track.good ∷ []) ≡ accepted_read (drains r statuses).at.track
@@ -159,20 +159,20 @@ abbrev owes : Ran Ring → ℕ → List ℕ
 owes h j = shows ten (get_or h.at.slots ((h.at.track.tail + j) % 32) blank_slot)
 
 abbrev pub broken_off : Ran Ring
-broken_off = plays_ten 9 (Completed 0 0x8000 ∷ Quiet ∷ Completed 1 0x8001 ∷ [])
+broken_off = plays_ten 9 (completion 0 0x8000 ∷ None ∷ completion 1 0x8001 ∷ [])
 
 pub one_of_three : ((says_said broken_off.said).number ≡ 2) × (spoken broken_off ≡ 1) × (failed broken_off ≡ 1) × (broken_off.at.track.inflight ≡ 1)
-    × (sends broken_off.log ≡ Period 0 0 4 ∷ Period 1 4 4 ∷ Period 2 8 2 ∷ []) × (frees broken_off.log ≡ Freed 0 0x8000 ∷ Freed 1 0x8001 ∷ []) × (owes broken_off 0 ≡ 18 ∷ 19 ∷ [])
+    × (sends broken_off.log ≡ sent_period 0 0 4 ∷ sent_period 1 4 4 ∷ sent_period 2 8 2 ∷ []) × (frees broken_off.log ≡ freed_slot 0 0x8000 ∷ freed_slot 1 0x8001 ∷ []) × (owes broken_off 0 ≡ 18 ∷ 19 ∷ [])
     × (accepted_read broken_off.at.track ≡ says 0 (1 ∷ [])) × (accepted_read (drains broken_off.at (0x8000 ∷ [])).at.track ≡ says 0 (1 ∷ []))
 unfolding loop_of start_call traced_call drain_call guard placed_of paced_of turn_of choose_of played_of is_oldest judge_of counted_of
 one_of_three = (refl, refl, refl, refl, refl, refl, refl, refl, refl)
 
 -- a wrong token in its place, and a budget of two turns: none failed, and the second is the oldest that is owed
 abbrev pub wrong_token : Ran Ring
-wrong_token = plays_ten 9 (Completed 0 0x8000 ∷ Quiet ∷ Completed 5 0x8001 ∷ [])
+wrong_token = plays_ten 9 (completion 0 0x8000 ∷ None ∷ completion 5 0x8001 ∷ [])
 
 abbrev pub spent : Ran Ring
-spent = plays_ten 2 (Completed 0 0x8000 ∷ [])
+spent = plays_ten 2 (completion 0 0x8000 ∷ [])
 
 pub none-failed : ((says_said wrong_token.said).number ≡ 6) × (spoken wrong_token ≡ 1) × (failed wrong_token ≡ 0) × (wrong_token.at.track.inflight ≡ 2)
     × (owes wrong_token 0 ≡ 14 ∷ 15 ∷ 16 ∷ 17 ∷ []) × (owes wrong_token 1 ≡ 18 ∷ 19 ∷ [])

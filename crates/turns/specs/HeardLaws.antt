@@ -1,6 +1,6 @@
 -- How many completions of a run were good: the ring's count is the number of accepted ones. Draining and what is refused leave the count.
 -- Assumes nothing.
-use Rattle.std.specs.Prelude.{ℕ, zero, suc, ◌+◌, ◌%◌, ◌≤◌, ◌<◌, ◌≡◌, refl, ◌⊎◌, List, [], ◌∷◌, map, eqb, length, get_or, take}
+use Rattle.std.specs.Prelude.{ℕ, zero, suc, ◌+◌, ◌%◌, ◌≤◌, ◌<◌, ◌≡◌, refl, ◌⊎◌, List, [], ◌∷◌, map, eqb, length, get_or, take, Some, None}
 use Rattle.std.proofs.Common.{arith, zero-add, ap, sym, ◌∙◌, subst, inl, inr, length-take, get_or-take, take-take, eq-eqb, ne_eqb}
 use Rattle.std.proofs.lemmas.List.{length-map}
 use Rattle.std.proofs.Math.ListN.{get_or-map}
@@ -17,7 +17,7 @@ use Rattle.turns.specs.Log.{Line, Ran, onward, first_of, rest_of, loop_of, playe
 use Rattle.turns.specs.Asked.{starts, Ending, Accepted, Accounted}
 use Rattle.turns.specs.RunLaws.{map-take}
 use Rattle.turns.specs.DemandLaws.{as-run}
-use Rattle.turns.specs.Types.{Track, Ring, Sent, Nothing, Heard, Silent, Freed, Said, Going, Step, Reading, Quiet, Completed, Choice, Submit, Finish, Wait, Verdict, WrongSlot, Good, Bad}
+use Rattle.turns.specs.Types.{Track, Ring, Sent, Heard, Said, Going, Step, Reading, Choice, Submit, Finish, Wait, Verdict, WrongSlot, Good, Bad, freed_slot}
 
 -- ---- good completions, counted
 
@@ -25,16 +25,16 @@ abbrev is_good : ℕ → ℕ
 is_good status = pick (eqb status 0x8000) 1 0
 
 abbrev good_one : Heard → ℕ
-good_one Silent = 0
-good_one (Freed slot status) = is_good status
+good_one None = 0
+good_one (Some f) = is_good f.status
 
 abbrev pub goods : List Heard → ℕ
 goods [] = 0
 goods (x ∷ xs) = good_one x + goods xs
 
 goods-more : (x : Heard) (xs : List Heard) → goods (frees_more x xs) ≡ good_one x + goods xs
-goods-more Silent xs = omega arith
-goods-more (Freed slot status) xs = refl
+goods-more None xs = omega arith
+goods-more (Some f) xs = refl
 
 -- ---- A TURN counts its completion, if it is good
 
@@ -53,13 +53,13 @@ settle-counts sent t slot status Good j = omega (arith, is-good status (played-f
 settle-counts sent t slot status (Bad r) j = omega (arith, is-bad status (played-fails status r j.2).0)
 
 hear-counts : (sent : Sent) (t : Track) (reading : Reading) → Counts t (hear (comes_to played_of reading) sent t reading)
-hear-counts sent t Quiet = omega arith
-hear-counts sent t (Completed slot status) = settle-counts sent t slot status (judge_of t slot (played_of status)) (judged t slot (played_of status))
+hear-counts sent t None = omega arith
+hear-counts sent t (Some c) = settle-counts sent t c.slot c.status (judge_of t c.slot (played_of c.status)) (judged t c.slot (played_of c.status))
 
 act-counts : (c : Choice) (t : Track) (reading : Reading) → Counts t (act c t (comes_to played_of reading) reading)
 act-counts Submit t reading = hear-counts (sent_of t) (submit t) reading
 act-counts Finish t reading = omega arith
-act-counts Wait t reading = hear-counts Nothing t reading
+act-counts Wait t reading = hear-counts None t reading
 
 turn-counts : (least : ℕ) (t : Track) (reading : Reading) → Counts t (counted_of (turn_of least t (comes_to played_of reading) reading))
 unfolding turn_of
@@ -86,8 +86,8 @@ run-counts least (suc fuel) t script =
 -- ---- the accepted ones are the good ones
 
 -- k good completions, and then none, or one that is not good
-goods-are : (back : List Heard) (k : ℕ) (at : ℕ → ℕ) → ((i : ℕ) → i < k → get_or back i Silent ≡ Freed (at i) 0x8000)
-    → (length back ≡ k) ⊎ ((length back ≡ suc k) × ((slot : ℕ) × (status : ℕ) × (get_or back k Silent ≡ Freed slot status) × (status ≡ 0x8000 → ⊥)))
+goods-are : (back : List Heard) (k : ℕ) (at : ℕ → ℕ) → ((i : ℕ) → i < k → get_or back i None ≡ freed_slot (at i) 0x8000)
+    → (length back ≡ k) ⊎ ((length back ≡ suc k) × ((slot : ℕ) × (status : ℕ) × (get_or back k None ≡ freed_slot slot status) × (status ≡ 0x8000 → ⊥)))
     → goods back ≡ k
 goods-are [] zero at good e = refl
 goods-are [] (suc k) at good (inl e) = absurd (omega arith)
@@ -101,7 +101,7 @@ goods-are (x ∷ back) (suc k) at good (inr e) =
     omega (arith, ap good_one (good 0 (omega arith)), goods-are back k (λ i. at (suc i)) (λ i b. good (suc i) (omega arith)) (inr (omega (arith, e.0), e.1)))
 
 ending-by : (answer : ℕ) (back : List Heard) (k : ℕ) → Ending answer 0 back k
-    → (length back ≡ k) ⊎ ((length back ≡ suc k) × ((slot : ℕ) × (status : ℕ) × (get_or back k Silent ≡ Freed slot status) × (status ≡ 0x8000 → ⊥)))
+    → (length back ≡ k) ⊎ ((length back ≡ suc k) × ((slot : ℕ) × (status : ℕ) × (get_or back k None ≡ freed_slot slot status) × (status ≡ 0x8000 → ⊥)))
 ending-by answer back k (inl e) = inl e.1
 ending-by answer back k (inr e) = inr (e.1, (_, e.2.0, e.2.1, e.2.2))
 
@@ -122,20 +122,20 @@ module _ (period : ℕ) (frames : List ℕ) (h : Ran Ring) (a : Accounted period
   pub heard_all : (f : ℕ) → ((says_said h.said).number ≡ 2 → f ≡ 1) → (((says_said h.said).number ≡ 2 → ⊥) → f ≡ 0) → length (frees h.log) ≡ h.at.track.good + f
   heard_all f two other = heard-by f a.back.accepted two other a.back.end ∙ ap (λ (k : ℕ). k + f) same
 
-  pub accepted-good : (i : ℕ) → i < h.at.track.good → get_or (frees h.log) i Silent ≡ Freed (i % 32) 0x8000
+  pub accepted-good : (i : ℕ) → i < h.at.track.good → get_or (frees h.log) i None ≡ freed_slot (i % 32) 0x8000
   accepted-good i b = simp zero-add at (a.back.good i (omega (arith, same)))
 
-  fails_by : (k : ℕ) → (says_said h.said).number ≡ 2 → Ending (says_said h.said).number 0 (frees h.log) k → (status : ℕ) × (get_or (frees h.log) k Silent ≡ Freed (k % 32) status) × (status ≡ 0x8000 → ⊥)
+  fails_by : (k : ℕ) → (says_said h.said).number ≡ 2 → Ending (says_said h.said).number 0 (frees h.log) k → (status : ℕ) × (get_or (frees h.log) k None ≡ freed_slot (k % 32) status) × (status ≡ 0x8000 → ⊥)
   fails_by k two (inl e) = absurd (e.0 two)
   fails_by k two (inr e) = simp zero-add at e.2
 
-  pub failing-next : (says_said h.said).number ≡ 2 → (status : ℕ) × (get_or (frees h.log) h.at.track.good Silent ≡ Freed (h.at.track.good % 32) status) × (status ≡ 0x8000 → ⊥)
-  failing-next two = subst (λ (k : ℕ). (status : ℕ) × (get_or (frees h.log) k Silent ≡ Freed (k % 32) status) × (status ≡ 0x8000 → ⊥)) same (fails_by a.back.accepted two a.back.end)
+  pub failing-next : (says_said h.said).number ≡ 2 → (status : ℕ) × (get_or (frees h.log) h.at.track.good None ≡ freed_slot (h.at.track.good % 32) status) × (status ≡ 0x8000 → ⊥)
+  failing-next two = subst (λ (k : ℕ). (status : ℕ) × (get_or (frees h.log) k None ≡ freed_slot (k % 32) status) × (status ≡ 0x8000 → ⊥)) same (fails_by a.back.accepted two a.back.end)
 
   -- the payload of each submission is its period
-  pub payload-at : (i : ℕ) → i < length (sends h.log) → payload frames (get_or (sends h.log) i Nothing) ≡ get_or (cut period frames) i []
+  pub payload-at : (i : ℕ) → i < length (sends h.log) → payload frames (get_or (sends h.log) i None) ≡ get_or (cut period frames) i []
   payload-at i b =
-      sym (get_or-map (payload frames) (sends h.log) i Nothing)
+      sym (get_or-map (payload frames) (sends h.log) i None)
       ∙ ap (λ (l : List (List ℕ)). get_or l i []) a.payloads
       ∙ get_or-take (length (sends h.log)) (cut period frames) i [] b
 
@@ -158,7 +158,7 @@ module _ (r : Ring) (stream period budget : ℕ) (frames : List ℕ) (script : L
 
 pub drain-keeps-count : (t : Track) (reading : Reading) → (drain_call t reading).track.good ≡ t.good
 unfolding drain_call
-drain-keeps-count t Quiet = guarded-by (λ (s : Step). s.track.good ≡ t.good) _ _ _ (λ _. guarded-by (λ (s : Step). s.track.good ≡ t.good) _ _ _ (λ _. refl) (λ _. refl)) (λ _. refl)
-drain-keeps-count t (Completed slot status) =
+drain-keeps-count t None = guarded-by (λ (s : Step). s.track.good ≡ t.good) _ _ _ (λ _. guarded-by (λ (s : Step). s.track.good ≡ t.good) _ _ _ (λ _. refl) (λ _. refl)) (λ _. refl)
+drain-keeps-count t (Some c) =
     let P : Step → Type 0 = λ s. s.track.good ≡ t.good in
     guarded-by P _ _ _ (λ _. guarded-by P _ _ _ (λ _. refl) (λ _. guarded-by P _ _ _ (λ _. refl) (λ _. refl))) (λ _. refl)

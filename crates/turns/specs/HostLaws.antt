@@ -1,6 +1,6 @@
 -- One log: the host's loop over the call of a turn and the run of the rules say the same, and both come to an answer within the budget.
 -- Assumes nothing.
-use Rattle.std.specs.Prelude.{ℕ, zero, suc, ◌+◌, ◌*◌, ◌≤◌, ◌<◌, ◌≡◌, refl, Bool, true, false, not, ◌||◌, ◌&&◌, List, eqb, length}
+use Rattle.std.specs.Prelude.{ℕ, zero, suc, ◌+◌, ◌*◌, ◌≤◌, ◌<◌, ◌≡◌, refl, Bool, true, false, not, ◌||◌, ◌&&◌, List, eqb, length, None}
 use Rattle.std.proofs.Common.{arith, sym, ap, ◌∙◌, subst, eq-eqb, eqb-true, lt-ltb, ltb-true, leb-true}
 use Rattle.std.proofs.lemmas.Bool.{false≢true, not-true}
 use Rattle.codes.specs.SaysLaws.{passes, guarded-by}
@@ -13,7 +13,7 @@ use Rattle.turns.specs.CaseLaws.{onward-cases, stays}
 use Rattle.turns.specs.KeepLaws.{After, turn-after, turn-keeps, turn-runs}
 use Rattle.turns.specs.StaysConsistentLaws.{begun-keeps}
 use Rattle.turns.specs.Log.{Line, Ran, onward, Told, next_of, rest_of, loop_of, Judge, played, judged_of, ruled, run, called, turn_by_turn}
-use Rattle.turns.specs.Types.{Track, Ring, Nothing, Said, Going, Done, Ended, Refused, Step, Reading, Quiet, Outcome}
+use Rattle.turns.specs.Types.{Track, Ring, Said, Going, Done, Ended, Refused, Step, Reading, Outcome}
 
 -- ---- two loops that say the same: one seen through a view of its state
 
@@ -138,7 +138,7 @@ same_turn len a x h =
 -- THE HOST'S LOOP and THE RUN of the rules say the same, line for line, and leave the same track
 pub link : (least len fuel : ℕ) (r : Ring) (script : List Reading) → r.track.descriptors ≡ least → Runs len r.track → seen (λ (x : Ring). x.track) (turn_by_turn len fuel r script) ≡ run played least fuel r.track script
 link least len fuel r script p i =
-    loops-alike Quiet (called len) (ruled played least) (λ (x : Ring). x.track) (λ x. (x.track.descriptors ≡ least) × Runs len x.track)
+    loops-alike None (called len) (ruled played least) (λ (x : Ring). x.track) (λ x. (x.track.descriptors ≡ least) × Runs len x.track)
     (λ a x h. subst (λ (k : ℕ). Alike k len a x) h.0 (same_turn len a x h.1)) fuel r script (p, i)
 
 -- ---- how a run ends
@@ -180,7 +180,7 @@ run_ends j least len (suc fuel) t script le r =
 -- a start that goes on has begun a transfer
 pub record Begins (t : Track) (stream total period budget : ℕ) (s : Step) : Type 0 where
   pub track : s.track ≡ begun t stream total period budget
-  pub sent : s.sent ≡ Nothing
+  pub sent : s.sent ≡ None
   pub runs : Runs total (begun t stream total period budget)
 
 pub never : (x : Refusal) → Refused x ≡ Going → ⊥
@@ -203,7 +203,7 @@ begins t stream total period budget =
 -- the same of one that writes a trace: its room is enough
 pub record BeginsTraced (t : Track) (stream total period budget room : ℕ) (s : Step) : Type 0 where
   pub track : s.track ≡ begun_in room false total t stream total period budget
-  pub sent : s.sent ≡ Nothing
+  pub sent : s.sent ≡ None
   pub runs : RunsIn false total room (begun_in room false total t stream total period budget)
   pub short : total < 4294967296
   pub enough : 19 + 20 * periods_of total period ≤ room

@@ -1,7 +1,7 @@
 -- INSTANCES, computed: demand 3's premises met with indirect descriptors through a full ring; a capture with indirect descriptors; a host that drains,
 -- starts again and lends other frames in between; one that goes on after a capture's turn was refused; what a turn freed.
 -- Assumes nothing.
-use Rattle.std.specs.Prelude.{ℕ, zero, suc, ◌+◌, ◌%◌, ◌≡◌, refl, List, [], ◌∷◌, ◌++◌, length, replicate}
+use Rattle.std.specs.Prelude.{ℕ, zero, suc, ◌+◌, ◌%◌, ◌≡◌, refl, List, [], ◌∷◌, ◌++◌, length, replicate, Ok, None}
 use Rattle.codes.specs.Says.{guard}
 use Rattle.layout.specs.All.{All}
 use Rattle.layout.specs.Bytes.{un, bytes_at, num_at}
@@ -18,20 +18,19 @@ use Rattle.turns.specs.PremiseLaws.{by-faultless, by-within}
 use Rattle.turns.specs.RefusedTurns.{goes_over, admitted_by}
 use Rattle.turns.specs.AnyHost.{turning, draining, starting, acts}
 use Rattle.turns.specs.Heard.{spoken}
-use Rattle.turns.specs.declared.calls.Offer.TheVariants as offer
-use Rattle.turns.specs.Types.{Ring, Period, Freed, Done, Reading, Quiet, Completed}
+use Rattle.turns.specs.Types.{Ring, Done, Reading, completion, freed_slot, sent_period}
 
 -- a completion every turn, from a slot on
 abbrev each : ℕ → ℕ → List Reading
 each zero slot = []
-each (suc n) slot = Completed slot 0x8000 ∷ each n ((slot + 1) % 32)
+each (suc n) slot = completion slot 0x8000 ∷ each n ((slot + 1) % 32)
 
 -- 40 periods, 33 quiet turns (after 32 of them the ring is full), then a completion every turn
 abbrev pub through_full : Ran Ring
-through_full = plays (new_ring indirect) 0 3 1361 (replicate 119 7) (replicate 33 Quiet ++ each 40 0)
+through_full = plays (new_ring indirect) 0 3 1361 (replicate 119 7) (replicate 33 None ++ each 40 0)
 
 pub through-full : (through_full.said ≡ Done) × (length through_full.log ≡ 74) × (length (cut {A = ℕ} 3 (replicate 119 7)) ≡ 40) × (spoken through_full ≡ 40)
-    × ((turn_by_turn 119 33 (starts (new_ring indirect) 0 3 1361 (replicate 119 7)).ring (replicate 33 Quiet)).at.track.inflight ≡ 32)
+    × ((turn_by_turn 119 33 (starts (new_ring indirect) 0 3 1361 (replicate 119 7)).ring (replicate 33 None)).at.track.inflight ≡ 32)
 unfolding loop_of start_call traced_call guard placed_of paced_of turn_of choose_of played_of is_oldest judge_of counted_of cut_by
 through-full = (refl, refl, refl, refl, refl)
 
@@ -41,7 +40,7 @@ premises-indirect = (record { consistent = refl; stopped = refl; empty = refl },
 
 -- any host: drains, starts again and lends other frames in between
 pub clumsy-host : (acts (starts (new_ring direct) 0 4 9 (replicate 8 0)).ring
-    (draining Quiet ∷ turning 8 (Completed 0 0x8000) ∷ turning 7 Quiet ∷ starting 1 4 4 4 ∷ turning 8 (Completed 1 0x8000) ∷ turning 8 Quiet ∷ [])).said ≡ Done
+    (draining None ∷ turning 8 (completion 0 0x8000) ∷ turning 7 None ∷ starting 1 4 4 4 ∷ turning 8 (completion 1 0x8000) ∷ turning 8 None ∷ [])).said ≡ Done
 unfolding acts loop_of start_call traced_call drain_call guard placed_of paced_of turn_of choose_of played_of is_oldest judge_of counted_of
 clumsy-host = refl
 
@@ -63,8 +62,8 @@ abbrev pub captured_two : Ran Taken
 captured_two = captures (new_ring indirect) 1 2 4 5 (replicate 9 99) two_came
 
 pub capture-indirect : (captured_two.said ≡ Done) × (length captured_two.log ≡ 3) × (captured_two.at.ring.track.turns ≡ 3) × (captured_two.at.ring.track.stream ≡ 1)
-    × (captured_two.at.recording ≡ 1 ∷ 2 ∷ 3 ∷ 4 ∷ 5 ∷ 6 ∷ 99 ∷ 99 ∷ 99 ∷ []) × (frees captured_two.log ≡ Freed 0 0x8000 ∷ Freed 1 0x8000 ∷ [])
-    × (capture_offer begun.ring.track 9 ≡ offer.Is (Period 0 0 4)) × ((capture_call begun.ring.track 9 (catch_of 0 0 0 [])).sent ≡ Period 0 0 4)
+    × (captured_two.at.recording ≡ 1 ∷ 2 ∷ 3 ∷ 4 ∷ 5 ∷ 6 ∷ 99 ∷ 99 ∷ 99 ∷ []) × (frees captured_two.log ≡ freed_slot 0 0x8000 ∷ freed_slot 1 0x8000 ∷ [])
+    × (capture_offer begun.ring.track 9 ≡ Ok (sent_period 0 0 4)) × ((capture_call begun.ring.track 9 (catch_of 0 0 0 [])).sent ≡ sent_period 0 0 4)
 unfolding loop_of capture_start capture_call offer_as catch_of captured_of guard placed_of paced_of turn_of choose_of played_of is_oldest judge_of counted_of bytes_at num_at un
 capture-indirect = (refl, refl, refl, refl, refl, refl, refl, refl)
 

@@ -1,6 +1,6 @@
 -- What a counted turn keeps: the transfer is the same, the count grows by one, and a consistent track stays consistent.
 -- Assumes nothing.
-use Rattle.std.specs.Prelude.{ℕ, zero, suc, ◌+◌, ◌-◌, ◌*◌, ◌≤◌, ◌<◌, ◌≡◌, refl, Bool, true, false}
+use Rattle.std.specs.Prelude.{ℕ, zero, suc, ◌+◌, ◌-◌, ◌*◌, ◌≤◌, ◌<◌, ◌≡◌, refl, Bool, true, false, None}
 use Rattle.std.proofs.Common.{arith, ap, subst}
 use Rattle.std.proofs.lemmas.Bool.{false≢true}
 use Rattle.turns.specs.Ring.{free}
@@ -9,7 +9,7 @@ use Rattle.turns.specs.RuleLaws.{Chosen, chosen}
 use Rattle.turns.specs.ConsistentLaws.{Consistent}
 use Rattle.turns.specs.Private.{Placed}
 use Rattle.turns.specs.CaseLaws.{Plain, Over, hear-cases, counted-cases}
-use Rattle.turns.specs.Types.{Track, Sent, Nothing, Going, Step, Reading, Choice, Submit, Finish, Wait, Outcome}
+use Rattle.turns.specs.Types.{Track, Sent, Going, Step, Reading, Choice, Submit, Finish, Wait, Outcome}
 
 -- ---- what stays: descriptors to a submission, stream, frame length, period, budget; the count is apart
 
@@ -33,7 +33,7 @@ after-hear sent t o reading = hear-cases (λ s. After 0 t s.track) sent t o read
 pub after-act : (c : Choice) (t : Track) (o : Outcome) (reading : Reading) → After 0 t (act c t o reading).track
 after-act Submit t o reading = after-hear (sent_of t) (submit t) o reading
 after-act Finish t o reading = none t
-after-act Wait t o reading = after-hear Nothing t o reading
+after-act Wait t o reading = after-hear None t o reading
 
 hear-plain : (sent : Sent) (t : Track) (o : Outcome) (reading : Reading) → Plain (hear o sent t reading).said
 hear-plain sent t o reading = hear-cases (λ s. Plain s.said) sent t o reading (λ _ p. p) (λ _ _ _ p _ _ _. p)
@@ -41,7 +41,7 @@ hear-plain sent t o reading = hear-cases (λ s. Plain s.said) sent t o reading (
 act-plain : (c : Choice) (t : Track) (o : Outcome) (reading : Reading) → Plain (act c t o reading).said
 act-plain Submit t o reading = hear-plain (sent_of t) (submit t) o reading
 act-plain Finish t o reading = tt
-act-plain Wait t o reading = hear-plain Nothing t o reading
+act-plain Wait t o reading = hear-plain None t o reading
 
 -- one completion more is good at most
 hear-good : (sent : Sent) (t : Track) (o : Outcome) (reading : Reading) → (hear o sent t reading).track.good ≤ t.good + 1
@@ -50,7 +50,7 @@ hear-good sent t o reading = hear-cases (λ s. s.track.good ≤ t.good + 1) sent
 act-good : (c : Choice) (t : Track) (o : Outcome) (reading : Reading) → (act c t o reading).track.good ≤ t.good + 1
 act-good Submit t o reading = hear-good (sent_of t) (submit t) o reading
 act-good Finish t o reading = omega arith
-act-good Wait t o reading = hear-good Nothing t o reading
+act-good Wait t o reading = hear-good None t o reading
 
 -- a turn refuses nothing
 pub turn-plain : (least : ℕ) (t : Track) (o : Outcome) (reading : Reading) → Plain (turn_of least t o reading).said
@@ -108,7 +108,7 @@ fit-hear sent t o reading f = hear-cases (λ s. Fit s.track) sent t o reading (�
 fit-act : (least : ℕ) (t : Track) (o : Outcome) (reading : Reading) (c : Choice) → Chosen least t c → t.descriptors ≤ least → Fit t → Fit (act c t o reading).track
 fit-act least t o reading Submit ch le f = fit-hear (sent_of t) (submit t) o reading (fit-submit least t le ch.0 ch.1 f)
 fit-act least t o reading Finish ch le f = f
-fit-act least t o reading Wait ch le f = fit-hear Nothing t o reading f
+fit-act least t o reading Wait ch le f = fit-hear None t o reading f
 
 -- ---- what calls leave is consistent
 

@@ -1,12 +1,12 @@
 -- Turn after turn: a loop over a script of readings, with a log of what each turn sent, heard and said. One definition serves the rules' run and the host's loop,
 -- of a playback and of a capture.
 -- Assumes nothing.
-use Rattle.std.specs.Prelude.{List, [], ◌∷◌, ℕ, zero, suc, ◌+◌}
+use Rattle.std.specs.Prelude.{List, [], ◌∷◌, ℕ, zero, suc, ◌+◌, None, Some}
 use Rattle.codes.specs.Says.{pick}
 use Rattle.turns.specs.Ring.{goes_on}
 use Rattle.turns.specs.Rules.{choose_of, comes_to, played_of, turn_of, counted_of}
 use Rattle.turns.specs.Calls.{turn_call, turned_of}
-use Rattle.turns.specs.Types.{Track, Ring, Sent, Nothing, Period, Heard, Silent, Freed, Said, Going, Step, Reading, Quiet, Choice, Submit, Finish, Wait, Outcome}
+use Rattle.turns.specs.Types.{Track, Ring, Sent, Heard, Said, Going, Step, Reading, Choice, Submit, Finish, Wait, Outcome}
 
 -- one line of a log: what the turn submitted, how many were in flight at its reading, the reading, what it freed, what it said
 pub record Line : Type 0 where
@@ -28,7 +28,7 @@ next_of quiet [] = quiet
 next_of quiet (x ∷ xs) = x
 
 abbrev pub first_of : List Reading → Reading
-first_of = next_of Quiet
+first_of = next_of None
 
 abbrev pub rest_of : {R : Type 0} → List R → List R
 rest_of [] = []
@@ -56,7 +56,7 @@ loop_of quiet turn (suc fuel) a script =
     onward t.line.said t.line t.left (loop_of quiet turn fuel t.left (rest_of script))
 
 abbrev pub loop : {A : Type 0} → (A → Reading → Told A) → ℕ → A → List Reading → Ran A
-loop = loop_of Quiet
+loop = loop_of None
 
 abbrev pub line_of : ℕ → Reading → Step → Line
 line_of waiting reading s = record { sent = s.sent; waiting = waiting; reading = reading; heard = s.heard; said = s.said }
@@ -71,7 +71,7 @@ pub record Judge (R : Type 0) : Type 0 where
 
 -- a playback judges the status
 abbrev pub played : Judge Reading
-played = record { quiet = Quiet; reading = λ x. x; judge = λ t x. played_of }
+played = record { quiet = None; reading = λ x. x; judge = λ t x. played_of }
 
 abbrev pub judged_of : {R : Type 0} → Judge R → Track → R → Outcome
 judged_of j t x = comes_to (j.judge t x) (j.reading x)
@@ -101,8 +101,8 @@ turn_by_turn len = loop (called len)
 
 -- what went out, in order
 abbrev pub sends_more : Sent → List Sent → List Sent
-sends_more Nothing rest = rest
-sends_more (Period slot offset len) rest = Period slot offset len ∷ rest
+sends_more None rest = rest
+sends_more (Some p) rest = Some p ∷ rest
 
 abbrev pub sends : List Line → List Sent
 sends [] = []
@@ -110,8 +110,8 @@ sends (l ∷ ls) = sends_more l.sent (sends ls)
 
 -- what was completed, in order
 abbrev pub frees_more : Heard → List Heard → List Heard
-frees_more Silent rest = rest
-frees_more (Freed slot status) rest = Freed slot status ∷ rest
+frees_more None rest = rest
+frees_more (Some f) rest = Some f ∷ rest
 
 abbrev pub frees : List Line → List Heard
 frees [] = []

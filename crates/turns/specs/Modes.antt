@@ -1,13 +1,13 @@
 -- THE MODE OF A RING (2026-14), "descriptors per submission": it is set where the ring is made, and every call keeps it, refused or not.
 -- Assumes nothing.
-use Rattle.std.specs.Prelude.{ℕ, ◌≡◌, refl}
+use Rattle.std.specs.Prelude.{ℕ, ◌≡◌, refl, Some, None}
 use Rattle.std.proofs.Common.{ap}
 use Rattle.codes.specs.SaysLaws.{guarded-by}
 use Rattle.turns.specs.Rules.{comes_to, played_of, turn_of, counted_of}
 use Rattle.turns.specs.Calls.{traced_call, drained, drain_call, start_call, start_traced}
 use Rattle.turns.specs.Capture.{caught_of, capture_call, capture_start}
 use Rattle.turns.specs.KeepLaws.{turn-after}
-use Rattle.turns.specs.Types.{Track, Step, Reading, Quiet, Completed, Outcome, Catch}
+use Rattle.turns.specs.Types.{Track, Step, Reading, Outcome, Catch}
 
 module _ (t : Track) where
   abbrev Keeps : Step → Type 0
@@ -31,8 +31,8 @@ module _ (t : Track) where
       (λ _. refl)
 
   drained-mode : (reading : Reading) → Keeps (drained t reading)
-  drained-mode Quiet = refl
-  drained-mode (Completed slot status) = guarded-by Keeps _ _ _ (λ _. refl) (λ _. refl)
+  drained-mode None = refl
+  drained-mode (Some c) = guarded-by Keeps _ _ _ (λ _. refl) (λ _. refl)
 
   drain-mode : (reading : Reading) → Keeps (drain_call t reading)
   unfolding drain_call

@@ -1,12 +1,12 @@
 -- What the slots of a ring carry after a loop of turns: what went out last at each of them.
 -- Assumes nothing.
-use Rattle.std.specs.Prelude.{ℕ, zero, suc, ◌+◌, ◌%◌, ◌≤◌, ◌<◌, ◌≡◌, refl, ◌≢◌, List, [], ◌∷◌, length, get_or}
+use Rattle.std.specs.Prelude.{ℕ, zero, suc, ◌+◌, ◌%◌, ◌≤◌, ◌<◌, ◌≡◌, refl, ◌≢◌, List, [], ◌∷◌, length, get_or, Some, None}
 use Rattle.std.proofs.Common.{arith, ap, sym, ◌∙◌, length-set, get_or-set_same, get_or-set_other}
 use Rattle.turns.specs.Ring.{blank_slot}
 use Rattle.turns.specs.Calls.{carry}
 use Rattle.turns.specs.CaseLaws.{onward-cases}
 use Rattle.turns.specs.Log.{Line, Ran, onward, first_of, rest_of, loop_of, called, turn_by_turn, sends_more, sends}
-use Rattle.turns.specs.Types.{Slot, Ring, Sent, Nothing, Period, Said, Reading}
+use Rattle.turns.specs.Types.{Slot, Ring, Sent, Said, Reading, sent_period}
 
 -- submissions one after the other
 abbrev pub carries : List Slot → List Sent → List Slot
@@ -14,8 +14,8 @@ carries slots [] = slots
 carries slots (x ∷ xs) = carries (carry slots x) xs
 
 carries-more : (slots : List Slot) (x : Sent) (xs : List Sent) → carries slots (sends_more x xs) ≡ carries (carry slots x) xs
-carries-more slots Nothing xs = refl
-carries-more slots (Period s o l) xs = refl
+carries-more slots None xs = refl
+carries-more slots (Some p) xs = refl
 
 onward-carries : (slots : List Slot) (said : Said) (line : Line) (r : Ring) (rest : Ran Ring) → r.slots ≡ carry slots line.sent → rest.at.slots ≡ carries r.slots (sends rest.log)
     → (onward said line r rest).at.slots ≡ carries slots (sends (onward said line r rest).log)
@@ -34,7 +34,7 @@ host-carries len (suc fuel) r script =
 
 -- submissions at slots in turn, from slot s on, the j-th of some offset and length
 abbrev pub Lies : ℕ → (ℕ → ℕ) → (ℕ → ℕ) → List Sent → Type 0
-Lies s o l xs = (j : ℕ) → j < length xs → get_or xs j Nothing ≡ Period ((s + j) % 32) (o j) (l j)
+Lies s o l xs = (j : ℕ) → j < length xs → get_or xs j None ≡ sent_period ((s + j) % 32) (o j) (l j)
 
 lies-rest : (s : ℕ) (o l : ℕ → ℕ) (x : Sent) (xs : List Sent) → Lies s o l (x ∷ xs) → Lies (suc s) (λ j. o (suc j)) (λ j. l (suc j)) xs
 lies-rest s o l x xs h j b = let e : (s + suc j) % 32 ≡ (suc s + j) % 32 = omega arith in h (suc j) (omega arith) ∙ rw e

@@ -1,12 +1,12 @@
 -- DOCUMENT 01'S TURN FROM ITS OWN WORDS, over two numbers: the periods that went out, and those that came back. Start here: that the rules of the code are
 -- this turn is `turn-is-paper`, that a transfer turn by turn is `paper_run` is `transfer-is-paper` (PaperTransfer).
 -- Assumes nothing.
-use Rattle.std.specs.Prelude.{ℕ, zero, suc, ◌+◌, ◌-◌, ◌*◌, ◌%◌, min, ◌≡◌, Bool, true, false, ◌&&◌, List, [], ◌∷◌, ltb, leb, eqb}
+use Rattle.std.specs.Prelude.{ℕ, zero, suc, ◌+◌, ◌-◌, ◌*◌, ◌%◌, min, ◌≡◌, Bool, true, false, ◌&&◌, List, [], ◌∷◌, ltb, leb, eqb, Some, None}
 use Rattle.codes.specs.Says.{pick}
 use Rattle.turns.specs.Cut.{span_of}
 use Rattle.turns.specs.Ring.{going, says_said}
 use Rattle.turns.specs.Log.{Line, first_of, rest_of}
-use Rattle.turns.specs.Types.{Track, Sent, Nothing, Period, Heard, Silent, Freed, Step, Reading, Quiet, Completed}
+use Rattle.turns.specs.Types.{Track, Sent, Heard, Step, Reading, freed_slot, sent_period}
 
 -- how many periods went out, and how many of them came back
 pub record Window : Type 0 where
@@ -31,10 +31,10 @@ pub record PaperTurn : Type 0 where
 -- a status other than 0x8000 ends with 2." Periods go out at slots 0, 1, .. ("Head and tail return to 0 after 31"), so the oldest in flight is at `back %
 -- 32`
 abbrev pub rule_two : Bool → Window → Reading → PaperTurn
-rule_two submits w Quiet = record { window = w; submits = submits; frees = false; answer = going }
-rule_two submits w (Completed slot status) =
-    pick (ltb w.back w.out && eqb slot (w.back % 32))
-    (record { window = record { out = w.out; back = suc w.back }; submits = submits; frees = true; answer = pick (eqb status 0x8000) going 2 })
+rule_two submits w None = record { window = w; submits = submits; frees = false; answer = going }
+rule_two submits w (Some c) =
+    pick (ltb w.back w.out && eqb c.slot (w.back % 32))
+    (record { window = record { out = w.out; back = suc w.back }; submits = submits; frees = true; answer = pick (eqb c.status 0x8000) going 2 })
     (record { window = w; submits = submits; frees = false; answer = 6 })
 
 -- of a transfer of so many bytes in periods of so many, with so many descriptors to a submission and so many that must be free for one (3 and 3, or 1 and 1)
@@ -51,14 +51,14 @@ module _ (descriptors least period total : ℕ) where
 
 -- "showing that part of the caller's frames itself": what goes out is the next period
 abbrev pub goes_out : ℕ → ℕ → Bool → Window → Sent
-goes_out period total true w = Period (w.out % 32) (w.out * period) (span_of period total (w.out * period))
-goes_out period total false w = Nothing
+goes_out period total true w = sent_period (w.out % 32) (w.out * period) (span_of period total (w.out * period))
+goes_out period total false w = None
 
 -- what comes back is what the reading names
 abbrev pub comes_back : Bool → Reading → Heard
-comes_back true (Completed slot status) = Freed slot status
-comes_back true Quiet = Silent
-comes_back false reading = Silent
+comes_back true (Some c) = freed_slot c.slot c.status
+comes_back true None = None
+comes_back false reading = None
 
 -- "Each turn, the last included, counts one against the budget. .. The turn that spends the last one without another answer gives 9", with so many left after
 -- it

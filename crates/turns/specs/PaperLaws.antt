@@ -2,7 +2,7 @@
 -- Assumes nothing.
 use Prim.Native.Nat.{ℕ, zero, suc, ◌+◌, ◌-◌, ◌*◌, ◌%◌, ◌<◌}
 use Rattle.std.proofs.Common.{arith, zero-add, sym, ◌∙◌}
-use Rattle.std.specs.Prelude.{◌≡◌, Bool, true, false, ◌&&◌, List, [], ◌∷◌, map, length}
+use Rattle.std.specs.Prelude.{◌≡◌, Bool, true, false, ◌&&◌, List, [], ◌∷◌, map, length, Ok, Err, Some, None}
 use Rattle.std.proofs.Math.Path.{refl, ap, subst}
 use Rattle.std.proofs.Math.Dec.{leb, ltb, eqb}
 use borrow.Author.Tests.{lt-ltb, ltb-true, ltb-false, eq-eqb, ne_eqb, eqb-true, eqb-false}
@@ -23,8 +23,8 @@ use Rattle.turns.specs.Asked.{starts, plays}
 use Rattle.turns.specs.DemandLaws.{as-run}
 use Rattle.turns.specs.Paper.{Window, at_first, in_flight, PaperTurn, rule_two, paper_turn, goes_out, comes_back, paper_answer, PaperLine, paper_run, StandsAt}
 use Rattle.turns.specs.Paper.{IsTurn, paper_line}
-use Rattle.turns.specs.Types.{Track, Ring, Sent, Nothing, Period, Said, Going, Done, Ended, Refused, Step, Reading, Quiet}
-use Rattle.turns.specs.Types.{Completed, Choice, Fine, Fails, WrongSlot}
+use Rattle.turns.specs.Types.{Track, Ring, Sent, Said, Going, Done, Ended, Refused, Step, Reading, sent_period}
+use Rattle.turns.specs.Types.{Choice, WrongSlot, completion}
 
 -- ---- tests over the track's numbers are tests over the window's
 
@@ -77,7 +77,7 @@ module _ (descriptors least period total : ℕ) where
 
   settled : (oldest ok submits : Bool) (sent : Sent) (t : Track) (w : Window) (slot status : ℕ) → StandsAt descriptors period total t w
       → (oldest ≡ true → w.back < w.out)
-      → Hears sent submits (Completed slot status) (settle (pick oldest (verdict_of (pick ok Fine (Fails (IoError (Status status))))) WrongSlot) sent t slot status)
+      → Hears sent submits (completion slot status) (settle (pick oldest (verdict_of (pick ok (Ok tt) (Err (IoError (Status status))))) WrongSlot) sent t slot status)
       (pick oldest (record { window = record { out = w.out; back = suc w.back }; submits = submits; frees = true; answer = pick ok going 2 })
       (record { window = w; submits = submits; frees = false; answer = 6 }))
   settled false ok submits sent t w slot status a l = record { stands = a; sends = refl; heard = refl; said = refl; same = refl }
@@ -87,17 +87,17 @@ module _ (descriptors least period total : ℕ) where
   hears : (submits : Bool) (sent : Sent) (t : Track) (w : Window) (reading : Reading) → StandsAt descriptors period total t w
       → Hears sent submits reading (hear (comes_to played_of reading) sent t reading) (rule_two submits w reading)
   unfolding judge_of is_oldest played_of
-  hears submits sent t w Quiet a = record { stands = a; sends = refl; heard = refl; said = refl; same = refl }
-  hears submits sent t w (Completed slot status) a =
-      let ok = eqb status 0x8000 in
-      let oldest = ltb w.back w.out && eqb slot (w.back % 32) in
+  hears submits sent t w None a = record { stands = a; sends = refl; heard = refl; said = refl; same = refl }
+  hears submits sent t w (Some c) a =
+      let ok = eqb c.status 0x8000 in
+      let oldest = ltb w.back w.out && eqb c.slot (w.back % 32) in
       let flying : ltb 0 t.inflight ≡ ltb w.back w.out =
       same-less 0 t.inflight w.back w.out (λ h. omega (arith, a.inflight)) (λ h. omega (arith, a.inflight)) in
-      let tests : (ltb 0 t.inflight && eqb slot t.tail) ≡ oldest =
-      ap (λ (x : Bool). x && eqb slot t.tail) flying ∙ ap (λ (n : ℕ). ltb w.back w.out && eqb slot n) a.tail in
+      let tests : (ltb 0 t.inflight && eqb c.slot t.tail) ≡ oldest =
+      ap (λ (x : Bool). x && eqb c.slot t.tail) flying ∙ ap (λ (n : ℕ). ltb w.back w.out && eqb c.slot n) a.tail in
       subst
-      (λ (x : Bool). Hears sent submits (Completed slot status) (settle (pick x (verdict_of (pick ok Fine (Fails (IoError (Status status))))) WrongSlot) sent t slot status) (rule_two submits w (Completed slot status)))
-      (sym tests) (settled oldest ok submits sent t w slot status a (λ e. ltb-true _ _ (one_of (ltb w.back w.out) (eqb slot (w.back % 32)) e)))
+      (λ (x : Bool). Hears sent submits (Some c) (settle (pick x (verdict_of (pick ok (Ok tt) (Err (IoError (Status c.status))))) WrongSlot) sent t c.slot c.status) (rule_two submits w (Some c)))
+      (sym tests) (settled oldest ok submits sent t w c.slot c.status a (λ e. ltb-true _ _ (one_of (ltb w.back w.out) (eqb c.slot (w.back % 32)) e)))
 
   -- ---- rule 1, and then rule 2
 
@@ -117,10 +117,10 @@ module _ (descriptors least period total : ℕ) where
   next-out : (t : Track) (w : Window) → StandsAt descriptors period total t w → w.out * period < total → sent_of t ≡ goes_out period total true w
   next-out t w a more =
       let at : t.next ≡ w.out * period = a.next ∙ omega arith in
-      ap (λ (n : ℕ). Period n t.next (span_of t.period t.total t.next)) a.head
-      ∙ ap (λ (n : ℕ). Period (w.out % 32) n (span_of t.period t.total n)) at
-      ∙ ap (λ (n : ℕ). Period (w.out % 32) (w.out * period) (span_of n t.total (w.out * period))) a.each
-      ∙ ap (λ (n : ℕ). Period (w.out % 32) (w.out * period) (span_of period n (w.out * period))) a.all
+      ap (λ (n : ℕ). sent_period n t.next (span_of t.period t.total t.next)) a.head
+      ∙ ap (λ (n : ℕ). sent_period (w.out % 32) n (span_of t.period t.total n)) at
+      ∙ ap (λ (n : ℕ). sent_period (w.out % 32) (w.out * period) (span_of n t.total (w.out * period))) a.each
+      ∙ ap (λ (n : ℕ). sent_period (w.out % 32) (w.out * period) (span_of period n (w.out * period))) a.all
 
   heard-turn : (submits : Bool) (sent : Sent) (w : Window) (reading : Reading) (s : Step) (p : PaperTurn) → Hears sent submits reading s p
       → sent ≡ goes_out period total submits w → Is w reading s p
@@ -128,8 +128,8 @@ module _ (descriptors least period total : ℕ) where
       record { stands = h.stands; sent = h.sends ∙ e ∙ ap (λ (b : Bool). goes_out period total b w) (sym h.same); heard = h.heard; said = h.said }
 
   waits : (t : Track) (w : Window) (reading : Reading) → StandsAt descriptors period total t w
-      → Is w reading (hear (comes_to played_of reading) Nothing t reading) (rule_two false w reading)
-  waits t w reading a = heard-turn false Nothing w reading _ _ (hears false Nothing t w reading a) refl
+      → Is w reading (hear (comes_to played_of reading) None t reading) (rule_two false w reading)
+  waits t w reading a = heard-turn false None w reading _ _ (hears false None t w reading a) refl
 
   acts : (room remains none : Bool) (t : Track) (w : Window) (reading : Reading) → StandsAt descriptors period total t w
       → (remains ≡ true → w.out * period < total)

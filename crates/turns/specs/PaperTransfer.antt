@@ -1,12 +1,12 @@
 -- THE RULES ARE DOCUMENT 01'S TURN. `Paper` has its turn and its transfer from its own words, over periods out and periods back.
 -- Assumes nothing.
-use Rattle.std.specs.Prelude.{ℕ, suc, ◌+◌, ◌≡◌, refl, List, [], ◌∷◌, ◌++◌, map, length, replicate}
+use Rattle.std.specs.Prelude.{ℕ, suc, ◌+◌, ◌≡◌, refl, List, [], ◌∷◌, ◌++◌, map, length, replicate, None}
 use Rattle.turns.specs.Ring.{going}
 use Rattle.turns.specs.Rules.{comes_to, played_of, turn_of, counted_of}
 use Rattle.turns.specs.Asked.{starts, plays}
 use Rattle.turns.specs.Paper.{Window, at_first, paper_turn, paper_answer, PaperLine, paper_run, StandsAt, IsTurn, paper_line}
 use Rattle.turns.specs.PaperLaws.{turn-paper, plays-paper}
-use Rattle.turns.specs.Types.{Track, Ring, Nothing, Period, Silent, Freed, Going, Reading, Completed}
+use Rattle.turns.specs.Types.{Track, Ring, Going, Reading, completion, freed_slot, sent_period}
 
 -- "In one turn, in this order: ..": one turn of the rules, counted against the budget, is the paper's turn, for any descriptors to a submission and any least
 -- room
@@ -23,11 +23,11 @@ pub transfer-is-paper : (r : Ring) (stream period budget : ℕ) (frames : List �
 transfer-is-paper r stream period budget frames script began = plays-paper r stream period budget frames script began
 
 -- "10 bytes, period 4: lengths 4, 4, 2; a right completion every turn: Ok on turn 4", of the paper's transfer itself
-pub paper-ten : paper_run 3 3 4 10 9 at_first (Completed 0 0x8000 ∷ Completed 1 0x8000 ∷ Completed 2 0x8000 ∷ [])
-    ≡ record { sent = Period 0 0 4; heard = Freed 0 0x8000; answer = going }
-    ∷ record { sent = Period 1 4 4; heard = Freed 1 0x8000; answer = going }
-    ∷ record { sent = Period 2 8 2; heard = Freed 2 0x8000; answer = going }
-    ∷ record { sent = Nothing; heard = Silent; answer = 0 }
+pub paper-ten : paper_run 3 3 4 10 9 at_first (completion 0 0x8000 ∷ completion 1 0x8000 ∷ completion 2 0x8000 ∷ [])
+    ≡ record { sent = sent_period 0 0 4; heard = freed_slot 0 0x8000; answer = going }
+    ∷ record { sent = sent_period 1 4 4; heard = freed_slot 1 0x8000; answer = going }
+    ∷ record { sent = sent_period 2 8 2; heard = freed_slot 2 0x8000; answer = going }
+    ∷ record { sent = None; heard = None; answer = 0 }
     ∷ []
 unfolding paper_run
 paper-ten = refl

@@ -1,6 +1,6 @@
 -- Demand 3's premises about a log, by computed tests of it.
 -- Assumes nothing.
-use Rattle.std.specs.Prelude.{ℕ, zero, suc, ◌+◌, ◌≤◌, ◌≡◌, refl, Bool, true, false, not, ◌&&◌, List, [], ◌∷◌, ltb, leb, eqb, length, take, drop}
+use Rattle.std.specs.Prelude.{ℕ, zero, suc, ◌+◌, ◌≤◌, ◌≡◌, refl, Bool, true, false, not, ◌&&◌, List, [], ◌∷◌, ltb, leb, eqb, length, take, drop, Some, None}
 use Rattle.std.proofs.Common.{arith, inl, inr, ltb-true, leb-false}
 use Rattle.std.proofs.lemmas.Bool.{false≢true, eqb-false, not-true}
 use Rattle.codes.specs.Says.{pick}
@@ -9,7 +9,7 @@ use Rattle.turns.specs.Ring.{says_said}
 use Rattle.turns.specs.ConsistentLaws.{both}
 use Rattle.turns.specs.Log.{Line}
 use Rattle.turns.specs.Asked.{Any, NoFault, InFlight, Completes, Reports, CompletesWithin}
-use Rattle.turns.specs.Types.{Reading, Quiet, Completed}
+use Rattle.turns.specs.Types.{Reading}
 
 abbrev no_fault : Line → Bool
 no_fault line = not (eqb (says_said line.said).number 6) && not (eqb (says_said line.said).number 2)
@@ -30,16 +30,16 @@ by-faultless (l ∷ ls) e =
     ((differs n 6 f.0, differs n 2 f.1), by-faultless ls b.1)
 
 abbrev completes : Reading → Bool
-completes Quiet = false
-completes (Completed slot status) = true
+completes None = false
+completes (Some c) = true
 
 abbrev reports : List Line → Bool
 reports [] = false
 reports (l ∷ ls) = pick (completes l.reading) true (reports ls)
 
 by-reading : (reading : Reading) → completes reading ≡ true → Completes reading
-by-reading Quiet e = absurd (false≢true e)
-by-reading (Completed slot status) e = tt
+by-reading None e = absurd (false≢true e)
+by-reading (Some c) e = tt
 
 by-reports : (ls : List Line) → reports ls ≡ true → Any Reports ls
 by-reports [] e = absurd (false≢true e)

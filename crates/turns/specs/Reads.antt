@@ -1,27 +1,26 @@
 -- What the reads of a ring say: 0 with their values, or 1 for a ring that fails the consistency test.
 -- Assumes nothing.
-use Rattle.std.specs.Prelude.{List, [], ◌∷◌, ℕ, ltb, eqb, get_or}
+use Rattle.std.specs.Prelude.{List, [], ◌∷◌, ℕ, ltb, eqb, get_or, Option, Some, None, Result}
 use Rattle.codes.specs.Says.{Says, says, pick, guard}
+use Rattle.codes.specs.Answers.{says_result}
+use Rattle.codes.specs.declared.answers.Refusal.{Refusal}
 use Rattle.turns.specs.Ring.{blank_slot, free}
 use Rattle.turns.specs.Consistent.{consistent_of}
-use Rattle.turns.specs.Types.{Track, Ring, RingNumber, Carried, Oldest}
-use Rattle.turns.specs.declared.ring.RingNumber.TheVariants as number
-use Rattle.turns.specs.declared.ring.Carried.TheVariants as carried
-use Rattle.turns.specs.declared.ring.Oldest.TheVariants as oldest
+use Rattle.turns.specs.Types.{Slot, Track, Ring}
 
-abbrev pub says_number : RingNumber → Says
-says_number (number.Is n) = says 0 (n ∷ [])
-says_number number.InvalidParam = says 1 []
+abbrev pub says_number : Result ℕ Refusal → Says
+says_number = says_result (λ n. n ∷ [])
 
-abbrev pub says_carried : Carried → Says
-says_carried (carried.Is s) = says 0 (s.offset ∷ s.len ∷ [])
-says_carried carried.InvalidParam = says 1 []
+abbrev pub says_carried : Result Slot Refusal → Says
+says_carried = says_result (λ s. s.offset ∷ s.len ∷ [])
 
 -- that nothing is in flight is an answer too: 0, with no value
-abbrev pub says_oldest : Oldest → Says
-says_oldest (oldest.Slot n) = says 0 (n ∷ [])
-says_oldest oldest.Nothing = says 0 []
-says_oldest oldest.InvalidParam = says 1 []
+abbrev pub oldest_values : Option ℕ → List ℕ
+oldest_values (Some n) = n ∷ []
+oldest_values None = []
+
+abbrev pub says_oldest : Result (Option ℕ) Refusal → Says
+says_oldest = says_result oldest_values
 
 abbrev pub read_of : Track → List ℕ → Says
 read_of t values = guard (consistent_of t) (says 1 [])

@@ -1,6 +1,6 @@
 -- Calls: a refusal changes nothing, and what is offered is what the turn submits.
 -- Assumes nothing.
-use Rattle.std.specs.Prelude.{ℕ, ◌≡◌, refl, Bool, true, false, ◌||◌, not, eqb}
+use Rattle.std.specs.Prelude.{ℕ, ◌≡◌, refl, Bool, true, false, ◌||◌, not, eqb, Result, Ok, Err, Some, None}
 use Rattle.std.proofs.Common.{arith, ap, sym, ◌∙◌, subst, eq-eqb}
 use Rattle.std.proofs.lemmas.Bool.{false≢true}
 use Rattle.codes.specs.Says.{guard}
@@ -13,8 +13,7 @@ use Rattle.turns.specs.KeepLaws.{turn-plain}
 use Rattle.turns.specs.Calls.{refused_of, traced_call, turn_call, drained, drain_call, start_call, start_traced, ring_after, offer_by, offer_as, offer_call}
 use Rattle.turns.specs.Capture.{caught_of, lends_all, caught_turn, capture_call, capture_offer}
 use Rattle.turns.specs.Types.{Catch}
-use Rattle.turns.specs.Types.{Track, Ring, Sent, Nothing, Going, Refused, Step, Reading, Quiet, Completed, Choice, Submit, Finish, Wait, Outcome, Offer}
-use Rattle.turns.specs.declared.calls.Offer.TheVariants as offer
+use Rattle.turns.specs.Types.{Track, Ring, Sent, Going, Refused, Step, Reading, Choice, Submit, Finish, Wait, Outcome}
 
 -- ---- a refusal changes nothing
 
@@ -30,8 +29,8 @@ pub turn-answers : (least : ℕ) (t : Track) (o : Outcome) (reading : Reading) �
 turn-answers least t o reading = counted-cases (λ s. Plain s.said) (turn_of least t o reading) (turn-plain least t o reading) (λ _. tt) over_plain
 
 drained-answers : (t : Track) (reading : Reading) → Plain (drained t reading).said
-drained-answers t Quiet = tt
-drained-answers t (Completed slot status) = guarded-by (λ (s : Step). Plain s.said) _ _ _ (λ _. tt) (λ _. tt)
+drained-answers t None = tt
+drained-answers t (Some c) = guarded-by (λ (s : Step). Plain s.said) _ _ _ (λ _. tt) (λ _. tt)
 
 module _ (t : Track) where
   abbrev P : Step → Type 0
@@ -90,7 +89,7 @@ hear-sent sent t o reading = hear-cases (λ s. s.sent ≡ sent) sent t o reading
 act-sent : (c : Choice) (t : Track) (o : Outcome) (reading : Reading) → (act c t o reading).sent ≡ offer_by c t
 act-sent Submit t o reading = hear-sent (sent_of t) (submit t) o reading
 act-sent Finish t o reading = refl
-act-sent Wait t o reading = hear-sent Nothing t o reading
+act-sent Wait t o reading = hear-sent None t o reading
 
 pub turn-sent : (least : ℕ) (t : Track) (o : Outcome) (reading : Reading) → (counted_of (turn_of least t o reading)).sent ≡ offer_by (choose_of least t) t
 unfolding turn_of
@@ -99,11 +98,11 @@ turn-sent least t o reading =
     counted-cases (λ s. s.sent ≡ offer_by (choose_of least t) t) (turn_of least t o reading) (turn-plain least t o reading) (λ _. e) (λ _ _. e)
 
 -- the turn submits what was offered, and is refused where the offer is
-pub record Offered (t : Track) (o : Offer) (s : Step) : Type 0 where
-  pub is : (sent : Sent) → o ≡ offer.Is sent → s.sent ≡ sent
-  pub refused : (x : Refusal) → o ≡ offer.Refused x → s ≡ refused_of x t
+pub record Offered (t : Track) (o : Result Sent Refusal) (s : Step) : Type 0 where
+  pub is : (sent : Sent) → o ≡ Ok sent → s.sent ≡ sent
+  pub refused : (x : Refusal) → o ≡ Err x → s ≡ refused_of x t
 
-bars : (t : Track) (r : Refusal) → Offered t (offer.Refused r) (refused_of r t)
+bars : (t : Track) (r : Refusal) → Offered t (Err r) (refused_of r t)
 bars t r =
     record {
       is = λ sent e. let z : ◌≡◌ {A = ℕ} 0 1 = cc in absurd (omega arith);
@@ -118,8 +117,8 @@ own_room t false = refl
 pub offered : (t : Track) (len : ℕ) (reading : Reading) → Offered t (offer_call t len) (traced_call t len t.room reading)
 unfolding offer_as traced_call
 offered t len reading =
-    let P : Offer → Step → Type 0 = Offered t in
-    let shows : Offered t (offer.Is (offer_by (choose_of t.descriptors t) t)) (counted_of (turn_of t.descriptors t (comes_to played_of reading) reading)) =
+    let P : Result Sent Refusal → Step → Type 0 = Offered t in
+    let shows : Offered t (Ok (offer_by (choose_of t.descriptors t) t)) (counted_of (turn_of t.descriptors t (comes_to played_of reading) reading)) =
     record {
       is = λ sent e. let same : offer_by (choose_of t.descriptors t) t ≡ sent = cc in turn-sent t.descriptors t _ reading ∙ same;
       refused = λ x e. let z : ◌≡◌ {A = ℕ} 0 1 = cc in absurd (omega arith);
@@ -128,16 +127,16 @@ offered t len reading =
     (guarded-both P _ _ _ _ _ (guarded-both P _ _ _ _ _ (guarded-both P _ _ _ _ _ shows (bars t _)) (bars t _)) (bars t _))
 
 -- of a capture: the same, but for a turn that is lent too few bytes of its completion
-pub record OfferedIfLent (t : Track) (c : Catch) (o : Offer) (s : Step) : Type 0 where
-  pub is : (sent : Sent) → o ≡ offer.Is sent → is_refused s.said ≡ false → s.sent ≡ sent
-  pub refused : (x : Refusal) → o ≡ offer.Refused x → lends_all t c ≡ true → s ≡ refused_of x t
+pub record OfferedIfLent (t : Track) (c : Catch) (o : Result Sent Refusal) (s : Step) : Type 0 where
+  pub is : (sent : Sent) → o ≡ Ok sent → is_refused s.said ≡ false → s.sent ≡ sent
+  pub refused : (x : Refusal) → o ≡ Err x → lends_all t c ≡ true → s ≡ refused_of x t
 
 pub capture-offers : (t : Track) (len : ℕ) (c : Catch) → OfferedIfLent t c (capture_offer t len) (capture_call t len c)
 unfolding offer_as capture_call
 capture-offers t len c =
-    let P : Offer → Step → Type 0 = OfferedIfLent t c in
-    let bar : (r : Refusal) → P (offer.Refused r) (refused_of r t) = λ r. let b = bars t r in record { is = λ sent e _. b.is sent e; refused = λ x e _. b.refused x e } in
-    let shows : P (offer.Is (offer_by (choose_of t.descriptors t) t)) (caught_turn t.descriptors t c) =
+    let P : Result Sent Refusal → Step → Type 0 = OfferedIfLent t c in
+    let bar : (r : Refusal) → P (Err r) (refused_of r t) = λ r. let b = bars t r in record { is = λ sent e _. b.is sent e; refused = λ x e _. b.refused x e } in
+    let shows : P (Ok (offer_by (choose_of t.descriptors t) t)) (caught_turn t.descriptors t c) =
     record {
       is = λ sent e _. let same : offer_by (choose_of t.descriptors t) t ≡ sent = cc in turn-sent t.descriptors t (caught_of t c) c.reading ∙ same;
       refused = λ x e _. let z : ◌≡◌ {A = ℕ} 0 1 = cc in absurd (omega arith);

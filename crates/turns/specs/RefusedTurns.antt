@@ -2,7 +2,7 @@
 -- turns can be left out, and the rest is the host's loop. Demand 3 then holds of that loop as of a host that is never refused. AnyHost has drain turns and
 -- starts in between besides.
 -- Assumes nothing.
-use Rattle.std.specs.Prelude.{ℕ, ◌≡◌, length}
+use Rattle.std.specs.Prelude.{ℕ, ◌≡◌, length, None}
 use Rattle.std.proofs.Math.Path.{refl, ap}
 use Rattle.std.proofs.Common.{sym, ◌∙◌}
 use mathlib.Core.List.{List, [], ◌∷◌}
@@ -11,7 +11,7 @@ use Rattle.turns.specs.Captured.{Came, nothing_came, catch_in, Taken, taking, ta
 use Rattle.turns.specs.CaptureDemand.{capture-refusal}
 use Rattle.turns.specs.Demand.{turn-refusal}
 use Rattle.turns.specs.Log.{Ran, Told, onward, loop_of, called, turn_by_turn}
-use Rattle.turns.specs.Types.{Ring, Said, Going, Done, Ended, Refused, Reading, Quiet}
+use Rattle.turns.specs.Types.{Ring, Said, Going, Done, Ended, Refused, Reading}
 
 -- how calls ended a transfer, and what they left; what was refused is passed over
 pub record Upshot (A : Type 0) : Type 0 where
@@ -67,7 +67,7 @@ module _ {A R : Type 0} (quiet : R) (turn : A → R → Told A) (leaves : Leaves
 
 pub any-playback : (len : ℕ) (r : Ring) (xs : List Reading)
     → let ys = admitted_by (called len) r xs in goes_over (called len) r xs ≡ upshot (turn_by_turn len (length ys) r ys)
-any-playback len r xs = any-loop Quiet (called len) (λ a x y e. turn-refusal a y len x e) r xs
+any-playback len r xs = any-loop None (called len) (λ a x y e. turn-refusal a y len x e) r xs
 
 -- ---- of a capture: one that lends too few bytes, or a recording of another length, and goes on
 

@@ -1,6 +1,6 @@
 -- What each decision of the rules means: every induction over turns goes by these cases.
 -- Assumes nothing.
-use Rattle.std.specs.Prelude.{ℕ, ◌≤◌, ◌<◌, ◌≡◌, refl, Bool, true, false, ltb, leb, eqb}
+use Rattle.std.specs.Prelude.{ℕ, ◌≤◌, ◌<◌, ◌≡◌, refl, Bool, true, false, ltb, leb, eqb, Ok, Err}
 use Rattle.std.proofs.Common.{arith, sym, ap, ◌∙◌, lt-ltb, ltb-true, ltb-false, leb-true, leb-false, eq-eqb, eqb-true}
 use Rattle.std.proofs.lemmas.Bool.{false≢true, eqb-false}
 use Rattle.codes.specs.Says.{pick}
@@ -10,7 +10,7 @@ use Rattle.codes.specs.declared.answers.Refusal.TheVariants.{IoError}
 use Rattle.turns.specs.Ring.{free}
 use Rattle.turns.specs.Rules.{pick_choice, choose_of, played_of, is_oldest, verdict_of, judge_of}
 use Rattle.turns.specs.ConsistentLaws.{both}
-use Rattle.turns.specs.Types.{Track, Choice, Submit, Finish, Wait, Outcome, Fine, Fails, Verdict, WrongSlot, Good, Bad}
+use Rattle.turns.specs.Types.{Track, Choice, Submit, Finish, Wait, Outcome, Verdict, WrongSlot, Good, Bad}
 
 -- what rule 1's choice says of the track
 abbrev pub Chosen : ℕ → Track → Choice → Type 0
@@ -40,12 +40,12 @@ oldest-true t slot h e = rw (lt-ltb _ _ h, eq-eqb _ _ e)
 -- what rule 2's verdict says of the track and the completion
 abbrev pub Judged : Track → ℕ → Outcome → Verdict → Type 0
 Judged t slot outcome WrongSlot = 0 < t.inflight → slot ≡ t.tail → ⊥
-Judged t slot outcome Good = (0 < t.inflight) × (slot ≡ t.tail) × (outcome ≡ Fine)
-Judged t slot outcome (Bad r) = (0 < t.inflight) × (slot ≡ t.tail) × (outcome ≡ Fails r)
+Judged t slot outcome Good = (0 < t.inflight) × (slot ≡ t.tail) × (outcome ≡ (Ok tt))
+Judged t slot outcome (Bad r) = (0 < t.inflight) × (slot ≡ t.tail) × (outcome ≡ Err r)
 
 judged-by : (t : Track) (slot : ℕ) (outcome : Outcome) (oldest : Bool) → is_oldest t slot ≡ oldest → Judged t slot outcome (pick oldest (verdict_of outcome) WrongSlot)
-judged-by t slot Fine true e = let f = oldest-facts t slot e in (f.0, f.1, refl)
-judged-by t slot (Fails r) true e = let f = oldest-facts t slot e in (f.0, f.1, refl)
+judged-by t slot (Ok tt) true e = let f = oldest-facts t slot e in (f.0, f.1, refl)
+judged-by t slot (Err r) true e = let f = oldest-facts t slot e in (f.0, f.1, refl)
 judged-by t slot outcome false e = λ h q. false≢true (sym e ∙ oldest-true t slot h q)
 
 pub judged : (t : Track) (slot : ℕ) (outcome : Outcome) → Judged t slot outcome (judge_of t slot outcome)
@@ -53,22 +53,22 @@ unfolding judge_of
 judged t slot outcome = judged-by t slot outcome (is_oldest t slot) refl
 
 -- what the outcome of a period that was played says of its status
-fine-by : (status : ℕ) (ok : Bool) → eqb status 0x8000 ≡ ok → pick ok Fine (Fails (IoError (Status status))) ≡ Fine → status ≡ 0x8000
+fine-by : (status : ℕ) (ok : Bool) → eqb status 0x8000 ≡ ok → pick {A = Outcome} ok (Ok tt) (Err (IoError (Status status))) ≡ Ok tt → status ≡ 0x8000
 fine-by status true e p = eqb-true _ _ e
 fine-by status false e p = let z : ◌≡◌ {A = ℕ} 0 1 = cc in absurd (omega arith)
 
-pub played-fine : (status : ℕ) → played_of status ≡ Fine → status ≡ 0x8000
+pub played-fine : (status : ℕ) → played_of status ≡ Ok tt → status ≡ 0x8000
 unfolding played_of
 played-fine status p = fine-by status _ refl p
 
-fails_by : (status : ℕ) (r : Refusal) (ok : Bool) → eqb status 0x8000 ≡ ok → pick ok Fine (Fails (IoError (Status status))) ≡ Fails r → (status ≡ 0x8000 → ⊥) × (IoError (Status status) ≡ r)
+fails_by : (status : ℕ) (r : Refusal) (ok : Bool) → eqb status 0x8000 ≡ ok → pick {A = Outcome} ok (Ok tt) (Err (IoError (Status status))) ≡ Err r → (status ≡ 0x8000 → ⊥) × (IoError (Status status) ≡ r)
 fails_by status r true e p = let z : ◌≡◌ {A = ℕ} 0 1 = cc in absurd (omega arith)
 fails_by status r false e p = (eqb-false _ _ e, cc)
 
-pub played-fails : (status : ℕ) (r : Refusal) → played_of status ≡ Fails r → (status ≡ 0x8000 → ⊥) × (IoError (Status status) ≡ r)
+pub played-fails : (status : ℕ) (r : Refusal) → played_of status ≡ Err r → (status ≡ 0x8000 → ⊥) × (IoError (Status status) ≡ r)
 unfolding played_of
 played-fails status r p = fails_by status r _ refl p
 
-pub played-by : (status : ℕ) (ok : Bool) → ok ≡ eqb status 0x8000 → pick ok Fine (Fails (IoError (Status status))) ≡ played_of status
+pub played-by : (status : ℕ) (ok : Bool) → ok ≡ eqb status 0x8000 → pick ok (Ok tt) (Err (IoError (Status status))) ≡ played_of status
 unfolding played_of
-played-by status ok e = ap (λ (b : Bool). pick b Fine (Fails (IoError (Status status)))) e
+played-by status ok e = ap (λ (b : Bool). pick b (Ok tt) (Err (IoError (Status status)))) e

@@ -1,12 +1,12 @@
 -- The turn rules of a transfer, over the track. `least` is the least room that a submission needs.
 -- Assumes nothing.
-use Rattle.std.specs.Prelude.{Bool, true, false, ◌&&◌, ℕ, ◌+◌, ◌-◌, ltb, leb, eqb}
+use Rattle.std.specs.Prelude.{Bool, true, false, ◌&&◌, ℕ, ◌+◌, ◌-◌, ltb, leb, eqb, Ok, Err, Some, None}
 use Rattle.codes.specs.declared.answers.Cause.TheVariants.{Status}
 use Rattle.codes.specs.declared.answers.Refusal.TheVariants.{IoError, WrongToken, OutOfTurns}
 use Rattle.codes.specs.Says.{pick}
 use Rattle.turns.specs.Cut.{span_of}
 use Rattle.turns.specs.Ring.{after, free, goes_on}
-use Rattle.turns.specs.Types.{Track, Sent, Nothing, Period, Silent, Freed, Said, Going, Done, Ended, Step, Reading, Quiet, Completed, Choice, Submit, Finish, Wait, Outcome, Fine, Fails, Verdict, WrongSlot, Good, Bad}
+use Rattle.turns.specs.Types.{Track, Sent, Said, Going, Done, Ended, Step, Reading, Choice, Submit, Finish, Wait, Outcome, Verdict, WrongSlot, Good, Bad, freed_slot, sent_period}
 
 -- ---- RULE 1. "If 3 or more descriptors are free: if a period remains, submit it at head (3 descriptors), showing that part of the caller's
 -- frames itself; else if nothing is in flight, end with Ok and do not look at the reading."
@@ -26,7 +26,7 @@ next_span t = span_of t.period t.total t.next
 
 -- what goes out, at head
 abbrev pub sent_of : Track → Sent
-sent_of t = Period t.head t.next (next_span t)
+sent_of t = sent_period t.head t.next (next_span t)
 
 abbrev pub submit : Track → Track
 submit t =
@@ -55,19 +55,19 @@ submit t =
 
 -- The judgement of a completion's status is the caller's: a playback has its own, and so has a capture (2026-09).
 abbrev pub comes_to : (ℕ → Outcome) → Reading → Outcome
-comes_to judge Quiet = Fine
-comes_to judge (Completed slot status) = judge status
+comes_to judge None = Ok tt
+comes_to judge (Some c) = judge c.status
 
 -- what the completion of a period that was played comes to: 2 carries the status (2026-05)
 unfoldable pub played_of : ℕ → Outcome
-played_of status = pick (eqb status 0x8000) Fine (Fails (IoError (Status status)))
+played_of status = pick (eqb status 0x8000) (Ok tt) (Err (IoError (Status status)))
 
 unfoldable pub is_oldest : Track → ℕ → Bool
 is_oldest t slot = ltb 0 t.inflight && eqb slot t.tail
 
 abbrev pub verdict_of : Outcome → Verdict
-verdict_of Fine = Good
-verdict_of (Fails r) = Bad r
+verdict_of (Ok tt) = Good
+verdict_of (Err r) = Bad r
 
 unfoldable pub judge_of : Track → ℕ → Outcome → Verdict
 judge_of t slot outcome = pick (is_oldest t slot) (verdict_of outcome) WrongSlot
@@ -103,21 +103,21 @@ abbrev pub accept : Track → Track
 accept t = freeing (t.good + 1) t
 
 abbrev pub settle : Verdict → Sent → Track → ℕ → ℕ → Step
-settle WrongSlot sent t slot status = record { track = t; sent = sent; heard = Silent; said = Ended WrongToken }
-settle Good sent t slot status = record { track = accept t; sent = sent; heard = Freed slot status; said = Going }
-settle (Bad r) sent t slot status = record { track = release t; sent = sent; heard = Freed slot status; said = Ended r }
+settle WrongSlot sent t slot status = record { track = t; sent = sent; heard = None; said = Ended WrongToken }
+settle Good sent t slot status = record { track = accept t; sent = sent; heard = freed_slot slot status; said = Going }
+settle (Bad r) sent t slot status = record { track = release t; sent = sent; heard = freed_slot slot status; said = Ended r }
 
 -- the reading, and what it comes to
 abbrev pub hear : Outcome → Sent → Track → Reading → Step
-hear outcome sent t Quiet = record { track = t; sent = sent; heard = Silent; said = Going }
-hear outcome sent t (Completed slot status) = settle (judge_of t slot outcome) sent t slot status
+hear outcome sent t None = record { track = t; sent = sent; heard = None; said = Going }
+hear outcome sent t (Some c) = settle (judge_of t c.slot outcome) sent t c.slot c.status
 
 -- ---- ONE TURN: rule 1, then rule 2
 
 abbrev pub act : Choice → Track → Outcome → Reading → Step
 act Submit t outcome reading = hear outcome (sent_of t) (submit t) reading
-act Finish t outcome reading = record { track = t; sent = Nothing; heard = Silent; said = Done }
-act Wait t outcome reading = hear outcome Nothing t reading
+act Finish t outcome reading = record { track = t; sent = None; heard = None; said = Done }
+act Wait t outcome reading = hear outcome None t reading
 
 unfoldable pub turn_of : ℕ → Track → Outcome → Reading → Step
 turn_of least t outcome reading = act (choose_of least t) t outcome reading

@@ -1,6 +1,6 @@
 -- Demand 3, both halves, and the account of the periods, of a run of the rules from the beginning of a transfer.
 -- Assumes nothing.
-use Rattle.std.specs.Prelude.{ℕ, zero, suc, ◌+◌, ◌*◌, ◌%◌, ◌≤◌, ◌<◌, ◌≡◌, refl, Bool, false, List, [], ◌∷◌, ◌++◌, map, length, get_or, take}
+use Rattle.std.specs.Prelude.{ℕ, zero, suc, ◌+◌, ◌*◌, ◌%◌, ◌≤◌, ◌<◌, ◌≡◌, refl, Bool, false, List, [], ◌∷◌, ◌++◌, map, length, get_or, take, Some, None}
 use Rattle.std.proofs.Common.{arith, zero-add, ap, sym, ◌∙◌, subst, inl, inr, append-nil, length-append, get_or-take}
 use Rattle.std.proofs.lemmas.Simd.{map-map}
 use Rattle.std.proofs.Math.Seq.{take-append_seam}
@@ -14,13 +14,13 @@ use Rattle.turns.specs.CutLaws.{plan, spans-done, plan-shows, plan-count, plan-a
 use Rattle.turns.specs.Asked.{NoFault, Faultless, CompletesWithin, Whole, Ending, Accepted, Accounted}
 use Rattle.turns.specs.AccountLaws.{ahead, Just, Two, played-just, InOrder, account}
 use Rattle.turns.specs.TimeLaws.{lively, due-full, live}
-use Rattle.turns.specs.Types.{Track, Sent, Nothing, Heard, Silent, Freed, Said, Done, Reading}
+use Rattle.turns.specs.Types.{Track, Sent, Heard, Said, Done, Reading, freed_slot}
 
 step : (slot i : ℕ) → (after slot + i) % 32 ≡ (slot + suc i) % 32
 step slot i = omega arith
 
-accepted-good : (slot s status : ℕ) (back : List Heard) (k : ℕ) → slot < 32 → s ≡ slot → status ≡ 0x8000 → ((i : ℕ) → i < k → get_or back i Silent ≡ Freed ((after slot + i) % 32) 0x8000)
-    → (i : ℕ) → i < suc k → get_or (Freed s status ∷ back) i Silent ≡ Freed ((slot + i) % 32) 0x8000
+accepted-good : (slot s status : ℕ) (back : List Heard) (k : ℕ) → slot < 32 → s ≡ slot → status ≡ 0x8000 → ((i : ℕ) → i < k → get_or back i None ≡ freed_slot ((after slot + i) % 32) 0x8000)
+    → (i : ℕ) → i < suc k → get_or (freed_slot s status ∷ back) i None ≡ freed_slot ((slot + i) % 32) 0x8000
 accepted-good slot s status back k h e ok good zero b = let z : (slot + 0) % 32 ≡ slot = omega arith in rw (e, ok, z)
 accepted-good slot s status back k h e ok good (suc i) b = good i (omega arith) ∙ rw (step slot i)
 
@@ -30,21 +30,21 @@ accepted-end answer slot x back k (inr o) = inr (o.0, ap suc o.1, (o.2.0, o.2.1 
 
 pub accepted : (answer slot : ℕ) (back : List Heard) → InOrder Two answer slot back → slot < 32 → Accepted answer slot back
 accepted answer slot [] o h = record { accepted = 0; good = λ i b. absurd (omega arith); end = inl (o, refl) }
-accepted answer slot (Silent ∷ back) o h = absurd o
-accepted answer slot (Freed s status ∷ back) (e, inr o) h =
+accepted answer slot (None ∷ back) o h = absurd o
+accepted answer slot (Some f ∷ back) (e, inr o) h =
     let z : slot ≡ (slot + 0) % 32 = omega arith in
-    record { accepted = 0; good = λ i b. absurd (omega arith); end = inr (o.1, ap suc (ap length o.2), (status, ap (λ (x : ℕ). Freed x status) (e ∙ z), o.0 o.1)) }
-accepted answer slot (Freed s status ∷ back) (e, inl (ok, o)) h =
+    record { accepted = 0; good = λ i b. absurd (omega arith); end = inr (o.1, ap suc (ap length o.2), (f.status, ap (λ (x : ℕ). freed_slot x f.status) (e ∙ z), o.0 o.1)) }
+accepted answer slot (Some f ∷ back) (e, inl (ok, o)) h =
     let k = accepted answer (after slot) back o (omega arith) in
-    record { accepted = suc k.accepted; good = accepted-good slot s status back k.accepted h e ok k.good; end = accepted-end answer slot (Freed s status) back k.accepted k.end }
+    record { accepted = suc k.accepted; good = accepted-good slot f.slot f.status back k.accepted h e ok k.good; end = accepted-end answer slot (Some f) back k.accepted k.end }
 
 -- where the answer is no fault, all of them
-all-good : (Fault : ℕ → Type 0) (answer slot : ℕ) (back : List Heard) → InOrder Fault answer slot back → (Fault answer → ⊥) → slot < 32 → (i : ℕ) → i < length back → get_or back i Silent ≡ Freed ((slot + i) % 32) 0x8000
+all-good : (Fault : ℕ → Type 0) (answer slot : ℕ) (back : List Heard) → InOrder Fault answer slot back → (Fault answer → ⊥) → slot < 32 → (i : ℕ) → i < length back → get_or back i None ≡ freed_slot ((slot + i) % 32) 0x8000
 all-good Fault answer slot [] o right h i b = absurd (omega arith)
-all-good Fault answer slot (Silent ∷ back) o right h i b = absurd o
-all-good Fault answer slot (Freed s status ∷ back) (e, inr o) right h i b = absurd (right o.1)
-all-good Fault answer slot (Freed s status ∷ back) (e, inl (ok, o)) right h zero b = let z : (slot + 0) % 32 ≡ slot = omega arith in rw (e, ok, z)
-all-good Fault answer slot (Freed s status ∷ back) (e, inl (ok, o)) right h (suc i) b = all-good Fault answer (after slot) back o right (omega arith) i (omega arith) ∙ rw (step slot i)
+all-good Fault answer slot (None ∷ back) o right h i b = absurd o
+all-good Fault answer slot (Some f ∷ back) (e, inr o) right h i b = absurd (right o.1)
+all-good Fault answer slot (Some f ∷ back) (e, inl (ok, o)) right h zero b = let z : (slot + 0) % 32 ≡ slot = omega arith in rw (e, ok, z)
+all-good Fault answer slot (Some f ∷ back) (e, inl (ok, o)) right h (suc i) b = all-good Fault answer (after slot) back o right (omega arith) i (omega arith) ∙ rw (step slot i)
 
 pub map-take : {A B : Type 0} (f : A → B) (n : ℕ) (l : List A) → map f (take n l) ≡ take n (map f l)
 map-take f zero l = refl
@@ -65,7 +65,7 @@ OnlyIf stream period frames o = o.said ≡ Done → Whole stream period frames o
 pub record Through (period total : ℕ) (log : List Line) : Type 0 where
   pub out : sends log ≡ plan period total
   pub heard : length (frees log) ≡ length (plan period total)
-  pub good : (i : ℕ) → i < length (frees log) → get_or (frees log) i Silent ≡ Freed (i % 32) 0x8000
+  pub good : (i : ℕ) → i < length (frees log) → get_or (frees log) i None ≡ freed_slot (i % 32) 0x8000
   pub timely : (k : ℕ) → length (frees (take k log)) ≤ length (sends (take k log))
 
 -- ---- by any judgement, in either direction
@@ -104,7 +104,7 @@ module _ (least stream period budget : ℕ) (frames : List ℕ) (t : Track) (scr
       let first : sends o.log ≡ take m (plan period L) = sym (take-append_seam (sends o.log) (ahead k.fuel o.at)) ∙ ap (take m) k.sent in
       let most : m ≤ length (plan period L) = omega (arith, simp length-append at (ap length k.sent)) in
       record {
-        order = λ i h. ap (λ (l : List Sent). get_or l i Nothing) first ∙ get_or-take m (plan period L) i Nothing h ∙ plan-at period L i some (omega arith);
+        order = λ i h. ap (λ (l : List Sent). get_or l i None) first ∙ get_or-take m (plan period L) i None h ∙ plan-at period L i some (omega arith);
         payloads = ap (map (payload frames)) first ∙ map-take (payload frames) m (plan period L) ∙ ap (take m) (plan-shows period frames);
         back = accepted _ 0 (frees o.log) k.back (omega arith);
         owed = omega (arith, k.owed);

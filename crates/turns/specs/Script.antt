@@ -1,6 +1,6 @@
 -- A script of readings as bytes, and a transfer over one.
 -- Assumes nothing.
-use Rattle.std.specs.Prelude.{List, ℕ, ◌+◌, ◌/◌, ◌%◌, eqb, length}
+use Rattle.std.specs.Prelude.{List, ℕ, ◌+◌, ◌/◌, ◌%◌, eqb, length, None}
 use Rattle.layout.specs.Bytes.{num_at}
 use Rattle.layout.specs.Rows.{rows_at}
 use Rattle.codes.specs.Says.{pick, guard}
@@ -8,11 +8,11 @@ use Rattle.codes.specs.declared.answers.Refusal.TheVariants.{BadLength}
 use Rattle.turns.specs.Calls.{start_call, started_of}
 use Rattle.turns.specs.Ring.{goes_on}
 use Rattle.turns.specs.Log.{Ran, turn_by_turn}
-use Rattle.turns.specs.Types.{Ring, Said, Refused, Reading, Quiet, Completed, Transferred}
+use Rattle.turns.specs.Types.{Ring, Said, Refused, Reading, Transferred, completion}
 
 -- a reading is a record of 12 bytes: kind 4, slot 4, status 4. Kind 0 is quiet, every other kind is completed
 abbrev pub reading_of : ℕ → ℕ → ℕ → Reading
-reading_of kind slot status = pick (eqb kind 0) Quiet (Completed slot status)
+reading_of kind slot status = pick (eqb kind 0) None (completion slot status)
 
 unfoldable pub reading_at : ℕ → List ℕ → Reading
 reading_at o s = reading_of (num_at o 4 s) (num_at (o + 4) 4 s) (num_at (o + 8) 4 s)

@@ -3,7 +3,7 @@
 use Prim.Native.Nat.{ℕ, zero, suc, ◌+◌, ◌-◌, ◌*◌, ◌/◌, ◌≤◌, ◌<◌}
 use native.Mathlib.Omega.{arith}
 use Rattle.std.proofs.Common.{add-one, ◌∙◌}
-use Rattle.std.specs.Prelude.{◌≡◌, refl, length, false}
+use Rattle.std.specs.Prelude.{◌≡◌, refl, length, false, None}
 use Rattle.std.proofs.Math.Path.{sym, ap}
 use mathlib.Core.List.{List, [], ◌∷◌}
 use Rattle.codes.specs.SaysLaws.{skips}
@@ -13,7 +13,7 @@ use Rattle.turns.specs.Calls.{turn_call, turned_of}
 use Rattle.turns.specs.Ring.{goes_on}
 use Rattle.turns.specs.Log.{Line, Ran, Told, waiting_by, first_of, rest_of, onward, loop_of, loop, called, turn_by_turn}
 use Rattle.turns.specs.Script.{reading_at, script_of, transferred_of, transfer_by}
-use Rattle.turns.specs.Types.{Ring, Said, Going, Turned, Reading, Quiet, Transferred}
+use Rattle.turns.specs.Types.{Ring, Said, Going, Turned, Reading, Transferred}
 use Rattle.turns.specs.Private.{script_from}
 
 -- ---- the script
@@ -34,7 +34,7 @@ script-none n bytes h = let e : length bytes / 12 - n ≡ 0 = omega arith in ap 
 pub first_more : (n : ℕ) (bytes : List ℕ) → n < length bytes / 12 → reading_at (n * 12) bytes ≡ first_of (script_from n bytes)
 first_more n bytes h = let e : length bytes / 12 - n ≡ suc (length bytes / 12 - suc n) = omega arith in rw (script-more n (length bytes / 12 - suc n) bytes e)
 
-pub first-none : (n : ℕ) (bytes : List ℕ) → length bytes / 12 ≤ n → Quiet ≡ first_of (script_from n bytes)
+pub first-none : (n : ℕ) (bytes : List ℕ) → length bytes / 12 ≤ n → None ≡ first_of (script_from n bytes)
 first-none n bytes h = rw (script-none n bytes h)
 
 rest-by : (n k : ℕ) (bytes : List ℕ) → length bytes / 12 - n ≡ k → rest_of (script_from n bytes) ≡ script_from (suc n) bytes

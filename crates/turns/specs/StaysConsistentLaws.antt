@@ -1,6 +1,6 @@
 -- What calls leave never fails the consistency test: a new ring, a turn, a drain turn, the start of a transfer, each with its refusals.
 -- Assumes nothing.
-use Rattle.std.specs.Prelude.{ℕ, ◌<◌, ◌≡◌, Bool, true, false, not}
+use Rattle.std.specs.Prelude.{ℕ, ◌<◌, ◌≡◌, Bool, true, false, not, Some, None}
 use Rattle.std.proofs.Common.{arith, ltb-true}
 use Rattle.std.proofs.lemmas.Bool.{false≢true}
 use Rattle.codes.specs.SaysLaws.{guarded-by}
@@ -12,7 +12,7 @@ use Rattle.turns.specs.ConsistentLaws.{both, Consistent, consistent-facts, consi
 use Rattle.turns.specs.Calls.{traced_call, turn_call, drained, drain_call, begun_in, start_call, start_traced}
 use Rattle.turns.specs.KeepLaws.{Leaves, Fit, fit_of, fit-freeing, turn-keeps}
 use Rattle.turns.specs.Private.{Mode}
-use Rattle.turns.specs.Types.{Track, Reading, Quiet, Completed}
+use Rattle.turns.specs.Types.{Track, Reading}
 
 -- THE CALL of a turn
 pub traced-keeps : (t : Track) (len room : ℕ) (reading : Reading) → Consistent t → Consistent (traced_call t len room reading).track
@@ -28,8 +28,8 @@ release-keeps t h c =
     record { placed = f.placed; paced = record { within = f.within; some = c.paced.some; left = c.paced.left }; kept = f.kept; good = c.good }
 
 drained-keeps : (t : Track) (reading : Reading) → Consistent t → Leaves (drained t reading)
-drained-keeps t Quiet c = c
-drained-keeps t (Completed slot status) c = guarded-by Leaves _ _ _ (λ e. release-keeps t (oldest-facts t slot e).0 c) (λ _. c)
+drained-keeps t None c = c
+drained-keeps t (Some c₁) c = guarded-by Leaves _ _ _ (λ e. release-keeps t (oldest-facts t c₁.slot e).0 c) (λ _. c)
 
 -- A DRAIN TURN
 pub drain-keeps : (t : Track) (reading : Reading) → Consistent t → Consistent (drain_call t reading).track

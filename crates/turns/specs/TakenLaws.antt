@@ -1,6 +1,6 @@
 -- A capture's loop is the run of the rules by a capture's judgement, and what it leaves in the recording is what was accepted, joined.
 -- Assumes nothing.
-use Rattle.std.specs.Prelude.{ℕ, zero, suc, ◌+◌, ◌-◌, ◌*◌, ◌≤◌, ◌<◌, min, ◌≡◌, refl, ◌⊎◌, Bool, true, false, ◌||◌, not, List, [], ◌∷◌, ◌++◌, leb, eqb, length, take}
+use Rattle.std.specs.Prelude.{ℕ, zero, suc, ◌+◌, ◌-◌, ◌*◌, ◌≤◌, ◌<◌, min, ◌≡◌, refl, ◌⊎◌, Bool, true, false, ◌||◌, not, List, [], ◌∷◌, ◌++◌, leb, eqb, length, take, Ok, Err, Some, None}
 use Rattle.std.proofs.Common.{arith, sym, ap, ◌∙◌, subst, inl, inr, ⊎_elim, append-nil, length-append, length-take-le, le-leb, leb-true, eq-eqb}
 use Rattle.std.proofs.lemmas.List.Edits.{sets}
 use Rattle.std.proofs.Math.Seq.{length-sets}
@@ -23,7 +23,7 @@ use Rattle.turns.specs.Log.{Line, Ran, onward, waiting_by, line_of, next_of, res
 use Rattle.turns.specs.Capture.{catch_of, length_good, captured_of, caught_of, reaches, accepts, payload_for, kept_more, keep_of, caught_turn, capture_call, recording_after}
 use Rattle.turns.specs.CaptureLaws.{keeps-room}
 use Rattle.turns.specs.Captured.{Came, nothing_came, catch_in, payload_of, captured, Taken, taking, takes, Lends, LengthGood, taken_more, taken}
-use Rattle.turns.specs.Types.{Track, Sent, Nothing, Heard, Silent, Freed, Said, Going, Done, Ended, Refused, Step, Reading, Quiet, Completed, Choice, Submit, Finish, Wait, Outcome, Fine, Fails, Verdict, WrongSlot, Good, Bad}
+use Rattle.turns.specs.Types.{Track, Sent, Heard, Said, Going, Done, Ended, Refused, Step, Reading, Choice, Submit, Finish, Wait, Outcome, Verdict, WrongSlot, Good, Bad, freed_slot}
 
 -- ---- A CAPTURE'S JUDGEMENT
 
@@ -32,11 +32,11 @@ abbrev pub TwoOrSeventeen : ℕ → Type 0
 TwoOrSeventeen n = (n ≡ 2) ⊎ (n ≡ 17)
 
 widen : (status : ℕ) (o : Outcome) → Fair Two o status → Fair TwoOrSeventeen o status
-widen status Fine f = f
-widen status (Fails r) f = (inl f.0, f.1)
+widen status (Ok tt) f = f
+widen status (Err r) f = (inl f.0, f.1)
 
-captured-by : (status : ℕ) (good : Bool) → Fair TwoOrSeventeen (pick good (played_of status) (Fails BadCapture)) status
-captured-by status true = widen status (played_of status) (played-just.fair (new_track direct) Quiet status)
+captured-by : (status : ℕ) (good : Bool) → Fair TwoOrSeventeen (pick good (played_of status) (Err BadCapture)) status
+captured-by status true = widen status (played_of status) (played-just.fair (new_track direct) None status)
 captured-by status false = (inr refl, λ e. omega arith)
 
 pub captured-just : Just captured TwoOrSeventeen
@@ -44,21 +44,21 @@ unfolding captured_of
 captured-just = record { fair = λ t x status. captured-by status (length_good t.period x.written); known = λ n e. e }
 
 -- what is accepted is of a good length
-fine-by : (period written status : ℕ) (good : Bool) → length_good period written ≡ good → pick good (played_of status) (Fails BadCapture) ≡ Fine → (8 ≤ written) × (written ≤ period + 8)
+fine-by : (period written status : ℕ) (good : Bool) → length_good period written ≡ good → pick good (played_of status) (Err BadCapture) ≡ Ok tt → (8 ≤ written) × (written ≤ period + 8)
 fine-by period written status true g e = let b = both (leb 8 written) (leb written (period + 8)) g in (leb-true _ _ b.0, leb-true _ _ b.1)
 fine-by period written status false g e = let z : ◌≡◌ {A = ℕ} 0 1 = cc in absurd (omega arith)
 
-fine-good : (period written status : ℕ) → captured_of period written status ≡ Fine → (8 ≤ written) × (written ≤ period + 8)
+fine-good : (period written status : ℕ) → captured_of period written status ≡ Ok tt → (8 ≤ written) × (written ≤ period + 8)
 unfolding captured_of
 fine-good period written status e = fine-by period written status _ refl e
 
 -- a completion of a good length comes to what its status does
 good-plays : (period written : ℕ) (reading : Reading) → (8 ≤ written) × (written ≤ period + 8) → comes_to (captured_of period written) reading ≡ comes_to played_of reading
 unfolding captured_of
-good-plays period written Quiet g = refl
-good-plays period written (Completed slot status) g =
+good-plays period written None g = refl
+good-plays period written (Some c) g =
     let e : length_good period written ≡ true = rw (le-leb 8 written g.0, le-leb written (period + 8) g.1) in
-    picks (length_good period written) (played_of status) (Fails BadCapture) e
+    picks (length_good period written) (played_of c.status) (Err BadCapture) e
 
 -- ---- THE RULES DO NOT LOOK at what was accepted
 
@@ -94,13 +94,13 @@ settle-bare (Bad r) sent t slot status = refl
 
 hear-bare : (o : Outcome) (sent : Sent) (t : Track) (reading : Reading) → bare_step (hear o sent t reading) ≡ hear o sent (bare t) reading
 unfolding judge_of is_oldest
-hear-bare o sent t Quiet = refl
-hear-bare o sent t (Completed slot status) = settle-bare (judge_of t slot o) sent t slot status
+hear-bare o sent t None = refl
+hear-bare o sent t (Some c) = settle-bare (judge_of t c.slot o) sent t c.slot c.status
 
 act-bare : (c : Choice) (t : Track) (o : Outcome) (reading : Reading) → bare_step (act c t o reading) ≡ act c (bare t) o reading
 act-bare Submit t o reading = hear-bare o (sent_of t) (submit t) reading
 act-bare Finish t o reading = refl
-act-bare Wait t o reading = hear-bare o Nothing t reading
+act-bare Wait t o reading = hear-bare o None t reading
 
 counted-by : (said : Said) (last : Bool) (s : Step) → bare_step (counted_by said last s) ≡ counted_by said last (bare_step s)
 counted-by Going true s = refl
@@ -125,16 +125,16 @@ waits-bare Wait t = refl
 -- ---- ONE TURN of a capture that runs, with enough bytes lent
 
 reach : (reading : Reading) (lent need : ℕ) → need ≤ lent → reaches reading lent need ≡ true
-reach Quiet lent need h = refl
-reach (Completed slot status) lent need h = le-leb need lent h
+reach None lent need h = refl
+reach (Some c) lent need h = le-leb need lent h
 
 or-true : (a b : Bool) → b ≡ true → (a || b) ≡ true
 or-true true b e = refl
 or-true false b e = e
 
-quiet_of : (x : Came) → x.kind ≡ 0 → (catch_in x).reading ≡ Quiet
+quiet_of : (x : Came) → x.kind ≡ 0 → (catch_in x).reading ≡ None
 unfolding catch_of
-quiet_of x e = picks (eqb x.kind 0) Quiet _ (eq-eqb _ _ e)
+quiet_of x e = picks (eqb x.kind 0) None _ (eq-eqb _ _ e)
 
 lends-reach : (period : ℕ) (x : Came) → Lends period x → reaches (catch_in x).reading (catch_in x).lent (min (catch_in x).written (period + 8)) ≡ true
 unfolding catch_of
@@ -247,7 +247,7 @@ judges-status = record { quiet = nothing_came; reading = λ x. (catch_in x).read
 
 pub status-just : Just judges-status Two
 unfolding judges-status
-status-just = record { fair = λ t x status. played-just.fair t Quiet status; known = λ n e. inl e }
+status-just = record { fair = λ t x status. played-just.fair t None status; known = λ n e. inl e }
 
 same_outcome : (t : Track) (script : List Came) → All (LengthGood t.period) script → let x = next_of nothing_came script in judged_of captured t x ≡ comes_to played_of (catch_in x).reading
 unfolding catch_of
@@ -290,37 +290,37 @@ submit-roomy most t p more r = by r.left r.all r.room
     by (suc m) all room = record { left = m; all = omega arith; room = omega arith }
 
 -- what a turn accepts is at most a period
-accepts-period : (o : Outcome) (heard : Heard) (payload period : ℕ) → (o ≡ Fine → payload ≤ period) → accepts o heard payload ≤ period
-accepts-period Fine (Freed slot status) payload period h = h refl
-accepts-period Fine Silent payload period h = omega arith
-accepts-period (Fails r) heard payload period h = omega arith
+accepts-period : (o : Outcome) (heard : Heard) (payload period : ℕ) → (o ≡ Ok tt → payload ≤ period) → accepts o heard payload ≤ period
+accepts-period (Ok tt) (Some f) payload period h = h refl
+accepts-period (Ok tt) None payload period h = omega arith
+accepts-period (Err r) heard payload period h = omega arith
 
-silent-none : (o : Outcome) (payload : ℕ) → accepts o Silent payload ≡ 0
-silent-none Fine payload = refl
-silent-none (Fails r) payload = refl
+silent-none : (o : Outcome) (payload : ℕ) → accepts o None payload ≡ 0
+silent-none (Ok tt) payload = refl
+silent-none (Err r) payload = refl
 
 -- a completion that is fine brings at most a period
 abbrev Small : Outcome → ℕ → ℕ → Reading → Type 0
-Small o payload period Quiet = Unit {0}
-Small o payload period (Completed slot status) = o ≡ Fine → payload ≤ period
+Small o payload period None = Unit {0}
+Small o payload period (Some c) = o ≡ Ok tt → payload ≤ period
 
 -- after rule 2, with what it accepted
 hear-roomy : (most payload : ℕ) (o : Outcome) (sent : Sent) (t : Track) (reading : Reading) → Small o payload t.period reading → Roomy most t
     → let s = hear o sent t reading in Roomy most (kept_more (accepts o s.heard payload) s.track)
-hear-roomy most payload o sent t Quiet small r = let z = silent-none o payload in record { left = r.left; all = r.all; room = omega (arith, r.room) }
-hear-roomy most payload o sent t (Completed named reported) small r =
-    hear-cases (λ s. Roomy most (kept_more (accepts o s.heard payload) s.track)) sent t o (Completed named reported)
+hear-roomy most payload o sent t None small r = let z = silent-none o payload in record { left = r.left; all = r.all; room = omega (arith, r.room) }
+hear-roomy most payload o sent t (Some c) small r =
+    hear-cases (λ s. Roomy most (kept_more (accepts o s.heard payload) s.track)) sent t o (Some c)
     (λ _ _. let z = silent-none o payload in record { left = r.left; all = r.all; room = omega (arith, r.room) })
     (λ slot status _ _ some _ _.
     let n = one_less t.inflight t.period some in
-    let a = accepts-period o (Freed slot status) payload t.period small in
+    let a = accepts-period o (freed_slot slot status) payload t.period small in
     record { left = r.left; all = r.all; room = omega (arith, r.room) })
 
 act-roomy : (least most payload : ℕ) (t : Track) (o : Outcome) (reading : Reading) (c : Choice) → Chosen least t c → 0 < t.period → Small o payload t.period reading → Roomy most t
     → let s = act c t o reading in Roomy most (kept_more (accepts o s.heard payload) s.track)
 act-roomy least most payload t o reading Submit ch p small r = hear-roomy most payload o (sent_of t) (submit t) reading small (submit-roomy most t p ch.1 r)
 act-roomy least most payload t o reading Finish ch p small r = let z = silent-none o payload in record { left = r.left; all = r.all; room = omega (arith, r.room) }
-act-roomy least most payload t o reading Wait ch p small r = hear-roomy most payload o Nothing t reading small r
+act-roomy least most payload t o reading Wait ch p small r = hear-roomy most payload o None t reading small r
 
 turn-roomy : (least most payload : ℕ) (t : Track) (o : Outcome) (reading : Reading) → 0 < t.period → Small o payload t.period reading → Roomy most t
     → let s = counted_of (turn_of least t o reading) in Roomy most (kept_more (accepts o s.heard payload) s.track)
@@ -332,70 +332,70 @@ turn-roomy least most payload t o reading p small r =
     (λ _ _. record { left = k.left; all = k.all; room = k.room })
 
 -- a turn's payload is good for what it accepts, and no longer than a period
-payload-by : (t : Track) (x : Came) (reading : Reading) → min x.written (t.period + 8) ≤ length x.bytes → comes_to (captured_of t.period x.written) reading ≡ Fine
-    → (reading ≡ Quiet) ⊎ ((x.written - 8 ≤ t.period) × (x.written ≤ length x.bytes))
-payload-by t x Quiet l e = inl refl
-payload-by t x (Completed slot status) l e = let g = fine-good t.period x.written status e in inr (omega arith, omega arith)
+payload-by : (t : Track) (x : Came) (reading : Reading) → min x.written (t.period + 8) ≤ length x.bytes → comes_to (captured_of t.period x.written) reading ≡ Ok tt
+    → (reading ≡ None) ⊎ ((x.written - 8 ≤ t.period) × (x.written ≤ length x.bytes))
+payload-by t x None l e = inl refl
+payload-by t x (Some c) l e = let g = fine-good t.period x.written c.status e in inr (omega arith, omega arith)
 
-small-payload : (t : Track) (x : Came) → Lends t.period x → comes_to (captured_of t.period x.written) (catch_in x).reading ≡ Fine
-    → ((catch_in x).reading ≡ Quiet) ⊎ ((x.written - 8 ≤ t.period) × (x.written ≤ length x.bytes))
+small-payload : (t : Track) (x : Came) → Lends t.period x → comes_to (captured_of t.period x.written) (catch_in x).reading ≡ Ok tt
+    → ((catch_in x).reading ≡ None) ⊎ ((x.written - 8 ≤ t.period) × (x.written ≤ length x.bytes))
 small-payload t x (inl k) e = inl (quiet_of x k)
 small-payload t x (inr h) e = payload-by t x (catch_in x).reading h e
 
 small_by : (period written payload : ℕ) (reading : Reading) → payload ≤ written - 8 → Small (comes_to (captured_of period written) reading) payload period reading
-small_by period written payload Quiet h = tt
-small_by period written payload (Completed slot status) h = λ e. let g = fine-good period written status e in omega arith
+small_by period written payload None h = tt
+small_by period written payload (Some c) h = λ e. let g = fine-good period written c.status e in omega arith
 
 -- what a turn accepted, as bytes: the payload where it was accepted
 abbrev accepted_of : Outcome → Heard → List ℕ → List ℕ
 accepted_of o heard payload = join (taken_more o heard payload [])
 
 more-joined : (o : Outcome) (heard : Heard) (payload : List ℕ) (rest : List (List ℕ)) → join (taken_more o heard payload rest) ≡ accepted_of o heard payload ++ join rest
-more-joined Fine (Freed slot status) payload rest = rw (append-nil payload)
-more-joined Fine Silent payload rest = refl
-more-joined (Fails r) heard payload rest = refl
+more-joined (Ok tt) (Some f) payload rest = rw (append-nil payload)
+more-joined (Ok tt) None payload rest = refl
+more-joined (Err r) heard payload rest = refl
 
 -- the first bytes of what was lent, as many as were accepted
-accepted-bytes : (o : Outcome) (heard : Heard) (n m : ℕ) (bytes : List ℕ) → (o ≡ Fine → (slot status : ℕ) → heard ≡ Freed slot status → (n ≡ m) × (m ≤ length bytes))
+accepted-bytes : (o : Outcome) (heard : Heard) (n m : ℕ) (bytes : List ℕ) → (o ≡ Ok tt → (slot status : ℕ) → heard ≡ freed_slot slot status → (n ≡ m) × (m ≤ length bytes))
     → (take (accepts o heard n) bytes ≡ accepted_of o heard (take m bytes)) × (accepts o heard n ≡ length (accepted_of o heard (take m bytes)))
-accepted-bytes Fine (Freed slot status) n m bytes h =
-    let p = h refl slot status refl in
+accepted-bytes (Ok tt) (Some f) n m bytes h =
+    let p = h refl f.slot f.status refl in
     (rw (append-nil (take m bytes), p.0), rw (append-nil (take m bytes)) (p.0 ∙ sym (length-take-le m bytes p.1)))
-accepted-bytes Fine Silent n m bytes h = (refl, refl)
-accepted-bytes (Fails r) heard n m bytes h = (refl, refl)
+accepted-bytes (Ok tt) None n m bytes h = (refl, refl)
+accepted-bytes (Err r) heard n m bytes h = (refl, refl)
 
 -- a slot is freed only where its period was lent room
-freed-room : (most : ℕ) (o : Outcome) (sent : Sent) (t : Track) (reading : Reading) → Roomy most t → (slot status : ℕ) → (hear o sent t reading).heard ≡ Freed slot status → t.kept + t.period ≤ most
+freed-room : (most : ℕ) (o : Outcome) (sent : Sent) (t : Track) (reading : Reading) → Roomy most t → (slot status : ℕ) → (hear o sent t reading).heard ≡ freed_slot slot status → t.kept + t.period ≤ most
 freed-room most o sent t reading r =
-    hear-cases (λ s. (slot status : ℕ) → s.heard ≡ Freed slot status → t.kept + t.period ≤ most) sent t o reading
+    hear-cases (λ s. (slot status : ℕ) → s.heard ≡ freed_slot slot status → t.kept + t.period ≤ most) sent t o reading
     (λ _ _ slot status e. absurd (silent-freed slot status e))
     (λ _ _ _ _ some _ _ _ _ _. let n = one_less t.inflight t.period some in omega (arith, r.room))
   where
-    silent-freed : (slot status : ℕ) → Silent ≡ Freed slot status → ⊥
+    silent-freed : (slot status : ℕ) → None ≡ freed_slot slot status → ⊥
     silent-freed slot status e = let z : ◌≡◌ {A = ℕ} 0 1 = cc in omega arith
 
-act-freed : (least most : ℕ) (t : Track) (o : Outcome) (reading : Reading) (c : Choice) → Chosen least t c → 0 < t.period → Roomy most t → (slot status : ℕ) → (act c t o reading).heard ≡ Freed slot status → t.kept + t.period ≤ most
+act-freed : (least most : ℕ) (t : Track) (o : Outcome) (reading : Reading) (c : Choice) → Chosen least t c → 0 < t.period → Roomy most t → (slot status : ℕ) → (act c t o reading).heard ≡ freed_slot slot status → t.kept + t.period ≤ most
 act-freed least most t o reading Submit ch p r = freed-room most o (sent_of t) (submit t) reading (submit-roomy most t p ch.1 r)
 act-freed least most t o reading Finish ch p r = λ slot status e. let z : ◌≡◌ {A = ℕ} 0 1 = cc in absurd (omega arith)
-act-freed least most t o reading Wait ch p r = freed-room most o Nothing t reading r
+act-freed least most t o reading Wait ch p r = freed-room most o None t reading r
 
-turn-freed : (least most : ℕ) (t : Track) (o : Outcome) (reading : Reading) → 0 < t.period → Roomy most t → (slot status : ℕ) → (counted_of (turn_of least t o reading)).heard ≡ Freed slot status → t.kept + t.period ≤ most
+turn-freed : (least most : ℕ) (t : Track) (o : Outcome) (reading : Reading) → 0 < t.period → Roomy most t → (slot status : ℕ) → (counted_of (turn_of least t o reading)).heard ≡ freed_slot slot status → t.kept + t.period ≤ most
 unfolding turn_of
 turn-freed least most t o reading p r slot status =
     let k = act-freed least most t o reading (choose_of least t) (chosen least t) p r slot status in
-    counted-cases (λ s. s.heard ≡ Freed slot status → t.kept + t.period ≤ most) (turn_of least t o reading) (turn-plain least t o reading) (λ _. k) (λ _ _. k)
+    counted-cases (λ s. s.heard ≡ freed_slot slot status → t.kept + t.period ≤ most) (turn_of least t o reading) (turn-plain least t o reading) (λ _. k) (λ _ _. k)
 
 -- a quiet reading frees nothing
-act-quiet : (c : Choice) (t : Track) (o : Outcome) → (act c t o Quiet).heard ≡ Silent
+act-quiet : (c : Choice) (t : Track) (o : Outcome) → (act c t o None).heard ≡ None
 act-quiet Submit t o = refl
 act-quiet Finish t o = refl
 act-quiet Wait t o = refl
 
-turn-quiet : (least : ℕ) (t : Track) (o : Outcome) (reading : Reading) → reading ≡ Quiet → (counted_of (turn_of least t o reading)).heard ≡ Silent
+turn-quiet : (least : ℕ) (t : Track) (o : Outcome) (reading : Reading) → reading ≡ None → (counted_of (turn_of least t o reading)).heard ≡ None
 unfolding turn_of
 turn-quiet least t o reading e =
-    let k : (turn_of least t o reading).heard ≡ Silent = ap (λ (y : Reading). (act (choose_of least t) t o y).heard) e ∙ act-quiet (choose_of least t) t o in
-    counted-cases (λ s. s.heard ≡ Silent) (turn_of least t o reading) (turn-plain least t o reading) (λ _. k) (λ _ _. k)
+    let k : (turn_of least t o reading).heard ≡ None = ap (λ (y : Reading). (act (choose_of least t) t o y).heard) e ∙ act-quiet (choose_of least t) t o in
+    counted-cases (λ s. s.heard ≡ None) (turn_of least t o reading) (turn-plain least t o reading) (λ _. k) (λ _ _. k)
 
 -- what a turn accepts, as bytes
 abbrev got_of : ℕ → Came → Heard → List ℕ
@@ -417,7 +417,7 @@ turn-took most a x some fits l r =
     let s = counted_of (turn_of t.descriptors t o c.reading) in
     let kept : s.track.kept ≡ t.kept = ap (λ (z : Bool × ℕ × ℕ × ℕ × ℕ). z.2) (turn-after t.descriptors t o c.reading).2 in
     let more = accepts o s.heard (payload_for t c) in
-    let exact : o ≡ Fine → (slot status : ℕ) → s.heard ≡ Freed slot status → (payload_for t c ≡ x.written - 8) × (x.written - 8 ≤ length x.bytes) =
+    let exact : o ≡ Ok tt → (slot status : ℕ) → s.heard ≡ freed_slot slot status → (payload_for t c ≡ x.written - 8) × (x.written - 8 ≤ length x.bytes) =
     λ fine slot status e. by (turn-freed t.descriptors most t o c.reading some r slot status e) (small-payload t x l fine) slot status e in
     let b = accepted-bytes o s.heard (payload_for t c) (x.written - 8) x.bytes exact in
     let grown : s.track.kept + more - t.kept ≡ more = omega arith in (
@@ -427,12 +427,12 @@ turn-took most a x some fits l r =
     )
   where
     by : a.ring.track.kept + a.ring.track.period ≤ most
-        → (catch_in x).reading ≡ Quiet ⊎ ((x.written - 8 ≤ a.ring.track.period) × (x.written ≤ length x.bytes))
-        → (slot status : ℕ) → (counted_of (turn_of a.ring.track.descriptors a.ring.track (caught_of a.ring.track (catch_in x)) (catch_in x).reading)).heard ≡ Freed slot status
+        → (catch_in x).reading ≡ None ⊎ ((x.written - 8 ≤ a.ring.track.period) × (x.written ≤ length x.bytes))
+        → (slot status : ℕ) → (counted_of (turn_of a.ring.track.descriptors a.ring.track (caught_of a.ring.track (catch_in x)) (catch_in x).reading)).heard ≡ freed_slot slot status
         → (payload_for a.ring.track (catch_in x) ≡ x.written - 8) × (x.written - 8 ≤ length x.bytes)
     by room (inl q) slot status e =
         let n = turn-quiet a.ring.track.descriptors a.ring.track (caught_of a.ring.track (catch_in x)) (catch_in x).reading q in
-        let z : ◌≡◌ {A = Heard} Silent (Freed slot status) = sym n ∙ e in
+        let z : ◌≡◌ {A = Heard} None (freed_slot slot status) = sym n ∙ e in
         let w : ◌≡◌ {A = ℕ} 0 1 = cc in
         absurd (omega arith)
     by room (inr h) slot status e = (omega arith, omega arith)
@@ -447,29 +447,29 @@ ones o heard = length (taken_more o heard [] [])
 
 settle-counts : (sent : Sent) (t : Track) (slot status : ℕ) (o : Outcome) (v : Verdict) → Fair TwoOrSeventeen o status → Judged t slot o v
     → let s = settle v sent t slot status in Blameless s.said → ones o s.heard ≡ length (frees_more s.heard [])
-settle-counts sent t slot status Fine WrongSlot f j b = refl
-settle-counts sent t slot status (Fails r) WrongSlot f j b = refl
-settle-counts sent t slot status Fine Good f j b = refl
-settle-counts sent t slot status (Fails r) Good f j b = let z : ◌≡◌ {A = ℕ} 0 1 = cc in absurd (omega arith)
-settle-counts sent t slot status Fine (Bad a) f j b = let z : ◌≡◌ {A = ℕ} 0 1 = cc in absurd (omega arith)
-settle-counts sent t slot status (Fails r) (Bad a) f j b = absurd (b (subst (λ (x : Outcome). Fair TwoOrSeventeen x status) j.2 f).0)
+settle-counts sent t slot status (Ok tt) WrongSlot f j b = refl
+settle-counts sent t slot status (Err r) WrongSlot f j b = refl
+settle-counts sent t slot status (Ok tt) Good f j b = refl
+settle-counts sent t slot status (Err r) Good f j b = let z : ◌≡◌ {A = ℕ} 0 1 = cc in absurd (omega arith)
+settle-counts sent t slot status (Ok tt) (Bad a) f j b = let z : ◌≡◌ {A = ℕ} 0 1 = cc in absurd (omega arith)
+settle-counts sent t slot status (Err r) (Bad a) f j b = absurd (b (subst (λ (x : Outcome). Fair TwoOrSeventeen x status) j.2 f).0)
 
 hear-counts : (sent : Sent) (t : Track) (o : Outcome) (reading : Reading) → FairOf TwoOrSeventeen o reading → let s = hear o sent t reading in Blameless s.said → ones o s.heard ≡ length (frees_more s.heard [])
-hear-counts sent t o Quiet f b = silent-ones o
+hear-counts sent t o None f b = silent-ones o
   where
-    silent-ones : (o : Outcome) → ones o Silent ≡ 0
-    silent-ones Fine = refl
-    silent-ones (Fails r) = refl
-hear-counts sent t o (Completed slot status) f b = settle-counts sent t slot status o (judge_of t slot o) f (judged t slot o) b
+    silent-ones : (o : Outcome) → ones o None ≡ 0
+    silent-ones (Ok tt) = refl
+    silent-ones (Err r) = refl
+hear-counts sent t o (Some c) f b = settle-counts sent t c.slot c.status o (judge_of t c.slot o) f (judged t c.slot o) b
 
 act-counts : (c : Choice) (t : Track) (o : Outcome) (reading : Reading) → FairOf TwoOrSeventeen o reading → let s = act c t o reading in Blameless s.said → ones o s.heard ≡ length (frees_more s.heard [])
 act-counts Submit t o reading f b = hear-counts (sent_of t) (submit t) o reading f b
 act-counts Finish t o reading f b = silent-ones o
   where
-    silent-ones : (o : Outcome) → ones o Silent ≡ 0
-    silent-ones Fine = refl
-    silent-ones (Fails r) = refl
-act-counts Wait t o reading f b = hear-counts Nothing t o reading f b
+    silent-ones : (o : Outcome) → ones o None ≡ 0
+    silent-ones (Ok tt) = refl
+    silent-ones (Err r) = refl
+act-counts Wait t o reading f b = hear-counts None t o reading f b
 
 -- the count of turns changes what is said to 9 alone
 blameless-by : (said : Said) (last : Bool) (s : Step) → Blameless (counted_by said last s).said → Blameless said
@@ -493,9 +493,9 @@ turn-counts least t o reading f b =
     subst (λ (h : Heard). ones o h ≡ length (frees_more h [])) (sym (heard-by u.said last u)) (act-counts (choose_of least t) t o reading f (blameless-by u.said last u b))
 
 more-taken : (o : Outcome) (heard : Heard) (payload : List ℕ) (rest : List (List ℕ)) → length (taken_more o heard payload rest) ≡ ones o heard + length rest
-more-taken Fine (Freed slot status) payload rest = omega arith
-more-taken Fine Silent payload rest = omega arith
-more-taken (Fails r) heard payload rest = omega arith
+more-taken (Ok tt) (Some f) payload rest = omega arith
+more-taken (Ok tt) None payload rest = omega arith
+more-taken (Err r) heard payload rest = omega arith
 
 -- THE RECORDING after some turns: what was accepted is joined behind what was there
 pub record Filled (most period : ℕ) (a : Taken) (script : List Came) (h : Ran Taken) : Type 0 where

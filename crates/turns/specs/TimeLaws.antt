@@ -1,6 +1,6 @@
 -- A run whose queue makes no mistake and keeps completing answers Ok in time.
 -- Assumes nothing.
-use Rattle.std.specs.Prelude.{ℕ, zero, suc, ◌+◌, ◌*◌, ◌≤◌, ◌<◌, ◌≡◌, refl, ◌≢◌, Bool, true, false, List, [], ◌∷◌, ◌++◌, length, take}
+use Rattle.std.specs.Prelude.{ℕ, zero, suc, ◌+◌, ◌*◌, ◌≤◌, ◌<◌, ◌≡◌, refl, ◌≢◌, Bool, true, false, List, [], ◌∷◌, ◌++◌, length, take, Some, None}
 use Rattle.std.proofs.Common.{arith, zero-mul, ap, sym, ◌∙◌, subst, inl, inr, append_assoc, length-append, take_at, eqb-true}
 use Rattle.layout.specs.All.{All}
 use Rattle.layout.specs.AllLaws.{append-ok}
@@ -13,18 +13,18 @@ use Rattle.turns.specs.KeepLaws.{after-act, turn-plain, counted-track}
 use Rattle.turns.specs.AccountLaws.{turned, ahead, Fuelled, Fair, Just, FairOf, fair-of}
 use Rattle.turns.specs.Asked.{Any, Faultless, InFlight, Completes, Reports, CompletesWithin}
 use Rattle.turns.specs.Log.{Line, Ran, waiting_by, next_of, rest_of, loop_of, Judge, judged_of, run}
-use Rattle.turns.specs.Types.{Track, Sent, Nothing, Done, Reading, Quiet, Completed, Choice, Submit, Finish, Wait, Outcome, Verdict, WrongSlot, Good, Bad}
+use Rattle.turns.specs.Types.{Track, Sent, Done, Reading, Choice, Submit, Finish, Wait, Outcome, Verdict, WrongSlot, Good, Bad, completion}
 
 -- the same by counting down: within j more turns one reports, and after each report within g
 abbrev pub Lively-by : Reading → ℕ → Type 0 → (ℕ → Type 0) → ℕ → Type 0
-Lively-by Quiet waiting full less j = 0 < waiting → (k : ℕ) × (j ≡ suc k) × (0 < k) × less k
-Lively-by (Completed slot status) waiting full less j = full
+Lively-by None waiting full less j = 0 < waiting → (k : ℕ) × (j ≡ suc k) × (0 < k) × less k
+Lively-by (Some c) waiting full less j = full
 
 abbrev pub Lively : ℕ → ℕ → List Line → Type 0
 Lively g j [] = Unit {0}
 Lively g j (t ∷ ts) = Lively-by t.reading t.waiting (Lively g g ts) (λ k. Lively g k ts) j
 
-none_of : (pre : List Line) → All (λ t. t.reading ≡ Quiet) pre → Any Reports pre → ⊥
+none_of : (pre : List Line) → All (λ t. t.reading ≡ None) pre → Any Reports pre → ⊥
 none_of (t ∷ ts) q (inl h) = subst Completes q.0 h
 none_of (t ∷ ts) q (inr h) = none_of ts q.1 h
 none_of [] q e = elim e [ ]
@@ -38,17 +38,17 @@ every-after g (t ∷ pre) ts e = every-after g pre ts (every-tail g t (pre ++ ts
 
 -- what is left of a window, of which pre is the quiet part that has passed
 abbrev Begun : ℕ → ℕ → List Line → List Line → Type 0
-Begun g j pre log = (length pre + j ≡ g) × (0 < j) × All InFlight pre × All (λ t. t.reading ≡ Quiet) pre × CompletesWithin g (pre ++ log)
+Begun g j pre log = (length pre + j ≡ g) × (0 < j) × All InFlight pre × All (λ t. t.reading ≡ None) pre × CompletesWithin g (pre ++ log)
 
 lively-turn : (g j : ℕ) (pre : List Line) (t : Line) (ts : List Line) → Begun g j pre (t ∷ ts) → ((k : ℕ) (more : List Line) → Begun g k more ts → Lively g k ts)
     → (reading : Reading) → t.reading ≡ reading → Lively-by reading t.waiting (Lively g g ts) (λ k. Lively g k ts) j
-lively-turn g zero pre t ts b k Quiet s = λ h. absurd (omega arith)
-lively-turn g (suc zero) pre t ts b k Quiet s = λ h.
+lively-turn g zero pre t ts b k None s = λ h. absurd (omega arith)
+lively-turn g (suc zero) pre t ts b k None s = λ h.
     let window : take g (pre ++ t ∷ ts) ≡ pre ++ t ∷ [] = ap (take g) (sym (append_assoc pre (t ∷ []) ts)) ∙ take_at (pre ++ t ∷ []) ts g (simp length-append (omega arith)) in
-    absurd (none_of (pre ++ t ∷ []) (append-ok (λ t. t.reading ≡ Quiet) pre (t ∷ []) b.3 (s, tt)) (rw window at (b.4 0 (simp length-append (omega arith)) (rw window (append-ok InFlight pre (t ∷ []) b.2 (h, tt))))))
-lively-turn g (suc (suc j)) pre t ts b k Quiet s = λ h.
-    (suc j, refl, omega arith, k (suc j) (pre ++ t ∷ []) (simp length-append (omega arith), omega arith, append-ok InFlight pre (t ∷ []) b.2 (h, tt), append-ok (λ t. t.reading ≡ Quiet) pre (t ∷ []) b.3 (s, tt), simp append_assoc b.4))
-lively-turn g j pre t ts b k (Completed slot status) s = k g [] (omega arith, omega arith, tt, tt, every-tail g t ts (every-after g pre (t ∷ ts) b.4))
+    absurd (none_of (pre ++ t ∷ []) (append-ok (λ t. t.reading ≡ None) pre (t ∷ []) b.3 (s, tt)) (rw window at (b.4 0 (simp length-append (omega arith)) (rw window (append-ok InFlight pre (t ∷ []) b.2 (h, tt))))))
+lively-turn g (suc (suc j)) pre t ts b k None s = λ h.
+    (suc j, refl, omega arith, k (suc j) (pre ++ t ∷ []) (simp length-append (omega arith), omega arith, append-ok InFlight pre (t ∷ []) b.2 (h, tt), append-ok (λ t. t.reading ≡ None) pre (t ∷ []) b.3 (s, tt), simp append_assoc b.4))
+lively-turn g j pre t ts b k (Some c) s = k g [] (omega arith, omega arith, tt, tt, every-tail g t ts (every-after g pre (t ∷ ts) b.4))
 
 lively-by : (g j : ℕ) (pre : List Line) (log : List Line) → Begun g j pre log → Lively g j log
 lively-by g j pre [] b = tt
@@ -79,7 +79,7 @@ Alive Fault g b f w j t o = Fuelled f t → w ≡ t.inflight + length (ahead f t
 
 settle-live : (Fault : ℕ → Type 0) (g b f w j : ℕ) (sent : Sent) (t : Track) (slot status : ℕ) (o : Outcome) (last : Bool) (rest : Ran Track) → (last ≡ true → b ≡ 0) → Fair Fault o status → (v : Verdict) → Judged t slot o v
     → ((w j : ℕ) → Alive Fault g b f w j (settle v sent t slot status).track rest)
-    → Alive Fault g (suc b) f (suc w) j t (turned t.inflight (Completed slot status) last (settle v sent t slot status) rest)
+    → Alive Fault g (suc b) f (suc w) j t (turned t.inflight (completion slot status) last (settle v sent t slot status) rest)
 settle-live Fault g b f w j sent t slot status o last rest out fair WrongSlot ju k fu e p q c l d = absurd (c.0.0 refl)
 settle-live Fault g b f w j sent t slot status o true rest out fair Good ju k fu e p q c l d = let z : b ≡ 0 = out refl in absurd (omega arith)
 settle-live Fault g b f w j sent t slot status o false rest out fair Good ju k fu e p q c l d =
@@ -90,13 +90,13 @@ settle-live Fault g b f w j sent t slot status o last rest out fair (Bad a) ju k
 hear-live : (Fault : ℕ → Type 0) (g b f w j : ℕ) (sent : Sent) (t : Track) (o : Outcome) (reading : Reading) (last : Bool) (rest : Ran Track) → (last ≡ true → b ≡ 0) → FairOf Fault o reading → 0 < t.inflight
     → ((w j : ℕ) → Alive Fault g b f w j (hear o sent t reading).track rest)
     → Alive Fault g (suc b) f (suc w) j t (turned t.inflight reading last (hear o sent t reading) rest)
-hear-live Fault g b f w j sent t o Quiet true rest out fair some k fu e p q c l d = let z : b ≡ 0 = out refl in absurd (omega arith)
-hear-live Fault g b f w j sent t o Quiet false rest out fair some k fu e p q c l d =
+hear-live Fault g b f w j sent t o None true rest out fair some k fu e p q c l d = let z : b ≡ 0 = out refl in absurd (omega arith)
+hear-live Fault g b f w j sent t o None false rest out fair some k fu e p q c l d =
     let n = l some in
     let got = k (suc w) n.0 fu e n.2 (omega arith) c.1 n.3 (omega arith) in
     (got.0, omega arith)
-hear-live Fault g b f w j sent t o (Completed slot status) last rest out fair some k fu e p q c l d =
-    settle-live Fault g b f w j sent t slot status o last rest out fair (judge_of t slot o) (judged t slot o) k fu e p q c l d
+hear-live Fault g b f w j sent t o (Some c₁) last rest out fair some k fu e p q c l d =
+    settle-live Fault g b f w j sent t c₁.slot c₁.status o last rest out fair (judge_of t c₁.slot o) (judged t c₁.slot o) k fu e p q c l d
 
 -- with nothing in flight there is room
 room : (least : ℕ) (t : Track) → least ≤ 32 → t.inflight ≡ 0 → least ≤ free t
@@ -118,7 +118,7 @@ act-live Fault least g b f zero j t o reading last rest out fair Wait fits ch k 
     absurd (ch.1 (room least t fits z) z)
 act-live Fault least g b f (suc w) j t o reading last rest out fair Wait fits ch k fu e p q c l u =
     let some : t.inflight ≢ 0 = λ z. ch.1 (room least t fits z) z in
-    hear-live Fault g b f w j Nothing t o reading last rest out fair (omega arith) (k f) fu e p q c l u
+    hear-live Fault g b f w j None t o reading last rest out fair (omega arith) (k f) fu e p q c l u
 
 -- THE TIME LAW, of a run by any judgement
 pub live : {R : Type 0} {Fault : ℕ → Type 0} (judge : Judge R) → Just judge Fault → (least g b f w j : ℕ) (t : Track) (script : List R) → least ≤ 32 → t.turns + b ≡ t.budget → Alive Fault g b f w j t (run judge least b t script)

@@ -1,6 +1,6 @@
 -- Document 01's worked transfers, computed over the definitions: a new ring, the start of a transfer, and turns until one does not go on.
 -- Assumes nothing.
-use Rattle.std.specs.Prelude.{ℕ, zero, suc, ◌+◌, ◌≡◌, refl, true, List, [], ◌∷◌, ◌++◌, length, replicate}
+use Rattle.std.specs.Prelude.{ℕ, zero, suc, ◌+◌, ◌≡◌, refl, true, List, [], ◌∷◌, ◌++◌, length, replicate, None, Some}
 use Rattle.std.proofs.Common.{inl, inr, arith}
 use Rattle.codes.specs.Says.{guard}
 use Rattle.codes.specs.declared.answers.Refusal.TheVariants.{WrongToken, OutOfTurns}
@@ -16,12 +16,12 @@ use Rattle.turns.specs.Calls.{start_call, started_of, traced_call, drain_call, t
 use Rattle.turns.specs.Log.{Ran, loop_of, turn_by_turn, sends}
 use Rattle.turns.specs.Asked.{plays, Idle, NoFault, CompletesWithin}
 use Rattle.turns.specs.PremiseLaws.{by-faultless, by-within}
-use Rattle.turns.specs.Types.{Ring, Sent, Nothing, Period, Said, Going, Done, Ended, Turned, Reading, Quiet, Completed}
+use Rattle.turns.specs.Types.{Ring, Sent, Said, Going, Done, Ended, Turned, Reading, completion}
 
 abbrev lens : List Sent → List ℕ
 lens [] = []
-lens (Nothing ∷ xs) = lens xs
-lens (Period slot offset len ∷ xs) = len ∷ lens xs
+lens (None ∷ xs) = lens xs
+lens (Some p ∷ xs) = p.len ∷ lens xs
 
 -- what the start says, what the turns come to, their number, the lengths that went out, and how many are in flight afterwards
 abbrev pub comes_to : ℕ → ℕ → ℕ → List Reading → Said × Said × ℕ × List ℕ × ℕ
@@ -33,7 +33,7 @@ comes_to total period budget script =
 -- "empty frames: Ok on turn 1"; "10 bytes, period 4: lengths 4, 4, 2; a right completion every turn: Ok on turn 4";
 -- "11 periods, all quiet, budget 12: answer 9, 10 in flight"
 pub worked : (comes_to 0 4 5 [] ≡ (Going, Done, 1, [], 0))
-    × (comes_to 10 4 9 (Completed 0 0x8000 ∷ Completed 1 0x8000 ∷ Completed 2 0x8000 ∷ []) ≡ (Going, Done, 4, 4 ∷ 4 ∷ 2 ∷ [], 0))
+    × (comes_to 10 4 9 (completion 0 0x8000 ∷ completion 1 0x8000 ∷ completion 2 0x8000 ∷ []) ≡ (Going, Done, 4, 4 ∷ 4 ∷ 2 ∷ [], 0))
     × (comes_to 11 1 12 [] ≡ (Going, Ended OutOfTurns, 12, replicate 10 1, 10))
 unfolding loop_of start_call traced_call guard placed_of paced_of turn_of choose_of played_of is_oldest judge_of counted_of
 worked = (refl, refl, refl)
@@ -51,7 +51,7 @@ full-ring = (refl, refl, refl, refl, refl)
 
 abbrev two_each : ℕ → ℕ → List Reading
 two_each zero slot = []
-two_each (suc n) slot = Quiet ∷ Completed slot 0x8000 ∷ two_each n (slot + 1)
+two_each (suc n) slot = None ∷ completion slot 0x8000 ∷ two_each n (slot + 1)
 
 abbrev pub announced : Ran Ring
 announced = plays (new_ring direct) 0 3 25 (replicate 35 7) (two_each 12 0)
@@ -69,14 +69,14 @@ premises-met = (record { consistent = refl; stopped = refl; empty = refl }, by-f
 -- a drain turn frees slot 0, and slot 1 stays owed until the host passes its completion again
 
 abbrev out_of_order : Ran Ring
-out_of_order = plays (new_ring direct) 0 4 9 (replicate 8 0) (Quiet ∷ Completed 1 0x8000 ∷ [])
+out_of_order = plays (new_ring direct) 0 4 9 (replicate 8 0) (None ∷ completion 1 0x8000 ∷ [])
 
 abbrev drained_once : Turned
-drained_once = turned_of out_of_order.at (drain_call out_of_order.at.track (Completed 0 0x8000))
+drained_once = turned_of out_of_order.at (drain_call out_of_order.at.track (completion 0 0x8000))
 
 pub stuck : (out_of_order.said ≡ Ended WrongToken) × (drained_once.said ≡ Done) × (drained_once.ring.track.inflight ≡ 1)
-    × ((turned_of drained_once.ring (drain_call drained_once.ring.track Quiet)).ring.track.inflight ≡ 1)
-    × (idle_of (turned_of drained_once.ring (drain_call drained_once.ring.track (Completed 1 0x8000))).ring.track ≡ true)
+    × ((turned_of drained_once.ring (drain_call drained_once.ring.track None)).ring.track.inflight ≡ 1)
+    × (idle_of (turned_of drained_once.ring (drain_call drained_once.ring.track (completion 1 0x8000))).ring.track ≡ true)
 unfolding loop_of start_call traced_call drain_call guard placed_of paced_of turn_of choose_of played_of is_oldest judge_of counted_of
 stuck = (refl, refl, refl, refl, refl)
 

@@ -5,11 +5,8 @@ ghost use Rattle.turns.specs.Calls.{started_of};
 ghost use Rattle.turns.specs.ConsistentLaws.{Consistent};
 ghost use Rattle.turns.specs.Capture.{catch_of, length_good, captured_of, caught_of, lends_all, accepts, payload_for, keep_of, caught_turn, capture_call, recording_after, Captures, capture_start, capture_offer};
 
-use crate::calls::Offer;
-use crate::consistent::is_consistent;
-use crate::reading::Reading;
-use crate::ring::{Heard, Ring, Said, Step, Track, Turned};
-use crate::rules::Outcome;
+use crate::reading::Completion;
+use crate::ring::{Freed, Period, Ring, Said, Step, Track, Turned};
 use crate::{calls, rules};
 use codes::Refusal;
 use layout;
@@ -18,7 +15,7 @@ use layout;
 // that the host lends of its own buffer.
 #[derive(Clone, Copy)]
 pub struct Catch {
-    pub reading: Reading,
+    pub reading: Option<Completion>,
     // What the device says that it wrote: the payload and the 8 bytes of the status.
     pub written: u32,
     // The length of the bytes lent.
@@ -29,10 +26,7 @@ pub struct Catch {
 fn payload_len(written: u32) -> usize
     ensures { result ≡ written - 8 }
 {
-    if written < 8 {
-        return 0;
-    }
-    written as usize - 8
+    (written as usize).saturating_sub(8)
 }
 
 impl Catch {
@@ -41,7 +35,7 @@ impl Catch {
     {
         let at = payload_len(written);
         let status = layout::get_u32(bytes, at);
-        let reading = Reading::from_words(kind, slot, status);
+        let reading = Completion::from_words(kind, slot, status);
         Catch {
             reading,
             written,
@@ -54,35 +48,33 @@ impl Catch {
 fn length_good(period: usize, written: u32) -> bool
     ensures { result ≡ length_good period written }
 {
-    if written < 8 {
-        return false;
-    }
-    written as usize - 8 <= period
+    written >= 8 && written as usize - 8 <= period
 }
 
 // What a completion comes to: 17 for its length, then 2 for its status.
-fn captured(period: usize, written: u32, status: u32) -> Outcome
+fn captured(period: usize, written: u32, status: u32) -> Result<(), Refusal>
     ensures { result ≡ captured_of period written status }
 {
     let good = length_good(period, written);
     if !good {
-        return Outcome::Fails(Refusal::BadCapture);
+        return Err(Refusal::BadCapture);
     }
     rules::played(status)
 }
 
 // What a turn's catch comes to.
-fn caught(t: Track, c: Catch) -> Outcome
+fn caught(t: Track, c: Catch) -> Result<(), Refusal>
     ensures { result ≡ caught_of t c }
 {
     let reading = c.reading;
     match reading {
-        Reading::Quiet => Outcome::Fine,
-        Reading::Completed { slot: _, status } => captured(t.period, c.written, status),
+        None => Ok(()),
+        Some(done) => captured(t.period, c.written, done.status),
     }
 }
 
 // The bytes that a completion needs: what was written, or all that a device may write.
+// No `min`: period + 8 is summed only where it fits.
 fn needed(period: usize, written: u32) -> usize
     ensures { result ≡ min written (period + 8) }
 {
@@ -102,8 +94,8 @@ fn lends_all(t: Track, c: Catch) -> bool
     }
     let reading = c.reading;
     match reading {
-        Reading::Quiet => true,
-        Reading::Completed { slot: _, status: _ } => {
+        None => true,
+        Some(_) => {
             let need = needed(t.period, c.written);
             need <= c.lent
         }
@@ -116,19 +108,18 @@ fn payload_for(t: Track, c: Catch) -> usize
     ensures { result ≡ payload_for t c }
 {
     let brought = payload_len(c.written);
-    let room = t.lent - t.kept;
-    if brought <= room { brought } else { room }
+    brought.min(t.lent - t.kept)
 }
 
 // What is accepted: a payload whose slot was freed and that came to no refusal.
-fn accepts(outcome: Outcome, heard: Heard, payload: usize) -> usize
+fn accepts(outcome: Result<(), Refusal>, heard: Option<Freed>, payload: usize) -> usize
     ensures { result ≡ accepts outcome heard payload }
 {
     match outcome {
-        Outcome::Fails(_) => 0,
-        Outcome::Fine => match heard {
-            Heard::Silent => 0,
-            Heard::Freed { slot: _, status: _ } => payload,
+        Err(_) => 0,
+        Ok(()) => match heard {
+            None => 0,
+            Some(_) => payload,
         },
     }
 }
@@ -167,21 +158,11 @@ fn caught_turn(t: Track, c: Catch) -> Step
 pub fn capture_track(t: Track, len: usize, c: Catch) -> Step
     ensures { result ≡ capture_call t len c }
 {
-    let lends = lends_all(t, c);
-    if !lends {
+    if !lends_all(t, c) {
         return calls::refused(Refusal::BadLength, t);
     }
-    let agrees = calls::length_agrees(t, len);
-    if !agrees {
-        return calls::refused(Refusal::BadLength, t);
-    }
-    let sound = is_consistent(t);
-    if !sound {
-        return calls::refused(Refusal::InvalidParam, t);
-    }
-    let runs = calls::runs_as(true, t);
-    if !runs {
-        return calls::refused(Refusal::InvalidParam, t);
+    if let Err(refusal) = calls::admit(true, t, len) {
+        return calls::refused(refusal, t);
     }
     caught_turn(t, c)
 }
@@ -213,7 +194,7 @@ pub fn copy(recording: &mut [u8], t: Track, s: Step, bytes: &[u8])
         return;
     }
     let more = u.kept - t.kept;
-    let payload = calls::part(bytes, 0, more);
+    let payload = layout::part(bytes, 0, more);
     layout::put_bytes(recording, t.kept, payload);
 }
 
@@ -228,19 +209,8 @@ pub fn capture_start_track(
 ) -> Step
     ensures { result ≡ capture_start t stream periods period len budget }
 {
-    let sound = is_consistent(t);
-    if !sound {
-        return calls::refused(Refusal::InvalidParam, t);
-    }
-    let free = calls::is_idle(t);
-    if !free {
-        return calls::refused(Refusal::Busy, t);
-    }
-    if period == 0 {
-        return calls::refused(Refusal::InvalidParam, t);
-    }
-    if budget == 0 {
-        return calls::refused(Refusal::OutOfTurns, t);
+    if let Err(refusal) = calls::ready(t, period, budget) {
+        return calls::refused(refusal, t);
     }
     // so their product is no more than the recording
     if len / period < periods {
@@ -263,14 +233,11 @@ pub fn capture_start(
     ensures { result ≡ started_of r (capture_start r.track stream periods period (length recording.now) budget) }
 {
     let s = capture_start_track(r.track, stream, periods, period, recording.len(), budget);
-    Turned {
-        turns: 0,
-        ..calls::turned(r, s)
-    }
+    calls::started(r, s)
 }
 
 // What the next turn of a capture submits: a period for the device to write, or nothing.
-pub fn capture_offer(t: Track, len: usize) -> Offer
+pub fn capture_offer(t: Track, len: usize) -> Result<Option<Period>, Refusal>
     ensures { result ≡ capture_offer t len }
 {
     calls::offer_as(true, t, len)

@@ -11,7 +11,7 @@ mod rules;
 mod script;
 
 pub use calls::{
-    Offer, drain_track, drain_turn, is_idle, next_offer, offer_track, offered, start, start_track,
+    drain_track, drain_turn, is_idle, next_offer, offer_track, offered, start, start_track,
     traced_start, traced_start_track, traced_track, turn, turn_track,
 };
 pub use capture::{
@@ -19,10 +19,7 @@ pub use capture::{
 };
 pub use consistent::{is_consistent, mode_ok};
 pub use in_place::{Report, drain_in_place, turn_in_place, turn_lent};
-pub use reading::Reading;
-pub use ring::{
-    Carried, DIRECT, Heard, INDIRECT, Oldest, Ring, RingNumber, Said, Sent, Slot, Step, Track,
-    Turned,
-};
+pub use reading::Completion;
+pub use ring::{DIRECT, Freed, INDIRECT, Period, Ring, Said, Slot, Step, Track, Turned};
 pub use rules::Choice;
 pub use script::{Transferred, transfer};

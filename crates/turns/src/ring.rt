@@ -1,6 +1,6 @@
 // The ring record: 32 slots, and where the ring and the transfer that runs over it stand.
 ghost use Rattle.std.specs.Prelude.{◌≡◌, [], ◌∷◌};
-ghost use Rattle.turns.specs.Ring.{direct, indirect, new_ring, goes_on};
+ghost use Rattle.turns.specs.Ring.{direct, indirect, new_track, new_ring, goes_on};
 ghost use Rattle.turns.specs.Reads.{says_number, read_of, running_of, in_flight_of, free_of, turns_of, stream_of, kept_read, written_read, accepted_read, says_carried, carried_of, says_oldest, oldest_of};
 
 use crate::consistent::is_consistent;
@@ -60,26 +60,23 @@ pub struct Ring {
     pub slots: [Slot; 32],
 }
 
-// What a turn submitted.
+// A period that a turn submitted: a part of the caller's frames, in a slot.
 #[derive(Clone, Copy)]
-pub enum Sent {
-    Nothing,
-    Period {
-        slot: usize,
-        offset: usize,
-        len: usize,
-    },
+pub struct Period {
+    pub slot: usize,
+    pub offset: usize,
+    pub len: usize,
 }
 
-// What a turn freed.
+// A slot that a turn freed, and the status that it came back with.
 #[derive(Clone, Copy)]
-pub enum Heard {
-    Silent,
-    Freed { slot: usize, status: u32 },
+pub struct Freed {
+    pub slot: usize,
+    pub status: u32,
 }
 
 // What a turn says: it goes on, it is done with Ok, it ended with a refusal, or it was refused and
-// ran no turn.
+// ran no turn. No Result: Going and Done are both good, and a refusal may come with or without a turn.
 #[derive(Clone, Copy)]
 pub enum Said {
     Going,
@@ -92,12 +89,7 @@ impl Said {
     pub(crate) fn goes_on(self) -> bool
         ensures { result ≡ goes_on self }
     {
-        match self {
-            Said::Going => true,
-            Said::Done => false,
-            Said::Ended(_) => false,
-            Said::Refused(_) => false,
-        }
+        matches!(self, Said::Going)
     }
 }
 
@@ -105,8 +97,8 @@ impl Said {
 #[derive(Clone, Copy)]
 pub struct Step {
     pub track: Track,
-    pub sent: Sent,
-    pub heard: Heard,
+    pub sent: Option<Period>,
+    pub heard: Option<Freed>,
     pub said: Said,
 }
 
@@ -114,50 +106,28 @@ pub struct Step {
 #[derive(Clone, Copy)]
 pub struct Turned {
     pub ring: Ring,
-    pub sent: Sent,
-    pub heard: Heard,
+    pub sent: Option<Period>,
+    pub heard: Option<Freed>,
     pub said: Said,
     pub turns: u64,
 }
 
 // A number that a ring keeps; an inconsistent ring tells none.
-#[derive(Clone, Copy)]
-pub enum RingNumber {
-    Is(u64),
-    InvalidParam,
-}
-
-// What a slot carries, or carried last.
-#[derive(Clone, Copy)]
-pub enum Carried {
-    Is(Slot),
-    InvalidParam,
-}
-
-// The oldest slot in flight, which the next completion must name.
-#[derive(Clone, Copy)]
-pub enum Oldest {
-    Slot(usize),
-    Nothing,
-    InvalidParam,
-}
-
-fn number(t: Track, n: u64) -> RingNumber
+fn number(t: Track, n: u64) -> Result<u64, Refusal>
     ensures { says_number result ≡ read_of t (n ∷ []) }
 {
-    let sound = is_consistent(t);
-    if !sound {
-        return RingNumber::InvalidParam;
+    if !is_consistent(t) {
+        return Err(Refusal::InvalidParam);
     }
-    RingNumber::Is(n)
+    Ok(n)
 }
 
-impl Ring {
-    // A ring that no transfer ran on, with some descriptors to a submission.
-    fn made(descriptors: usize) -> Ring
-        ensures { result ≡ new_ring descriptors }
+impl Track {
+    // A track that no transfer ran on, with some descriptors to a submission.
+    pub(crate) fn blank(descriptors: usize) -> Track
+        ensures { result ≡ new_track descriptors }
     {
-        let track = Track {
+        Track {
             descriptors,
             head: 0,
             tail: 0,
@@ -175,9 +145,17 @@ impl Ring {
             room: 0,
             written: 0,
             good: 0,
-        };
+        }
+    }
+}
+
+impl Ring {
+    // A ring that no transfer ran on, with some descriptors to a submission.
+    fn made(descriptors: usize) -> Ring
+        ensures { result ≡ new_ring descriptors }
+    {
         Ring {
-            track,
+            track: Track::blank(descriptors),
             slots: [Slot { offset: 0, len: 0 }; 32],
         }
     }
@@ -197,43 +175,43 @@ impl Ring {
     }
 
     // 1 where a transfer runs, else 0.
-    pub fn running(self) -> RingNumber
+    pub fn running(self) -> Result<u64, Refusal>
         ensures { says_number result ≡ running_of self.track }
     {
         let t = self.track;
-        if t.running {
-            return number(t, 1);
-        }
-        number(t, 0)
+        number(t, u64::from(t.running))
     }
 
-    pub fn in_flight(self) -> RingNumber
+    // Slots in flight.
+    pub fn in_flight(self) -> Result<u64, Refusal>
         ensures { says_number result ≡ in_flight_of self.track }
     {
         let t = self.track;
         number(t, t.inflight as u64)
     }
 
-    pub fn free_descriptors(self) -> RingNumber
+    // The descriptors that are free, of 32.
+    pub fn free_descriptors(self) -> Result<u64, Refusal>
         ensures { says_number result ≡ free_of self.track }
     {
         let t = self.track;
-        let sound = is_consistent(t);
-        if !sound {
-            return RingNumber::InvalidParam;
+        if is_consistent(t) {
+            Ok((32 - t.inflight * t.descriptors) as u64)
+        } else {
+            Err(Refusal::InvalidParam)
         }
-        RingNumber::Is((32 - t.inflight * t.descriptors) as u64)
     }
 
     // Turns run in the transfer that runs, or in the last one that ran.
-    pub fn turns_run(self) -> RingNumber
+    pub fn turns_run(self) -> Result<u64, Refusal>
         ensures { says_number result ≡ turns_of self.track }
     {
         let t = self.track;
         number(t, t.turns)
     }
 
-    pub fn stream(self) -> RingNumber
+    // The stream of the transfer that runs, or of the last one that ran.
+    pub fn stream(self) -> Result<u64, Refusal>
         ensures { says_number result ≡ stream_of self.track }
     {
         let t = self.track;
@@ -241,7 +219,7 @@ impl Ring {
     }
 
     // The bytes of its recording that a capture accepted, the one that runs or the last one that ran.
-    pub fn kept(self) -> RingNumber
+    pub fn kept(self) -> Result<u64, Refusal>
         ensures { says_number result ≡ kept_read self.track }
     {
         let t = self.track;
@@ -249,7 +227,7 @@ impl Ring {
     }
 
     // How long the trace is of the transfer that runs or ran last; 0 where it writes none.
-    pub fn trace_length(self) -> RingNumber
+    pub fn trace_length(self) -> Result<u64, Refusal>
         ensures { says_number result ≡ written_read self.track }
     {
         let t = self.track;
@@ -257,37 +235,37 @@ impl Ring {
     }
 
     // The good completions of the transfer that runs, or of the last one that ran.
-    pub fn accepted(self) -> RingNumber
+    pub fn accepted(self) -> Result<u64, Refusal>
         ensures { says_number result ≡ accepted_read self.track }
     {
         let t = self.track;
         number(t, t.good)
     }
 
-    pub fn carried(self, slot: usize) -> Carried
+    // What a slot carries, or carried last.
+    pub fn carried(self, slot: usize) -> Result<Slot, Refusal>
         ensures { says_carried result ≡ carried_of self slot }
     {
         if 32 <= slot {
-            return Carried::InvalidParam;
+            return Err(Refusal::InvalidParam);
         }
-        let sound = is_consistent(self.track);
-        if !sound {
-            return Carried::InvalidParam;
+        if !is_consistent(self.track) {
+            return Err(Refusal::InvalidParam);
         }
-        Carried::Is(self.slots[slot])
+        Ok(self.slots[slot])
     }
 
-    pub fn oldest(self) -> Oldest
+    // The oldest slot in flight, which the next completion must name.
+    pub fn oldest(self) -> Result<Option<usize>, Refusal>
         ensures { says_oldest result ≡ oldest_of self.track }
     {
         let t = self.track;
-        let sound = is_consistent(t);
-        if !sound {
-            return Oldest::InvalidParam;
+        if !is_consistent(t) {
+            return Err(Refusal::InvalidParam);
         }
         if t.inflight == 0 {
-            return Oldest::Nothing;
+            return Ok(None);
         }
-        Oldest::Slot(t.tail)
+        Ok(Some(t.tail))
     }
 }

@@ -1,12 +1,13 @@
 // The turn rules, over the track: rule 1 decides, submits or ends; rule 2 judges the reading.
+// Each step requires only what it uses: a track that is made from bytes can keep no invariant.
 ghost use Rattle.std.specs.Prelude.{◌≡◌, ◌+◌, ◌*◌, ◌≤◌, ◌<◌};
 ghost use Rattle.turns.specs.Cut.{span_of};
 ghost use Rattle.turns.specs.Rules.{choose_of, sent_of, submit, comes_to, played_of, is_oldest, judge_of, release, accept, settle, hear, turn_of, ticked, counted_of};
 ghost use Rattle.turns.specs.Private.{Placed};
 
-use crate::reading::Reading;
-use crate::ring::{Heard, Said, Sent, Step, Track};
-use codes::{Cause, Refusal, StatusCode};
+use crate::reading::Completion;
+use crate::ring::{Freed, Period, Said, Step, Track};
+use codes::{Cause, Refusal, status_is_ok};
 
 // What rule 1 does.
 #[derive(Clone, Copy)]
@@ -16,14 +17,8 @@ pub enum Choice {
     Wait,
 }
 
-// What a completion of the oldest in flight comes to.
-#[derive(Clone, Copy)]
-pub enum Outcome {
-    Fine,
-    Fails(Refusal),
-}
-
 // What rule 2 makes of a completion. A bad one carries the refusal that ends the transfer.
+// No Result: a wrong slot and a bad completion both end the transfer, but only the bad one is freed.
 #[derive(Clone, Copy)]
 pub enum Verdict {
     WrongSlot,
@@ -37,7 +32,7 @@ fn span(period: usize, total: usize, offset: usize) -> usize
     ensures { result ≡ span_of period total offset }
 {
     let left = total - offset;
-    if period <= left { period } else { left }
+    period.min(left)
 }
 
 // Rule 1's decision.
@@ -60,17 +55,17 @@ pub(crate) fn choose(least: usize, t: Track) -> Choice
 }
 
 // What goes out, at head.
-pub(crate) fn outgoing(t: Track) -> Sent
+pub(crate) fn outgoing(t: Track) -> Option<Period>
     requires { t.next ≤ t.total }
     ensures { result ≡ sent_of t }
 {
     let next = t.next;
     let len = span(t.period, t.total, next);
-    Sent::Period {
+    Some(Period {
         slot: t.head,
         offset: next,
         len,
-    }
+    })
 }
 
 // The track with the next period in flight.
@@ -112,25 +107,24 @@ fn accept(t: Track) -> Track
 }
 
 // What the completion of a period that was played comes to.
-pub(crate) fn played(status: u32) -> Outcome
+pub(crate) fn played(status: u32) -> Result<(), Refusal>
     ensures { result ≡ played_of status }
 {
-    let found = StatusCode::from_code(status);
-    let ok = found.is_ok();
+    let ok = status_is_ok(status);
     if ok {
-        Outcome::Fine
+        Ok(())
     } else {
-        Outcome::Fails(Refusal::IoError(Cause::Status(status)))
+        Err(Refusal::IoError(Cause::Status(status)))
     }
 }
 
 // What a reading of a playback comes to.
-pub(crate) fn comes_to_played(reading: Reading) -> Outcome
+pub(crate) fn comes_to_played(reading: Option<Completion>) -> Result<(), Refusal>
     ensures { result ≡ comes_to played_of reading }
 {
     match reading {
-        Reading::Quiet => Outcome::Fine,
-        Reading::Completed { slot: _, status } => played(status),
+        None => Ok(()),
+        Some(c) => played(c.status),
     }
 }
 
@@ -138,14 +132,11 @@ pub(crate) fn comes_to_played(reading: Reading) -> Outcome
 pub(crate) fn is_oldest(t: Track, slot: u32) -> bool
     ensures { result ≡ is_oldest t slot }
 {
-    if t.inflight == 0 {
-        return false;
-    }
-    slot as usize == t.tail
+    t.inflight != 0 && slot as usize == t.tail
 }
 
 // Rule 2's decision.
-fn judge(t: Track, slot: u32, outcome: Outcome) -> Verdict
+fn judge(t: Track, slot: u32, outcome: Result<(), Refusal>) -> Verdict
     ensures { result ≡ judge_of t slot outcome }
 {
     let oldest = is_oldest(t, slot);
@@ -153,13 +144,19 @@ fn judge(t: Track, slot: u32, outcome: Outcome) -> Verdict
         return Verdict::WrongSlot;
     }
     match outcome {
-        Outcome::Fine => Verdict::Good,
-        Outcome::Fails(refusal) => Verdict::Bad(refusal),
+        Ok(()) => Verdict::Good,
+        Err(refusal) => Verdict::Bad(refusal),
     }
 }
 
 // What is made of a completion, by what it comes to.
-fn settle(outcome: Outcome, sent: Sent, t: Track, slot: u32, status: u32) -> Step
+fn settle(
+    outcome: Result<(), Refusal>,
+    sent: Option<Period>,
+    t: Track,
+    slot: u32,
+    status: u32,
+) -> Step
     requires { (t.tail < 32) × (t.good < t.budget) }
     ensures { result ≡ settle (judge_of t slot outcome) sent t slot status }
 {
@@ -168,48 +165,58 @@ fn settle(outcome: Outcome, sent: Sent, t: Track, slot: u32, status: u32) -> Ste
         Verdict::WrongSlot => Step {
             track: t,
             sent,
-            heard: Heard::Silent,
+            heard: None,
             said: Said::Ended(Refusal::WrongToken),
         },
         Verdict::Good => Step {
             track: accept(t),
             sent,
-            heard: Heard::Freed {
+            heard: Some(Freed {
                 slot: slot as usize,
                 status,
-            },
+            }),
             said: Said::Going,
         },
         Verdict::Bad(refusal) => Step {
             track: release(t),
             sent,
-            heard: Heard::Freed {
+            heard: Some(Freed {
                 slot: slot as usize,
                 status,
-            },
+            }),
             said: Said::Ended(refusal),
         },
     }
 }
 
 // Rule 2: the reading, and what it comes to.
-fn hear(outcome: Outcome, sent: Sent, t: Track, reading: Reading) -> Step
+fn hear(
+    outcome: Result<(), Refusal>,
+    sent: Option<Period>,
+    t: Track,
+    reading: Option<Completion>,
+) -> Step
     requires { (t.tail < 32) × (t.good < t.budget) }
     ensures { result ≡ hear outcome sent t reading }
 {
     match reading {
-        Reading::Quiet => Step {
+        None => Step {
             track: t,
             sent,
-            heard: Heard::Silent,
+            heard: None,
             said: Said::Going,
         },
-        Reading::Completed { slot, status } => settle(outcome, sent, t, slot, status),
+        Some(c) => settle(outcome, sent, t, c.slot, c.status),
     }
 }
 
 // One turn: rule 1, then rule 2.
-pub(crate) fn turn(least: usize, t: Track, outcome: Outcome, reading: Reading) -> Step
+pub(crate) fn turn(
+    least: usize,
+    t: Track,
+    outcome: Result<(), Refusal>,
+    reading: Option<Completion>,
+) -> Step
     requires { (Placed t) × (t.next ≤ t.total) × (t.good < t.budget) }
     ensures { result ≡ turn_of least t outcome reading }
 {
@@ -222,11 +229,11 @@ pub(crate) fn turn(least: usize, t: Track, outcome: Outcome, reading: Reading) -
         }
         Choice::Finish => Step {
             track: t,
-            sent: Sent::Nothing,
-            heard: Heard::Silent,
+            sent: None,
+            heard: None,
             said: Said::Done,
         },
-        Choice::Wait => hear(outcome, Sent::Nothing, t, reading),
+        Choice::Wait => hear(outcome, None, t, reading),
     }
 }
 
@@ -249,8 +256,7 @@ pub(crate) fn counted(s: Step) -> Step
 {
     let t = s.track;
     let said = s.said;
-    let going = said.goes_on();
-    if !going {
+    if !said.goes_on() {
         return Step {
             track: ticked(false, t),
             ..s

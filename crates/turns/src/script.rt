@@ -5,7 +5,7 @@ ghost use Rattle.turns.specs.Script.{reading_at, script_of, transferred_of, tran
 ghost use Rattle.turns.specs.Private.{script_from};
 
 use crate::calls;
-use crate::reading::Reading;
+use crate::reading::Completion;
 use crate::ring::{Ring, Said};
 use codes::Refusal;
 use layout;
@@ -19,25 +19,25 @@ pub struct Transferred {
 }
 
 // The reading at a place of a script.
-fn reading_at(script: &[u8], at: usize) -> Reading
+fn reading_at(script: &[u8], at: usize) -> Option<Completion>
     requires { at + 8 < length script.now }
     ensures { result ≡ reading_at at script.now }
 {
     let kind = layout::get_u32(script, at);
     let slot = layout::get_u32(script, at + 4);
     let status = layout::get_u32(script, at + 8);
-    Reading::from_words(kind, slot, status)
+    Completion::from_words(kind, slot, status)
 }
 
-// The reading of turn n, quiet past the script's end.
-fn reading_of(script: &[u8], n: u64) -> Reading
+// The reading of turn n, quiet past the script's end. By number: a turn outlasts the script.
+fn reading_of(script: &[u8], n: u64) -> Option<Completion>
     ensures { result ≡ first_of (script_from n script.now) }
 {
-    let count = script.len() / Reading::SIZE;
+    let count = script.len() / Completion::SIZE;
     if n < count as u64 {
-        return reading_at(script, n as usize * Reading::SIZE);
+        return reading_at(script, n as usize * Completion::SIZE);
     }
-    Reading::Quiet
+    None
 }
 
 // Turns until one does not go on, at most budget of them.
@@ -45,25 +45,23 @@ fn turn_by_turn(r: Ring, frames: &[u8], budget: u64, script: &[u8]) -> Transferr
     ensures { result ≡ transferred_of (turn_by_turn (length frames.now) budget r (script_of script.now)) }
 {
     let mut ring = r;
-    let mut n = 0;
-    while n < budget {
+    for n in 0..budget {
         let reading = reading_of(script, n);
         let t = calls::turn(ring, frames, reading);
         let said = t.said;
         ring = t.ring;
-        n += 1;
         let Said::Going = said else {
             return Transferred {
                 ring,
                 said,
-                turns: n,
+                turns: n + 1,
             };
         };
     }
     Transferred {
         ring,
         said: Said::Going,
-        turns: n,
+        turns: budget,
     }
 }
 
@@ -78,7 +76,7 @@ pub fn transfer(
 ) -> Transferred
     ensures { result ≡ transfer_of r stream (length frames.now) period budget script.now }
 {
-    if script.len() % Reading::SIZE != 0 {
+    if script.len() % Completion::SIZE != 0 {
         return Transferred {
             ring: r,
             said: Said::Refused(Refusal::BadLength),

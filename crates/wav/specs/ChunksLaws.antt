@@ -1,6 +1,8 @@
 -- The laws of the walk over chunks.
 -- Assumes nothing.
-use Rattle.std.specs.Prelude.{◌≡◌, refl, Bool, true, false, List, [], ◌∷◌, eqb, length}
+use Rattle.std.specs.Prelude.{◌≡◌, refl, Bool, true, false, List, [], ◌∷◌, eqb, length, Option, Some, None, Result, Ok, Err}
+use Rattle.std.specs.Option.{option_or}
+use Rattle.std.specs.Bool.{then_some}
 use Rattle.std.proofs.Common.{sym, ap, ◌∙◌}
 use Prim.Native.Nat.{ℕ, zero, suc, ◌+◌, ◌-◌, ◌%◌, ◌<◌, ◌≤◌}
 use native.Mathlib.Omega.{arith}
@@ -8,8 +10,8 @@ use Rattle.layout.specs.Bytes.{le, num_at}
 use Rattle.codes.specs.Says.{pick}
 use Rattle.codes.specs.SaysLaws.{picks, skips}
 use Rattle.wav.specs.Chunks.{riff_tag, wave_tag, fmt_tag, data_tag, padded, Chunks, cut, chunk, chunks_at, laid, first_of}
-use Rattle.wav.specs.Private.{walked, or_else}
-use Rattle.wav.specs.Types.{At, Cut}
+use Rattle.wav.specs.Private.{place, walked}
+use Rattle.wav.specs.Types.{Placed, WaveError, NotWave}
 
 -- the tags are their letters
 pub letters : (le 4 riff_tag ≡ 82 ∷ 73 ∷ 70 ∷ 70 ∷ []) × ((le 4 wave_tag ≡ 87 ∷ 65 ∷ 86 ∷ 69 ∷ []) × ((le 4 fmt_tag ≡ 102 ∷ 109 ∷ 116 ∷ 32 ∷ []) × (le 4 data_tag ≡ 100 ∷ 97 ∷ 116 ∷ 97 ∷ [])))
@@ -63,61 +65,57 @@ past s o (suc n) t e z h = ap laid (ends s (suc o) (7 + padded (num_at (o + 4) 4
 
 -- ---- THE WALK that came to chunks b of a: it found f and d before
 
-pub record Came (s : List ℕ) (a b : Chunks) (f d : ℕ) : Type 0 where
+pub record Came (s : List ℕ) (a b : Chunks) (f d : Option ℕ) : Type 0 where
   pub whole : laid a ≡ laid b
-  pub fmt : first_of s fmt_tag a ≡ or_else f (first_of s fmt_tag b)
-  pub frames : first_of s data_tag a ≡ or_else d (first_of s data_tag b)
+  pub fmt : place (first_of s fmt_tag a) ≡ option_or f (place (first_of s fmt_tag b))
+  pub frames : place (first_of s data_tag a) ≡ option_or d (place (first_of s data_tag b))
 
-pub begins : (s : List ℕ) (a : Chunks) → Came s a a 0 0
+pub begins : (s : List ℕ) (a : Chunks) → Came s a a None None
 begins s a = record { whole = refl; fmt = refl; frames = refl }
 
 -- a place above 0 that was found is kept
-keeps : (f o x : ℕ) (t : Bool) → 0 < o → or_else f (pick t o x) ≡ or_else (or_else f (pick t o 0)) x
-keeps zero zero x true h = absurd (omega arith)
-keeps zero (suc o) x true h = refl
-keeps zero o x false h = refl
-keeps (suc f) o x t h = refl
+keeps : (f : Option ℕ) (o x : ℕ) (t : Bool) → 0 < o → option_or f (place (pick t o x)) ≡ option_or (option_or f (then_some t o)) (place x)
+keeps None zero x true h = absurd (omega arith)
+keeps None (suc o) x true h = refl
+keeps None o x false h = refl
+keeps (Some f) o x t h = refl
 
-pub goes_on : (s : List ℕ) (a : Chunks) (o n t f d : ℕ) → 0 < o → t ≡ 8 + padded (num_at (o + 4) 4 s) → t ≤ n → Came s a (chunks_at s o 0 n) f d
-    → Came s a (chunks_at s (o + t) 0 (n - t)) (or_else f (pick (eqb (num_at o 4 s) fmt_tag) o 0)) (or_else d (pick (eqb (num_at o 4 s) data_tag) o 0))
+pub goes_on : (s : List ℕ) (a : Chunks) (o n t : ℕ) (f d : Option ℕ) → 0 < o → t ≡ 8 + padded (num_at (o + 4) 4 s) → t ≤ n → Came s a (chunks_at s o 0 n) f d
+    → Came s a (chunks_at s (o + t) 0 (n - t)) (option_or f (then_some (eqb (num_at o 4 s) fmt_tag) o)) (option_or d (then_some (eqb (num_at o 4 s) data_tag) o))
 goes_on s a o n t f d z e h c =
     let q = next s o n t e h in
     record {
       whole = c.whole ∙ ap laid q;
-      fmt = c.fmt ∙ ap (λ (x : Chunks). or_else f (first_of s fmt_tag x)) q ∙ keeps f o (first_of s fmt_tag (chunks_at s (o + t) 0 (n - t))) (eqb (num_at o 4 s) fmt_tag) z;
-      frames = c.frames ∙ ap (λ (x : Chunks). or_else d (first_of s data_tag x)) q ∙ keeps d o (first_of s data_tag (chunks_at s (o + t) 0 (n - t))) (eqb (num_at o 4 s) data_tag) z;
+      fmt = c.fmt ∙ ap (λ (x : Chunks). option_or f (place (first_of s fmt_tag x))) q ∙ keeps f o (first_of s fmt_tag (chunks_at s (o + t) 0 (n - t))) (eqb (num_at o 4 s) fmt_tag) z;
+      frames = c.frames ∙ ap (λ (x : Chunks). option_or d (place (first_of s data_tag x))) q ∙ keeps d o (first_of s data_tag (chunks_at s (o + t) 0 (n - t))) (eqb (num_at o 4 s) data_tag) z;
     }
 
-pub is_cut : (s : List ℕ) (a : Chunks) (o n f d : ℕ) → 0 < n → n < 8 + padded (num_at (o + 4) 4 s) → Came s a (chunks_at s o 0 n) f d → Cut ≡ walked s a
+-- what a walk to the end says
+abbrev at_places : List ℕ → Chunks → Result Placed WaveError
+at_places s c = Ok (record { fmt = place (first_of s fmt_tag c); frames = place (first_of s data_tag c) })
+
+pub is_cut : (s : List ℕ) (a : Chunks) (o n : ℕ) (f d : Option ℕ) → 0 < n → n < 8 + padded (num_at (o + 4) 4 s) → Came s a (chunks_at s o 0 n) f d → Err NotWave ≡ walked s a
 unfolding walked
-is_cut s a o n f d z h c = sym (ap (λ (t : Bool). pick t (At (first_of s fmt_tag a) (first_of s data_tag a)) Cut) (c.whole ∙ past s o n (8 + padded (num_at (o + 4) 4 s)) refl z h))
+is_cut s a o n f d z h c = sym (ap (λ (t : Bool). pick t (at_places s a) (Err NotWave)) (c.whole ∙ past s o n (8 + padded (num_at (o + 4) 4 s)) refl z h))
 
-or_else-none : (f : ℕ) → or_else f 0 ≡ f
-or_else-none zero = refl
-or_else-none (suc f) = refl
+or-none : (f : Option ℕ) → option_or f None ≡ f
+or-none None = refl
+or-none (Some f) = refl
 
-pub is-laid : (s : List ℕ) (a : Chunks) (o f d : ℕ) → Came s a (chunks_at s o 0 0) f d → At f d ≡ walked s a
+pub is-laid : (s : List ℕ) (a : Chunks) (o : ℕ) (f d : Option ℕ) → Came s a (chunks_at s o 0 0) f d → Ok (record { fmt = f; frames = d }) ≡ walked s a
 unfolding walked chunks_at
 is-laid s a o f d c =
     sym
-    (ap (λ (t : Bool). pick t (At (first_of s fmt_tag a) (first_of s data_tag a)) Cut) c.whole
-    ∙ (λ i. At ((c.fmt ∙ or_else-none f) i) ((c.frames ∙ or_else-none d) i)))
+    (ap (λ (t : Bool). pick t (at_places s a) (Err NotWave)) c.whole
+    ∙ (λ i. Ok (record { fmt = (c.fmt ∙ or-none f) i; frames = (c.frames ∙ or-none d) i })))
 
--- ---- the walk's code: what `first` leaves, and a turn of the loop
+-- ---- the walk's code: a turn of the loop
 
-pub or_some : (f x : ℕ) → 0 < f → f ≡ or_else f x
-or_some zero x h = absurd (omega arith)
-or_some (suc f) x h = refl
-
-pub or-none : (f x : ℕ) → f ≤ 0 → x ≡ or_else f x
-or-none zero x h = refl
-or-none (suc f) x h = absurd (omega arith)
-
-pub turns-on : (s : List ℕ) (a : Chunks) (at end t f d f₁ d₁ size tag : ℕ) → 0 < at
+pub turns-on : (s : List ℕ) (a : Chunks) (at end t size tag : ℕ) (f d f₁ d₁ : Option ℕ) → 0 < at
     → size ≡ num_at (at + 4) 4 s → tag ≡ num_at at 4 s → t ≡ 8 + size + size % 2 → t ≤ end - at
-    → f₁ ≡ or_else f (pick (eqb tag fmt_tag) at 0) → d₁ ≡ or_else d (pick (eqb tag data_tag) at 0)
+    → f₁ ≡ option_or f (then_some (eqb tag fmt_tag) at) → d₁ ≡ option_or d (then_some (eqb tag data_tag) at)
     → Came s a (chunks_at s at 0 (end - at)) f d → Came s a (chunks_at s (at + t) 0 (end - (at + t))) f₁ d₁
-turns-on s a at end t f d f₁ d₁ size tag z es et e h ef ed c =
+turns-on s a at end t size tag f d f₁ d₁ z es et e h ef ed c =
     let q : end - (at + t) ≡ end - at - t = omega arith in
     let p : t ≡ 8 + padded (num_at (at + 4) 4 s) = rw (← es) (omega arith) in
     rw (ef, ed, et, q) (goes_on s a at (end - at) t f d z p h c)
@@ -149,26 +147,54 @@ pub record Found (s : List ℕ) (c : Chunks) (f d : ℕ) : Type 0 where
   pub fmt : f ≡ first_of s fmt_tag c
   pub frames : d ≡ first_of s data_tag c
 
-pub found : (s : List ℕ) (c : Chunks) (f d : ℕ) → At f d ≡ walked s c → Found s c f d
+-- what the walk told
+pub record Told (s : List ℕ) (c : Chunks) (p : Placed) : Type 0 where
+  pub whole : laid c ≡ true
+  pub fmt : p.fmt ≡ place (first_of s fmt_tag c)
+  pub frames : p.frames ≡ place (first_of s data_tag c)
+
+pub told : (s : List ℕ) (c : Chunks) (p : Placed) → Ok p ≡ walked s c → Told s c p
 unfolding walked
-found s c f d w = taken (laid c) refl
+told s c p w = taken (laid c) refl
   where
-    taken : (t : Bool) → laid c ≡ t → Found s c f d
+    taken : (t : Bool) → laid c ≡ t → Told s c p
     taken true l =
-        let q : At f d ≡ At (first_of s fmt_tag c) (first_of s data_tag c) = w ∙ picks (laid c) (At (first_of s fmt_tag c) (first_of s data_tag c)) Cut l in
-        record { whole = l; fmt = cc; frames = cc }
+        let q : Ok p ≡ at_places s c = w ∙ picks (laid c) (at_places s c) (Err NotWave) l in
+        let r : p ≡ record { fmt = place (first_of s fmt_tag c); frames = place (first_of s data_tag c) } = cc in
+        record { whole = l; fmt = ap (λ (x : Placed). x.fmt) r; frames = ap (λ (x : Placed). x.frames) r }
     taken false l =
-        let q : At f d ≡ Cut = w ∙ skips (laid c) (At (first_of s fmt_tag c) (first_of s data_tag c)) Cut l in
+        let q : ◌≡◌ {A = Result Placed WaveError} (Ok p) (Err NotWave) = w ∙ skips (laid c) (at_places s c) (Err NotWave) l in
         let z : ◌≡◌ {A = ℕ} 0 1 = cc in
         absurd (omega arith)
 
-pub lost : (s : List ℕ) (c : Chunks) → Cut ≡ walked s c → laid c ≡ false
+-- a place that was found is above 0; none was found at 0
+place_is : (f n : ℕ) → Some f ≡ place n → (f ≡ n) × (0 < f)
+place_is f zero e = let z : ◌≡◌ {A = ℕ} 0 1 = cc in absurd (omega arith)
+place_is f (suc n) e = let z : f ≡ suc n = cc in (z, omega arith)
+
+pub no-place : (n : ℕ) → None ≡ place n → n ≡ 0
+no-place zero e = refl
+no-place (suc n) e = let z : ◌≡◌ {A = ℕ} 0 1 = cc in absurd (omega arith)
+
+pub found : (s : List ℕ) (c : Chunks) (p : Placed) (f d : ℕ) → Ok p ≡ walked s c → p.fmt ≡ Some f → p.frames ≡ Some d → Found s c f d
+found s c p f d w e g =
+    let t = told s c p w in
+    record { whole = t.whole; fmt = (place_is f _ (sym e ∙ t.fmt)).0; frames = (place_is d _ (sym g ∙ t.frames)).0 }
+
+pub first-fmt : (s : List ℕ) (c : Chunks) (p : Placed) (f : ℕ) → Ok p ≡ walked s c → p.fmt ≡ Some f → 0 < first_of s fmt_tag c
+first-fmt s c p f w e = let q = place_is f (first_of s fmt_tag c) (sym e ∙ (told s c p w).fmt) in let a = q.0 in let b = q.1 in omega (arith, a, b)
+
+pub some-fmt : (s : List ℕ) (c : Chunks) (p : Placed) (f : ℕ) → Ok p ≡ walked s c → p.fmt ≡ Some f → 0 < f
+some-fmt s c p f w e = (place_is f _ (sym e ∙ (told s c p w).fmt)).1
+
+-- a walk that is refused says 13: a chunk is cut
+pub lost : (s : List ℕ) (c : Chunks) (e : WaveError) → Err e ≡ walked s c → (laid c ≡ false) × ◌≡◌ {A = Result Placed WaveError} (Err e) (Err NotWave)
 unfolding walked
-lost s c w = taken (laid c) refl
+lost s c e w = let l = taken (laid c) refl in (l, w ∙ skips (laid c) (at_places s c) (Err NotWave) l)
   where
     taken : (t : Bool) → laid c ≡ t → laid c ≡ false
     taken true l =
-        let q : Cut ≡ At (first_of s fmt_tag c) (first_of s data_tag c) = w ∙ picks (laid c) (At (first_of s fmt_tag c) (first_of s data_tag c)) Cut l in
+        let q : Err e ≡ at_places s c = w ∙ picks (laid c) (at_places s c) (Err NotWave) l in
         let z : ◌≡◌ {A = ℕ} 0 1 = cc in
         absurd (omega arith)
     taken false l = l

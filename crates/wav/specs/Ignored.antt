@@ -1,6 +1,6 @@
 -- "bytes past the RIFF size .. are ignored": a file that has all of its RIFF says the same, whatever follows.
 -- Assumes nothing.
-use Rattle.std.specs.Prelude.{◌≡◌, Bool, true, false, leb, ltb, eqb, length}
+use Rattle.std.specs.Prelude.{◌≡◌, Bool, true, false, leb, ltb, eqb, length, Result, Ok, Err}
 use Rattle.std.proofs.Math.Path.{refl, sym, ap, ap₂}
 use Rattle.std.proofs.Common.{◌∙◌}
 use mathlib.Core.List.{List, ◌∷◌, ◌++◌}
@@ -15,8 +15,7 @@ use Rattle.wav.specs.ChunksLaws.{ends, fits, Found, fmt-within, frames-within}
 use Rattle.wav.specs.Wave.{sound_of, sound_at, wave_by, wave_at, wave_in, wave_of, wrote_of, header_of, file_of}
 use Rattle.wav.specs.WaveLaws.{under}
 use Rattle.wav.specs.RoundTrip.{read_back, written, written-reads-back}
-use Rattle.wav.specs.Types.{FoundSound, Is, NotWave}
-use Rattle.wav.specs.declared.sound.FoundSound.TheVariants as found
+use Rattle.wav.specs.Types.{Sound, WaveError, NotWave}
 
 module _ (s t : List ℕ) where
   same_bytes : (o n : ℕ) → o + n ≤ length s → bytes_at o n (s ++ t) ≡ bytes_at o n s
@@ -57,9 +56,9 @@ module _ (s t : List ℕ) where
       let f = fits s (suc o) (7 + padded (num_at (o + 4) 4 s)) n e in
       ap₂ (λ (x y : ℕ). pick (eqb x tag) o y) (same-num o 4 (omega arith)) (same_first tag (suc o) (7 + padded (num_at (o + 4) 4 s)) n (omega arith) e)
 
-  same-data : (x : FoundSound) (d : ℕ) → d + 8 ≤ length s → wave_by x (s ++ t) d ≡ wave_by x s d
-  same-data (found.Is y) d h = ap (λ (n : ℕ). Is (record { sound = y; offset = d + 8; len = n })) (same-num (d + 4) 4 (omega arith))
-  same-data found.BadSound d h = refl
+  same-data : (x : Result Sound WaveError) (d : ℕ) → d + 8 ≤ length s → wave_by x (s ++ t) d ≡ wave_by x s d
+  same-data (Ok y) d h = ap (λ (n : ℕ). Ok (record { sound = y; offset = d + 8; len = n })) (same-num (d + 4) 4 (omega arith))
+  same-data (Err e) d h = refl
 
   same-sound : (f d : ℕ) → f + 24 ≤ length s → d + 8 ≤ length s → wave_by (sound_at (s ++ t) (f + 8)) (s ++ t) d ≡ wave_by (sound_at s (f + 8)) s d
   same-sound f d h k =
@@ -81,7 +80,7 @@ module _ (s t : List ℕ) where
       let y : f < d = ltb-true f d e₂ in
       let a = fmt-within s e f d h q z in
       let b = frames-within s e f d h q (omega arith) in
-      ap (λ (x : ℕ). guard (leb 16 x) NotWave (wave_by (sound_at (s ++ t) (f + 8)) (s ++ t) d)) (same-num (f + 4) 4 (omega arith))
+      ap (λ (x : ℕ). guard (leb 16 x) (Err NotWave) (wave_by (sound_at (s ++ t) (f + 8)) (s ++ t) d)) (same-num (f + 4) 4 (omega arith))
       ∙ under (leb 16 (num_at (f + 4) 4 s)) _ _ _ (λ e₃. let l : 16 ≤ num_at (f + 4) 4 s = leb-true 16 (num_at (f + 4) 4 s) e₃ in same-sound f d (omega arith) (omega arith))))
 
   same_in : (e : ℕ) → 12 ≤ e → e ≤ length s → wave_in (s ++ t) (chunks_at (s ++ t) 12 0 (e - 12)) ≡ wave_in s (chunks_at s 12 0 (e - 12))
@@ -100,12 +99,12 @@ module _ (s t : List ℕ) where
       let n = num_at 4 4 s in
       let m : num_at 4 4 (s ++ t) ≡ n = same-num 4 4 (omega arith) in
       let l = length-append s t in
-      let rest = guard (eqb (num_at 8 4 (s ++ t)) wave_tag) NotWave (wave_in (s ++ t) (chunks_at (s ++ t) 12 0 (n - 4))) in
+      let rest = guard (eqb (num_at 8 4 (s ++ t)) wave_tag) (Err NotWave) (wave_in (s ++ t) (chunks_at (s ++ t) 12 0 (n - 4))) in
       (λ i.
-      guard (eqb (same-num 0 4 (omega arith) i) riff_tag) NotWave
-      (guard (leb 4 (m i)) NotWave
-      (guard (leb (8 + m i) (length (s ++ t))) NotWave
-      (guard (eqb (num_at 8 4 (s ++ t)) wave_tag) NotWave
+      guard (eqb (same-num 0 4 (omega arith) i) riff_tag) (Err NotWave)
+      (guard (leb 4 (m i)) (Err NotWave)
+      (guard (leb (8 + m i) (length (s ++ t))) (Err NotWave)
+      (guard (eqb (num_at 8 4 (s ++ t)) wave_tag) (Err NotWave)
       (wave_in (s ++ t) (chunks_at (s ++ t) 12 0 (m i - 4)))))))
       ∙ under (eqb (num_at 0 4 s) riff_tag) _ _ _
       (λ e₁.
@@ -113,10 +112,10 @@ module _ (s t : List ℕ) where
       (λ e₂.
       let z : 4 ≤ n = leb-true 4 n e₂ in
       let p : n - 4 ≡ 8 + n - 12 = omega arith in
-      ap (λ (x : Bool). guard x NotWave rest) (le-leb (8 + n) (length (s ++ t)) (omega arith) ∙ sym (le-leb (8 + n) (length s) h))
+      ap (λ (x : Bool). guard x (Err NotWave) rest) (le-leb (8 + n) (length (s ++ t)) (omega arith) ∙ sym (le-leb (8 + n) (length s) h))
       ∙ under (leb (8 + n) (length s)) _ _ _
       (λ e₃.
-      (λ i. guard (eqb (same-num 8 4 (omega arith) i) wave_tag) NotWave (wave_in (s ++ t) (chunks_at (s ++ t) 12 0 (p i))))
+      (λ i. guard (eqb (same-num 8 4 (omega arith) i) wave_tag) (Err NotWave) (wave_in (s ++ t) (chunks_at (s ++ t) 12 0 (p i))))
       ∙ under (eqb (num_at 8 4 s) wave_tag) _ _ _ (λ e₄. same_in (8 + n) (omega arith) h ∙ ap (λ (x : ℕ). wave_in s (chunks_at s 12 0 x)) (sym p)))))
 
 -- the file of RoundTrip has all of its RIFF

@@ -1,6 +1,6 @@
 -- "Also write such a file .. from these three and frames; reading gives all back."
 -- Assumes nothing.
-use Rattle.std.specs.Prelude.{◌≡◌, true, ℕ, ◌+◌, ◌*◌, ◌-◌, ◌%◌, ◌/◌, ◌<◌, ◌≤◌, eqb}
+use Rattle.std.specs.Prelude.{◌≡◌, true, ℕ, ◌+◌, ◌*◌, ◌-◌, ◌%◌, ◌/◌, ◌<◌, ◌≤◌, eqb, Result, Ok}
 use Rattle.std.proofs.Math.Path.{refl, sym, ap}
 use Rattle.std.proofs.Common.{◌∙◌, mul-le-mul, lit<, drop_at, eq-eqb, lt-ltb, le-leb}
 use mathlib.Core.List.{List, [], ◌∷◌, ◌++◌, append_assoc}
@@ -21,12 +21,11 @@ use Rattle.wav.specs.ChunksLaws.{next}
 use Rattle.wav.specs.Wave.{format_of_bits, block_of, sound_of, sound_at, wave_by, wave_at, wave_in, wave_of, shown_by, wave_formats, wrote_of, written_by, header, header_values, header_of, file_of}
 use Rattle.wav.specs.WaveLaws.{small_product}
 use Rattle.wav.specs.WriteLaws.{by_code, never, held-bits, hz-below, done, length-header, length-zeros}
-use Rattle.wav.specs.Types.{FoundSound, ReadWave, Is, WroteWave, Done}
-use Rattle.wav.specs.declared.sound.FoundSound.TheVariants as found
+use Rattle.wav.specs.Types.{Sound, Wave, WaveError, WriteError}
 
 -- what reading is to say of a file of n bytes of frames
-abbrev pub read_back : ℕ → ℕ → ℕ → ℕ → ReadWave
-read_back c f r n = Is (record { sound = record { channels = c; format = f; rate = r }; offset = 44; len = n })
+abbrev pub read_back : ℕ → ℕ → ℕ → ℕ → Result Wave WaveError
+read_back c f r n = Ok (record { sound = record { channels = c; format = f; rate = r }; offset = 44; len = n })
 
 -- ---- the sound
 
@@ -45,7 +44,7 @@ below-25 f =
     (by_code (λ (k : ℕ). k < 25) f 11 (17 ∷ []) (lit< tt) (by_code (λ (k : ℕ). k < 25) f 17 [] (lit< tt) (λ e. absurd (never e)))))
 
 sound_back : (c f r : ℕ) → among f wave_formats ≡ true → r < 14 → 0 < c → c < 256
-    → found.Is (record { channels = c; format = f; rate = r }) ≡ sound_of 1 c (get_or hz_table r 0) (block_of c f) (get_or storage_table f 0)
+    → Ok (record { channels = c; format = f; rate = r }) ≡ sound_of 1 c (get_or hz_table r 0) (block_of c f) (get_or storage_table f 0)
 unfolding sound_of
 sound_back c f r hf hr hc hc₁ =
     let b : format_of_bits (get_or storage_table f 0) ≡ f = bits_back f hf in
@@ -56,7 +55,7 @@ sound_back c f r hf hr hc hc₁ =
     (passes _ _ _ (lt-ltb 0 c hc)
     (passes _ _ _ (lt-ltb c 256 hc₁)
     (passes _ _ _ (eq-eqb (block_of c f) (block_of c (format_of_bits (get_or storage_table f 0))) (sym (ap (block_of c) b)))
-    (λ i. found.Is (record { channels = c; format = sym b i; rate = sym p i })))))))
+    (λ i. Ok (record { channels = c; format = sym b i; rate = sym p i })))))))
 
 -- ---- the header's numbers
 
@@ -121,12 +120,12 @@ module _ (c f r n : ℕ) (t : List ℕ) (hf : among f wave_formats ≡ true) (hr
       let s₄ : num_at 32 2 file ≡ block_of c f = at 9 in
       let s₅ : num_at 34 2 file ≡ get_or storage_table f 0 = at 10 in
       let d : num_at 40 4 file ≡ n = at 12 in
-      let x : found.Is (record { channels = c; format = f; rate = r }) ≡ sound_at file 20 =
+      let x : Ok (record { channels = c; format = f; rate = r }) ≡ sound_at file 20 =
       sound_back c f r hf hr hc hc₁ ∙ (λ i. sound_of (sym s₁ i) (sym s₂ i) (sym s₃ i) (sym s₄ i) (sym s₅ i)) in
       passes _ _ _ refl
       (passes _ _ _ refl
       (passes _ _ _ (le-leb 16 (num_at 16 4 file) (omega arith))
-      ((λ i. Is (record { sound = record { channels = c; format = f; rate = r }; offset = 44; len = sym d i })) ∙ ap (λ (y : FoundSound). wave_by y file 36) x)))
+      ((λ i. Ok (record { sound = record { channels = c; format = f; rate = r }; offset = 44; len = sym d i })) ∙ ap (λ (y : Result Sound WaveError). wave_by y file 36) x)))
 
   in-back : read_back c f r n ≡ wave_in file (chunks_at file 12 0 (num_at 4 4 file - 4))
   in-back =
@@ -148,7 +147,7 @@ module _ (c f r n : ℕ) (t : List ℕ) (hf : among f wave_formats ≡ true) (hr
       (passes _ _ _ (le-leb (8 + num_at 4 4 file) (length file) (omega arith)) (passes _ _ _ (eq-eqb (num_at 8 4 file) wave_tag (at 2)) in-back)))
 
 -- THE ROUND TRIP: where the writer is done, reading what the lent slice then holds gives the three back, and shows the frames: these very bytes, from byte 44 on
-module _ (c f r : ℕ) (frames l : List ℕ) (m : ℕ) (small : c < 256) (wrote : Done m ≡ wrote_of c f r (length frames) (length l)) where
+module _ (c f r : ℕ) (frames l : List ℕ) (m : ℕ) (small : c < 256) (wrote : Ok m ≡ wrote_of c f r (length frames) (length l)) where
   abbrev left : List ℕ
   left = written_by (wrote_of c f r (length frames) (length l)) (file_of c f r frames) l
 
@@ -159,7 +158,7 @@ module _ (c f r : ℕ) (frames l : List ℕ) (m : ℕ) (small : c < 256) (wrote 
   unfolding file_of tail
   left_is =
       let n = length frames in
-      sym (ap (λ (w : WroteWave). written_by w (file_of c f r frames) l) wrote)
+      sym (ap (λ (w : Result ℕ WriteError). written_by w (file_of c f r frames) l) wrote)
       ∙ append_assoc (header_of c f r n) (frames ++ zeros (n % 2)) (drop m l)
 
   tail-long : padded (length frames) ≤ length tail
@@ -182,7 +181,7 @@ module _ (c f r : ℕ) (frames l : List ℕ) (m : ℕ) (small : c < 256) (wrote 
       let n = length frames in
       let h = header_of c f r n in
       let z = zeros (n % 2) ++ drop m l in
-      ap (λ (x : ReadWave). shown_by x left) reads-back
+      ap (λ (x : Result Wave WaveError). shown_by x left) reads-back
       ∙ ap (λ (s : List ℕ). take n (drop 44 s)) left_is
       ∙ ap (take n) (drop_at h tail 44 (length-header c f r n))
       ∙ ap (take n) (append_assoc frames (zeros (n % 2)) (drop m l))
@@ -199,7 +198,7 @@ fifty = zeros 50
 abbrev pub written : List ℕ
 written = written_by (wrote_of 1 5 1 4 50) (file_of 1 5 1 samples) fifty
 
-pub is-written : Done 48 ≡ wrote_of 1 5 1 4 50
+pub is-written : Ok 48 ≡ wrote_of 1 5 1 4 50
 unfolding wrote_of guard
 is-written = refl
 

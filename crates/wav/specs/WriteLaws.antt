@@ -1,6 +1,6 @@
 -- The laws of writing: which sounds are taken, and that the parts stored one after the other are the file.
 -- Assumes nothing.
-use Rattle.std.specs.Prelude.{◌≡◌, refl, Bool, true, false, List, [], ◌∷◌, ◌++◌, ℕ, ◌+◌, ◌*◌, ◌/◌, ◌%◌, ◌<◌, ◌≤◌, leb, ltb, eqb, length, get_or, drop}
+use Rattle.std.specs.Prelude.{◌≡◌, refl, Bool, true, false, List, [], ◌∷◌, ◌++◌, ℕ, ◌+◌, ◌*◌, ◌/◌, ◌%◌, ◌<◌, ◌≤◌, leb, ltb, eqb, length, get_or, drop, Result, Ok, Err}
 use Rattle.std.proofs.Common.{sym, ap, ap₂, subst, ◌∙◌, append_assoc, mul-pos, mul-le-mul, zero-add, arith, lit<, lit≤, length-append, eqb-true, leb-true, ltb-true}
 use Rattle.std.proofs.lemmas.List.{length-replicate}
 use Rattle.std.proofs.lemmas.List.Edits.{sets, sets-eq}
@@ -8,7 +8,11 @@ use Rattle.layout.specs.Bytes.{zeros}
 use Rattle.layout.specs.LayoutLaws.{length-write}
 use Rattle.layout.specs.StoreLaws.{sets_then}
 use Rattle.codes.specs.Says.{says, pick, guard}
-use Rattle.codes.specs.SaysLaws.{skips, took, refused}
+use Rattle.codes.specs.SaysLaws.{skips, took}
+use Rattle.codes.specs.Answers.{says_refusal}
+use Rattle.codes.specs.RefusalLaws.{refusal-is}
+use Rattle.codes.specs.declared.answers.Refusal.{Refusal}
+use Rattle.codes.specs.declared.answers.Refusal.TheVariants.{InvalidParam}
 use Rattle.codes.specs.Codes.{among, code_says}
 use Rattle.codes.specs.TableLaws.{rule}
 use Rattle.codes.specs.RatesLaws.{rate-below}
@@ -18,8 +22,8 @@ use Rattle.codes.specs.declared.rates.PcmRate.{PcmRate}
 use Rattle.wav.specs.Chunks.{padded}
 use Rattle.wav.specs.WaveLaws.{opened}
 use Rattle.wav.specs.Wave.{wave_formats, block_of, wrote_of, header, header_values, header_of, file_of}
-use Rattle.wav.specs.Types.{WroteWave, Done, BadLength}
-use Rattle.wav.specs.declared.writer.WroteWave.TheVariants.{BadSound}
+use Rattle.wav.specs.Types.{WriteError, BadLength}
+use Rattle.wav.specs.declared.writer.WriteError.TheVariants.{BadSound}
 
 -- ---- one of the four formats
 
@@ -46,8 +50,8 @@ held-bits k =
 pub is_held : (n v : ℕ) → says 0 (v ∷ []) ≡ code_says wave_formats 1 n → (among n wave_formats ≡ true) × (v ≡ n)
 is_held n v e = let t = took (among n wave_formats) 0 (n ∷ []) (v ∷ []) e in (t.0, ap (λ (l : List ℕ). get_or l 0 0) t.1)
 
-pub not-held : (n : ℕ) → says 1 [] ≡ code_says wave_formats 1 n → among n wave_formats ≡ false
-not-held n e = refused (among n wave_formats) 0 (n ∷ []) e
+pub not-held : (n : ℕ) (r : Refusal) → says_refusal r ≡ code_says wave_formats 1 n → among n wave_formats ≡ false
+not-held n r e = (refusal-is (among n wave_formats) (n ∷ []) r InvalidParam e).0
 
 -- no code from 25 on is one of them
 pub none_above : (k : ℕ) → 25 ≤ k → among k wave_formats ≡ false
@@ -79,7 +83,7 @@ byte-rate r hz b e h =
 
 -- ---- a test before another, both of which refuse alike
 
-pub refuses-all-the-same : (t : Bool) (x : WroteWave) → BadSound ≡ x → BadSound ≡ guard t BadSound x
+pub refuses-all-the-same : (t : Bool) (x : Result ℕ WriteError) → Err BadSound ≡ x → Err BadSound ≡ guard t (Err BadSound) x
 unfolding guard
 refuses-all-the-same true x e = e
 refuses-all-the-same false x e = refl
@@ -94,22 +98,22 @@ pub record Fits (c f r n room : ℕ) : Type 0 where
   pub small : padded n ≤ 4294967259
   pub enough : 44 + padded n ≤ room
 
-pub done : (c f r n room m : ℕ) → Done m ≡ wrote_of c f r n room → (m ≡ 44 + padded n) × Fits c f r n room
+pub done : (c f r n room m : ℕ) → Ok m ≡ wrote_of c f r n room → (m ≡ 44 + padded n) × Fits c f r n room
 unfolding wrote_of
 done c f r n room m e =
-    let no₁ : Done m ≡ BadSound → ⊥ = λ q. (let z : ◌≡◌ {A = ℕ} 0 1 = cc in omega arith) in
-    let no₂ : Done m ≡ BadLength → ⊥ = λ q. (let z : ◌≡◌ {A = ℕ} 0 1 = cc in omega arith) in
-    let t₆ = guard (leb (44 + padded n) room) BadLength (Done (44 + padded n)) in
-    let t₅ = guard (leb (padded n) 4294967259) BadSound t₆ in
-    let t₄ = guard (eqb (n % block_of c f) 0) BadSound t₅ in
-    let t₃ = guard (ltb 0 c) BadSound t₄ in
-    let t₂ = guard (ltb r 14) BadSound t₃ in
-    let p₁ = opened (among f wave_formats) BadSound t₂ (Done m) e no₁ in
-    let p₂ = opened (ltb r 14) BadSound t₃ (Done m) p₁.1 no₁ in
-    let p₃ = opened (ltb 0 c) BadSound t₄ (Done m) p₂.1 no₁ in
-    let p₄ = opened (eqb (n % block_of c f) 0) BadSound t₅ (Done m) p₃.1 no₁ in
-    let p₅ = opened (leb (padded n) 4294967259) BadSound t₆ (Done m) p₄.1 no₁ in
-    let p₆ = opened (leb (44 + padded n) room) BadLength (Done (44 + padded n)) (Done m) p₅.1 no₂ in
+    let no₁ : ◌≡◌ {A = Result ℕ WriteError} (Ok m) (Err BadSound) → ⊥ = λ q. (let z : ◌≡◌ {A = ℕ} 0 1 = cc in omega arith) in
+    let no₂ : ◌≡◌ {A = Result ℕ WriteError} (Ok m) (Err BadLength) → ⊥ = λ q. (let z : ◌≡◌ {A = ℕ} 0 1 = cc in omega arith) in
+    let t₆ = guard (leb (44 + padded n) room) (Err BadLength) (Ok (44 + padded n)) in
+    let t₅ = guard (leb (padded n) 4294967259) (Err BadSound) t₆ in
+    let t₄ = guard (eqb (n % block_of c f) 0) (Err BadSound) t₅ in
+    let t₃ = guard (ltb 0 c) (Err BadSound) t₄ in
+    let t₂ = guard (ltb r 14) (Err BadSound) t₃ in
+    let p₁ = opened (among f wave_formats) (Err BadSound) t₂ (Ok m) e no₁ in
+    let p₂ = opened (ltb r 14) (Err BadSound) t₃ (Ok m) p₁.1 no₁ in
+    let p₃ = opened (ltb 0 c) (Err BadSound) t₄ (Ok m) p₂.1 no₁ in
+    let p₄ = opened (eqb (n % block_of c f) 0) (Err BadSound) t₅ (Ok m) p₃.1 no₁ in
+    let p₅ = opened (leb (padded n) 4294967259) (Err BadSound) t₆ (Ok m) p₄.1 no₁ in
+    let p₆ = opened (leb (44 + padded n) room) (Err BadLength) (Ok (44 + padded n)) (Ok m) p₅.1 no₂ in
     let x : m ≡ 44 + padded n = cc p₆.1 in (
       x,
       record {

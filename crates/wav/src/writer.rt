@@ -1,21 +1,19 @@
 // Writing a file.
-ghost use Rattle.std.specs.Prelude.{◌≡◌, ◌++◌, ◌+◌, ◌≤◌, ◌*◌, ◌%◌, length, drop};
+ghost use Rattle.std.specs.Prelude.{◌≡◌, ◌++◌, ◌+◌, ◌≤◌, ◌*◌, ◌%◌, Ok, length, drop};
 ghost use Rattle.std.proofs.lemmas.List.Edits.{sets};
 ghost use Rattle.layout.specs.Bytes.{zeros};
 ghost use Rattle.layout.specs.Layout.{write as writes};
 ghost use Rattle.wav.specs.Chunks.{padded};
-ghost use Rattle.wav.specs.declared.writer.WroteWave.TheVariants.{Done};
 ghost use Rattle.wav.specs.Wave.{wrote_of, written_by, file_of, header, header_values};
 
 use crate::chunks::{DATA_TAG, FMT_TAG, RIFF_TAG, WAVE_TAG};
 use crate::sound::{block, held};
-use codes::{FoundFormat, FoundRate, PcmRate};
+use codes::PcmRate;
 use layout::{put_bytes, put_u8, put_u16, put_u32};
 
-// A file of so many bytes, or why there is none.
+// Why a file is not written: 14 for its sound or its frames, 10 for too little room.
 #[derive(Clone, Copy)]
-pub enum WroteWave {
-    Done(usize),
+pub enum WriteError {
     BadSound,
     BadLength,
 }
@@ -23,33 +21,33 @@ pub enum WroteWave {
 // The most bytes of frames with their pad.
 const MOST: usize = 4294967259;
 
-fn judge(channels: u8, format: u8, rate: u8, len: usize, room: usize) -> WroteWave
+fn judge(channels: u8, format: u8, rate: u8, len: usize, room: usize) -> Result<usize, WriteError>
     ensures { result ≡ wrote_of channels format rate len room }
 {
-    let FoundFormat::Is(f) = held(format) else {
-        return WroteWave::BadSound;
+    let Ok(f) = held(format) else {
+        return Err(WriteError::BadSound);
     };
     if 14 <= rate {
-        return WroteWave::BadSound;
+        return Err(WriteError::BadSound);
     }
     if channels == 0 {
-        return WroteWave::BadSound;
+        return Err(WriteError::BadSound);
     }
     let whole = block(channels, f) as usize;
     if len % whole != 0 {
-        return WroteWave::BadSound;
+        return Err(WriteError::BadSound);
     }
     if MOST < len {
-        return WroteWave::BadSound;
+        return Err(WriteError::BadSound);
     }
     let padded = len + len % 2;
     if MOST < padded {
-        return WroteWave::BadSound;
+        return Err(WriteError::BadSound);
     }
     if room < 44 + padded {
-        return WroteWave::BadLength;
+        return Err(WriteError::BadLength);
     }
-    WroteWave::Done(44 + padded)
+    Ok(44 + padded)
 }
 
 // The header of a file with so many bytes of frames.
@@ -84,13 +82,13 @@ fn put_pad(out: &mut [u8], at: usize, odd: usize)
 
 // The file at the front of a slice with room for it.
 fn fill(channels: u8, format: u8, rate: u8, frames: &[u8], out: &mut [u8])
-    requires { wrote_of channels format rate (length frames.now) (length out.old) ≡ Done (44 + padded (length frames.now)) }
+    requires { wrote_of channels format rate (length frames.now) (length out.old) ≡ Ok (44 + padded (length frames.now)) }
     ensures { out.new ≡ file_of channels format rate frames.now ++ drop (44 + padded (length frames.now)) out.old }
 {
-    let FoundFormat::Is(f) = held(format) else {
+    let Ok(f) = held(format) else {
         return;
     };
-    let FoundRate::Is(r) = PcmRate::from_number(rate) else {
+    let Ok(r) = PcmRate::try_from(rate) else {
         return;
     };
     let len = frames.len();
@@ -100,18 +98,19 @@ fn fill(channels: u8, format: u8, rate: u8, frames: &[u8], out: &mut [u8])
     put_pad(out, 44 + len, len % 2);
 }
 
-// The file at the front of the lent slice; the slice is as it was where the file is refused.
-pub fn write(channels: u8, format: u8, rate: u8, frames: &[u8], out: &mut [u8]) -> WroteWave
+// The file at the front of the lent slice, and its bytes; the slice is as it was where the file is
+// refused.
+pub fn write(
+    channels: u8,
+    format: u8,
+    rate: u8,
+    frames: &[u8],
+    out: &mut [u8],
+) -> Result<usize, WriteError>
     ensures value { result ≡ wrote_of channels format rate (length frames.now) (length out.old) }
     ensures out_after { out.new ≡ written_by (wrote_of channels format rate (length frames.now) (length out.old)) (file_of channels format rate frames.now) out.old }
 {
-    let said = judge(channels, format, rate, frames.len(), out.len());
-    match said {
-        WroteWave::Done(n) => {
-            fill(channels, format, rate, frames, out);
-            WroteWave::Done(n)
-        }
-        WroteWave::BadSound => WroteWave::BadSound,
-        WroteWave::BadLength => WroteWave::BadLength,
-    }
+    let n = judge(channels, format, rate, frames.len(), out.len())?;
+    fill(channels, format, rate, frames, out);
+    Ok(n)
 }

@@ -1,6 +1,6 @@
 -- Document 01's worked numbers: "P marks the ten proved together, as one table under a single statement over the definitions."
 -- Assumes nothing.
-use Rattle.std.specs.Prelude.{◌≡◌, ℕ, ◌+◌, ◌*◌, true, false, List, [], ◌∷◌, replicate, refl}
+use Rattle.std.specs.Prelude.{◌≡◌, ℕ, ◌+◌, ◌*◌, true, false, List, [], ◌∷◌, replicate, refl, None}
 use Rattle.layout.specs.Bytes.{le, un, bytes_at, num_at}
 use Rattle.layout.specs.Layout.{size}
 use Rattle.codes.specs.Says.{guard}
@@ -16,7 +16,7 @@ use Rattle.sound_core.specs.Plan.{own_set, begin_of, read_to, after_streams, ans
 use Rattle.sound_core.specs.Reply.{message_after, says_reply, reply_of}
 use Rattle.exchange.specs.State.{new_sound, with_core}
 use Rattle.exchange.specs.Exchange.{call_of, feed_of}
-use Rattle.worked.specs.Types.{InFull, Going, Done, Ended, Completed, Call, SetParams, Streams, StreamsAsked, Sound}
+use Rattle.worked.specs.Types.{Going, Done, Ended, Call, SetParams, Streams, StreamsAsked, Sound, completion}
 
 -- a state of n streams whose set-up is done
 abbrev ready : ℕ → Sound
@@ -38,7 +38,7 @@ sets buffer period = SetParams 1 (asked_params buffer period 0 2 5 7)
 
 -- the bytes of a header and n records of streams, and what a page with an ok header and zeros answers to the query of n streams
 abbrev feeds : ℕ → ℕ × ℕ
-feeds n = (4 + n * size pcm_info, (says_reply (reply_of (feed_of InFull (asking n) (0x00 ∷ 0x80 ∷ replicate 4094 0) 24).say)).number)
+feeds n = (4 + n * size pcm_info, (says_reply (reply_of (feed_of None (asking n) (0x00 ∷ 0x80 ∷ replicate 4094 0) 24).say)).number)
 
 pub examples :
     -- "set parameters, stream 1, buffer 8192, period 2048, features 0, 2 channels, S16, 48000:
@@ -61,7 +61,7 @@ pub examples :
     -- "empty frames: Ok on turn 1"
     × (turns.comes_to 0 4 5 [] ≡ (Going, Done, 1, [], 0))
     -- "10 bytes, period 4: lengths 4, 4, 2; a right completion every turn: Ok on turn 4"
-    × (turns.comes_to 10 4 9 (Completed 0 0x8000 ∷ Completed 1 0x8000 ∷ Completed 2 0x8000 ∷ []) ≡ (Going, Done, 4, 4 ∷ 4 ∷ 2 ∷ [], 0))
+    × (turns.comes_to 10 4 9 (completion 0 0x8000 ∷ completion 1 0x8000 ∷ completion 2 0x8000 ∷ []) ≡ (Going, Done, 4, 4 ∷ 4 ∷ 2 ∷ [], 0))
     -- "11 periods, all quiet, budget 12: answer 9, 10 in flight"
     × (turns.comes_to 11 1 12 [] ≡ (Going, Ended OutOfTurns, 12, replicate 10 1, 10))
 unfolding call_of feed_of begin_of answer_of after_streams own_set consistent_of placed_of paced_of guard judged num_at bytes_at un le

@@ -1,14 +1,14 @@
 -- A transfer that the model device plays: what a turn offers goes to the device, and the status that it gives back is that turn's reading.
 -- Each step is what the contracts of `next_offer`, `offered`, `transfer` and `turn` say.
 -- Assumes nothing.
-use Rattle.std.specs.Prelude.{ℕ, List, [], ◌++◌, length, replicate}
+use Rattle.std.specs.Prelude.{ℕ, List, [], ◌++◌, length, replicate, Result, Ok, Err, Some, None}
 use Rattle.layout.specs.Bytes.{le, num_at}
 use Rattle.turns.specs.Calls.{offer_call, shown_by}
 use Rattle.turns.specs.Log.{Told, Ran, loop, called}
-use Rattle.turns.specs.declared.ring.Sent.TheVariants.{Nothing}
-use Rattle.turns.specs.declared.calls.Offer.TheVariants as offer
+use Rattle.codes.specs.declared.answers.Refusal.{Refusal}
+use Rattle.turns.specs.Types.{Sent}
 use Rattle.model.specs.Transfer.{transfer_call}
-use Rattle.worked.specs.Types.{Ring, Period, Reading, Quiet, Completed, Offer, Device}
+use Rattle.worked.specs.Types.{Ring, Reading, Device, completion}
 
 -- the driver's ring and the device
 pub record Desk : Type 0 where
@@ -21,12 +21,12 @@ pub record Comes : Type 0 where
   pub device : Device
 
 -- a period that is offered in a slot is played at once, and completed with the status in the device's 8 bytes; without an offer the reading is quiet
-abbrev pub comes_of : Offer → Device → List ℕ → Comes
-comes_of (offer.Is (Period slot offset len)) d request =
+abbrev pub comes_of : Result Sent Refusal → Device → List ℕ → Comes
+comes_of (Ok (Some p)) d request =
     let g = transfer_call d request (replicate 8 0) in
-    record { reading = Completed slot (num_at 0 4 g.lent); device = g.answered.device }
-comes_of (offer.Is Nothing) d request = record { reading = Quiet; device = d }
-comes_of (offer.Refused r) d request = record { reading = Quiet; device = d }
+    record { reading = completion p.slot (num_at 0 4 g.lent); device = g.answered.device }
+comes_of (Ok None) d request = record { reading = None; device = d }
+comes_of (Err r) d request = record { reading = None; device = d }
 
 -- ONE TURN. What is handed over is the stream id, 4 bytes little-endian, and then that part of the frames which the offer shows
 abbrev pub turn_at : List ℕ → Desk → Told Desk

@@ -1,6 +1,6 @@
 -- The laws of a transfer that the model device plays: each turn submits a period and hears it completed, and the last says Ok.
 -- Assumes nothing.
-use Rattle.std.specs.Prelude.{◌≡◌, ℕ, ◌+◌, ◌%◌, ◌^◌, ◌<◌, ◌≤◌, Bool, true, false, List, [], ◌∷◌, ◌++◌, length, drop, replicate, slice_index, slice_index_or, slice_set, refl}
+use Rattle.std.specs.Prelude.{◌≡◌, ℕ, ◌+◌, ◌%◌, ◌^◌, ◌<◌, ◌≤◌, Bool, true, false, List, [], ◌∷◌, ◌++◌, length, drop, replicate, slice_index, slice_index_or, slice_set, refl, Ok, Err, None}
 use Rattle.std.proofs.Math.Path.{sym, ap}
 use Rattle.std.proofs.Common.{◌∙◌, mod-lt, mod-eq_of_lt, add_assoc, arith, lit<, length-set, get_or-set_same, set-set, ne_eqb}
 use Rattle.std.proofs.Math.Nat.{mod-add-mod}
@@ -14,17 +14,15 @@ use Rattle.turns.specs.Rules.{choose_of, submit, sent_of, comes_to, settle, act,
 use Rattle.turns.specs.DecisionLaws.{submits, finishes, good}
 use Rattle.turns.specs.Calls.{offer_by, offer_as, offer_call}
 use Rattle.turns.specs.HostLaws.{Runs, admits}
-use Rattle.turns.specs.declared.ring.Sent.TheVariants.{Nothing}
-use Rattle.turns.specs.declared.rules.Outcome.{Outcome}
+use Rattle.turns.specs.Types.{Outcome}
 use Rattle.turns.specs.declared.rules.Verdict.{Verdict}
 use Rattle.turns.specs.declared.rules.Verdict.TheVariants.{Good}
-use Rattle.turns.specs.declared.calls.Offer.TheVariants as offer
 use Rattle.model.specs.Device.{within_of}
 use Rattle.model.specs.DeviceLaws.{few-streams}
 use Rattle.model.specs.Control.{Given}
 use Rattle.model.specs.Transfer.{played_by, status_in, transfer_call}
 use Rattle.model.specs.ModelLaws.{transfer-answers, played-ok, played-after}
-use Rattle.worked.specs.Types.{Track, Period, Silent, Freed, Going, Done, Reading, Completed, Choice, Submit, Finish, Device}
+use Rattle.worked.specs.Types.{Track, Going, Done, Reading, Choice, Submit, Finish, Device, completion, freed_slot, sent_period}
 
 -- ---- the device
 
@@ -116,18 +114,18 @@ module _ (per stream total period budget h o k : ℕ) (room : per ≤ 32) where
 
   -- a turn with a period left, and one with none
   pub goes : o < total → k + 1 < budget
-      → counted_of (turn_of per t (comes_to played_of (Completed h 0x8000)) (Completed h 0x8000))
-      ≡ record { track = track_at per stream total period budget (after h) (o + span) (k + 1); sent = Period h o span; heard = Freed h 0x8000; said = Going }
+      → counted_of (turn_of per t (comes_to played_of (completion h 0x8000)) (completion h 0x8000))
+      ≡ record { track = track_at per stream total period budget (after h) (o + span) (k + 1); sent = sent_period h o span; heard = freed_slot h 0x8000; said = Going }
   unfolding turn_of counted_of played_of
   goes more left =
-      ap (λ (c : Choice). counted_of (act c t (played_of 0x8000) (Completed h 0x8000))) (submitted more)
+      ap (λ (c : Choice). counted_of (act c t (played_of 0x8000) (completion h 0x8000))) (submitted more)
       ∙ ap (λ (v : Verdict). counted_of (settle v (sent_of t) (submit t) h 0x8000)) (sym (good (submit t) h (omega arith) refl))
       ∙ ap (λ (b : Bool). counted_by Going b (settle Good (sent_of t) (submit t) h 0x8000)) (ne_eqb (k + 1) budget (λ e. omega arith))
 
-  pub stops : total ≤ o → (outcome : Outcome) (reading : Reading) → counted_of (turn_of per t outcome reading) ≡ record { track = ticked false t; sent = Nothing; heard = Silent; said = Done }
+  pub stops : total ≤ o → (outcome : Outcome) (reading : Reading) → counted_of (turn_of per t outcome reading) ≡ record { track = ticked false t; sent = None; heard = None; said = Done }
   unfolding turn_of counted_of
   stops none outcome reading = ap (λ (c : Choice). counted_of (act c t outcome reading)) (finished none)
 
-  pub offers : Runs total t → offer_call t total ≡ offer.Is (offer_by (choose_of per t) t)
+  pub offers : Runs total t → offer_call t total ≡ Ok (offer_by (choose_of per t) t)
   unfolding offer_as
-  offers r = sym (admits false total t offer.Refused (offer.Is (offer_by (choose_of per t) t)) r)
+  offers r = sym (admits false total t Err (Ok (offer_by (choose_of per t) t)) r)

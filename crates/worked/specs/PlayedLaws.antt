@@ -1,6 +1,6 @@
 -- A transfer that the model device plays, turn after turn: it says Ok on the turn after its last period, and all its bytes are counted.
 -- Assumes nothing.
-use Rattle.std.specs.Prelude.{◌≡◌, ℕ, zero, suc, ◌+◌, ◌-◌, ◌<◌, ◌≤◌, false, List, [], ◌++◌, length, take, drop, slice_set}
+use Rattle.std.specs.Prelude.{◌≡◌, ℕ, zero, suc, ◌+◌, ◌-◌, ◌<◌, ◌≤◌, false, List, [], ◌++◌, length, take, drop, slice_set, Result, Ok, None}
 use Rattle.std.proofs.Math.Path.{refl, ap, subst}
 use Rattle.std.proofs.Common.{sym, ◌∙◌, arith, length-drop, length-take-le}
 use Rattle.std.proofs.Math.Decide.{dec_lt}
@@ -15,11 +15,11 @@ use Rattle.turns.specs.Calls.{carry, start_call, ring_after, offer_by, shown_by}
 use Rattle.turns.specs.Log.{Ran, Told, onward, waiting_by, loop_of, loop, called}
 use Rattle.turns.specs.HostLaws.{Runs, call-turns, runs_on, begins}
 use Rattle.turns.specs.HostLaws as host
-use Rattle.turns.specs.declared.ring.Sent.TheVariants.{Nothing}
+use Rattle.codes.specs.declared.answers.Refusal.{Refusal}
+use Rattle.turns.specs.Types.{Sent}
 use Rattle.turns.specs.declared.ring.Step.{Step}
-use Rattle.turns.specs.declared.calls.Offer.TheVariants as offer
 use Rattle.model.specs.Transfer.{played_by}
-use Rattle.worked.specs.Types.{Slot, Track, Ring, Period, Silent, Freed, Going, Done, Quiet, Completed, Choice, Offer, Device}
+use Rattle.worked.specs.Types.{Slot, Track, Ring, Going, Done, Choice, Device, completion, freed_slot, sent_period}
 use Rattle.worked.specs.Play.{Desk, comes_of, turn_at, attended}
 use Rattle.worked.specs.PlayLaws.{Plays, played-none, played-more, plays-still, status-is, device-is, track_at, submitted, finished, goes, stops, offers}
 
@@ -40,7 +40,7 @@ module _ (per stream period budget : ℕ) (frames : List ℕ) (room : per ≤ 32
   desk h o k slots d = record { ring = record { track = tk h o k; slots = slots }; device = d }
 
   -- a turn of which the offer is known
-  abbrev turn_by : Desk → Offer → Told Desk
+  abbrev turn_by : Desk → Result Sent Refusal → Told Desk
   turn_by x a =
       let g = comes_of a x.device (le 4 stream ++ shown_by a frames) in
       let u = called total x.ring g.reading in
@@ -59,28 +59,28 @@ module _ (per stream period budget : ℕ) (frames : List ℕ) (room : per ≤ 32
     turn-goes : o < total → k + 1 < budget → turn_at frames (desk h o k slots d)
         ≡ record {
           left = desk (after h) (o + span) (k + 1) (slice_set slots h (record { offset = o; len = span })) (played_by d stream span);
-          line = record { sent = Period h o span; waiting = w; reading = Completed h 0x8000; heard = Freed h 0x8000; said = Going };
+          line = record { sent = sent_period h o span; waiting = w; reading = completion h 0x8000; heard = freed_slot h 0x8000; said = Going };
         }
     turn-goes more left =
         let part = take span (drop o frames) in
         let long : length part ≡ span = length-take-le span (drop o frames) (omega (arith, length-drop o frames)) in
         let device = device-is d stream p part ∙ ap (played_by d stream) long in
-        let e = sym (call-turns total (tk h o k) (Completed h 0x8000) r) ∙ goes per stream total period budget h o k room more left in
-        ap (turn_by (desk h o k slots d)) (offers per stream total period budget h o k room r ∙ ap (λ (c : Choice). offer.Is (offer_by c (tk h o k))) (submitted per stream total period budget h o k room more))
-        ∙ (λ i. let u = called total r₀ (Completed h (status-is d stream p part i)) in record { left = record { ring = u.left; device = device i }; line = u.line })
-        ∙ ap (λ (s : Step). record { left = record { ring = ring_after r₀ s; device = played_by d stream span }; line = record { sent = s.sent; waiting = w; reading = Completed h 0x8000; heard = s.heard; said = s.said } }) e
+        let e = sym (call-turns total (tk h o k) (completion h 0x8000) r) ∙ goes per stream total period budget h o k room more left in
+        ap (turn_by (desk h o k slots d)) (offers per stream total period budget h o k room r ∙ ap (λ (c : Choice). Ok (offer_by c (tk h o k))) (submitted per stream total period budget h o k room more))
+        ∙ (λ i. let u = called total r₀ (completion h (status-is d stream p part i)) in record { left = record { ring = u.left; device = device i }; line = u.line })
+        ∙ ap (λ (s : Step). record { left = record { ring = ring_after r₀ s; device = played_by d stream span }; line = record { sent = s.sent; waiting = w; reading = completion h 0x8000; heard = s.heard; said = s.said } }) e
 
     turn-stops : total ≤ o → turn_at frames (desk h o k slots d)
-        ≡ record { left = record { ring = record { track = ticked false (tk h o k); slots = slots }; device = d }; line = record { sent = Nothing; waiting = w; reading = Quiet; heard = Silent; said = Done } }
+        ≡ record { left = record { ring = record { track = ticked false (tk h o k); slots = slots }; device = d }; line = record { sent = None; waiting = w; reading = None; heard = None; said = Done } }
     turn-stops none =
-        let e = sym (call-turns total (tk h o k) Quiet r) ∙ stops per stream total period budget h o k room none _ Quiet in
-        ap (turn_by (desk h o k slots d)) (offers per stream total period budget h o k room r ∙ ap (λ (c : Choice). offer.Is (offer_by c (tk h o k))) (finished per stream total period budget h o k room none))
-        ∙ ap (λ (s : Step). record { left = record { ring = ring_after r₀ s; device = d }; line = record { sent = s.sent; waiting = w; reading = Quiet; heard = s.heard; said = s.said } }) e
+        let e = sym (call-turns total (tk h o k) None r) ∙ stops per stream total period budget h o k room none _ None in
+        ap (turn_by (desk h o k slots d)) (offers per stream total period budget h o k room r ∙ ap (λ (c : Choice). Ok (offer_by c (tk h o k))) (finished per stream total period budget h o k room none))
+        ∙ ap (λ (s : Step). record { left = record { ring = ring_after r₀ s; device = d }; line = record { sent = s.sent; waiting = w; reading = None; heard = s.heard; said = s.said } }) e
 
     runs-next : o < total → k + 1 < budget → Runs total (tk (after h) (o + span) (k + 1))
     runs-next more left =
         let e = goes per stream total period budget h o k room more left in
-        subst (λ (s : Step). Runs total s.track) e (runs_on per total (tk h o k) _ (Completed h 0x8000) (omega arith) r (ap (λ (s : Step). s.said) e))
+        subst (λ (s : Step). Runs total s.track) e (runs_on per total (tk h o k) _ (completion h 0x8000) (omega arith) r (ap (λ (s : Step). s.said) e))
 
   -- the claim of a loop, from a place on; f is enough for the periods that are left
   abbrev Claim : ℕ → Type 0

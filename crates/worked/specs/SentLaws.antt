@@ -1,6 +1,6 @@
 -- A call that is sent and that the device takes: one exchange, an ok, and the driver's result.
 -- Assumes nothing.
-use Rattle.std.specs.Prelude.{◌≡◌, ℕ, ◌^◌, ◌<◌, ◌≤◌, true, false, List, [], ◌∷◌, length, take, drop, refl}
+use Rattle.std.specs.Prelude.{◌≡◌, ℕ, ◌^◌, ◌<◌, ◌≤◌, true, false, List, [], ◌∷◌, length, take, drop, refl, None, Ok}
 use Rattle.std.proofs.Common.{sym, ◌∙◌, subst, arith, lit<, length-set, take_at, lt-ltb}
 use Rattle.std.proofs.Math.Path.{ap}
 use Rattle.layout.specs.Bytes.{le}
@@ -30,7 +30,7 @@ use Rattle.exchange.specs.Tables.{look_of, sound_after}
 use Rattle.exchange.specs.Exchange.{listed, step_of, call_of, feed_of}
 use Rattle.model.specs.Control.{laid, ok, kept_by, outcome_of}
 use Rattle.model.specs.ModelLaws.{command-answer}
-use Rattle.worked.specs.Types.{InFull, Verdict, Good, Track, Params, Kind, Prepare, Release, Start, Stop, Call, SetParams, Idle, Sent, Core, Request, Look, Nothing, Plan, Sound, Held, Device}
+use Rattle.worked.specs.Types.{Verdict, Track, Params, Kind, Prepare, Release, Start, Stop, Call, SetParams, Idle, Sent, Core, Request, Look, Nothing, Plan, Sound, Held, Device}
 use Rattle.worked.specs.Talk.{Talk, talk_of, opened, relay, Fitting, counts_of, Settled, Took}
 use Rattle.worked.specs.TalkLaws.{length-laid, asking, after, feeds, relays, good-page, calls}
 
@@ -42,7 +42,7 @@ abbrev pub ok_page : List ℕ → List ℕ
 ok_page page = laid (le 4 0x8000) page
 
 abbrev pub done_plan : Sound → Call → Plan
-done_plan s call = end_of s.core (Done value.Nothing) (effect_of call)
+done_plan s call = end_of s.core (Ok (Done value.Nothing)) (effect_of call)
 
 module _ (s : Sound) (t : Track) (d : Device) (call : Call) (q : Request) (page m : List ℕ) (o : Settled s t d page m) (fine : call_ok call ≡ true)
     (own : own_of s.core call (look_of s call) ≡ send_of s.core (Sent call) q Nothing) (short : length (request_bytes q) ≤ 24) where
@@ -62,10 +62,10 @@ module _ (s : Sound) (t : Track) (d : Device) (call : Call) (q : Request) (page 
   ok-whole : length (ok_page page) ≡ 4096
   ok-whole = length-laid (le 4 0x8000) page (omega (arith, length-le 4 0x8000, o.lent.whole)) ∙ o.lent.whole
 
-  ok-good : judged InFull (ok_page page) 0 0 ≡ Good
+  ok-good : judged None (ok_page page) 0 0 ≡ Ok tt
   ok-good = good-page (drop (length (le 4 0x8000)) page) 0 0 ok-whole (omega arith)
 
-  ok-feed : feed_of InFull (waiting s call) (ok_page page) (length (laid (request_bytes q) m)) ≡ done_plan s call
+  ok-feed : feed_of None (waiting s call) (ok_page page) (length (laid (request_bytes q) m)) ≡ done_plan s call
   unfolding after_sent guard
   ok-feed =
       feeds (waiting s call) (ok_page page) (length (laid (request_bytes q) m)) ok-whole long waiting_kept.consistent
@@ -88,7 +88,7 @@ module _ (s : Sound) (t : Track) (d : Device) (call : Call) (q : Request) (page 
         let core : z.core ≡ c = after-core (effect_of call) c (waiting s call) (ok_page page) in
         subst (λ (y : Talk). Settled y.driver.sound t y.device y.page y.message) (sym result)
         (record {
-          state = subst (λ (p : Plan). Kept (step_of p (waiting s call) (ok_page page)).sound) ok-feed (feed-kept (waiting s call) (paged InFull (ok_page page) (length (laid (request_bytes q) m))) waiting_kept);
+          state = subst (λ (p : Plan). Kept (step_of p (waiting s call) (ok_page page)).sound) ok-feed (feed-kept (waiting s call) (paged None (ok_page page) (length (laid (request_bytes q) m))) waiting_kept);
           off = ap (λ (x : Core). x.guard) core ∙ o.off;
           ready = ap (λ (x : Core). x.ready) core ∙ o.ready;
           closed = ap (λ (x : Core). x.stage) core;
@@ -101,7 +101,7 @@ module _ (s : Sound) (t : Track) (d : Device) (call : Call) (q : Request) (page 
     pub took : (n : ℕ) → length (request_bytes q) ≡ n → Fitting e → counts_of d ≡ counts_of e → Took t n (request_bytes q) (opened s t call d page m) (relay (opened s t call d page m))
     took n l f same =
         record {
-          asks = ap (λ (z : Talk). z.driver.reply) sends ∙ ap reply.Send l;
+          asks = ap (λ (z : Talk). z.driver.reply) sends ∙ ap (λ (n : ℕ). Ok (reply.Send n)) l;
           sent = ap (λ (z : Talk). take n z.message) sends ∙ take_at (request_bytes q) (drop (length (request_bytes q)) m) n l;
           says = ap (λ (z : Talk). z.driver.reply) result;
           settled = settles f same;

@@ -1,6 +1,6 @@
 -- A WHOLE SESSION of the driver with the model device, by the theorems of Meets: their premises are met one after the other.
 -- Assumes nothing.
-use Rattle.std.specs.Prelude.{◌≡◌, ℕ, ◌+◌, ◌%◌, ◌^◌, ◌<◌, ◌≤◌, true, not, List, [], ◌∷◌, length, replicate, ◌==◌, slice_index, refl}
+use Rattle.std.specs.Prelude.{◌≡◌, ℕ, ◌+◌, ◌%◌, ◌^◌, ◌<◌, ◌≤◌, true, not, List, [], ◌∷◌, length, replicate, ◌==◌, slice_index, refl, Ok}
 use Rattle.std.proofs.Common.{sym, ap, ◌∙◌, subst, inl, arith, lit<, eqb-true}
 use Rattle.std.proofs.lemmas.Bool.{false≢true, not-true}
 use Rattle.std.proofs.lemmas.List.{get_or-replicate}
@@ -51,7 +51,7 @@ then r stream budget frames y = attended frames budget (starting y.driver.sound 
 
 pub record Session (d : Device) (r : Ring) (stream : ℕ) (to : Params) (budget : ℕ) (frames : List ℕ) (y : Talk) : Type 0 where
   -- parameters were set: the driver said Ok, and the device holds what was sent
-  pub set : y.driver.reply ≡ reply.Done value.Nothing
+  pub set : y.driver.reply ≡ Ok (reply.Done value.Nothing)
   pub held : params_says y.device stream ≡ says 0 (set_parameters_values (set_of stream to))
   -- then the transfer starts, says Ok, and the device has counted what was played
   pub starts : (starting y.driver.sound r stream budget (length y.message) frames).reply ≡ Says Going

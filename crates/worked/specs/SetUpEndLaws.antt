@@ -1,6 +1,6 @@
 -- The end of set-up: the last page leaves the conversation that the same call opens on the state with set-up done.
 -- Assumes nothing.
-use Rattle.std.specs.Prelude.{◌≡◌, ℕ, ◌≤◌, true, false, List, [], length, take}
+use Rattle.std.specs.Prelude.{◌≡◌, ℕ, ◌≤◌, true, false, List, [], length, take, Ok}
 use Rattle.std.proofs.Math.Path.{refl, sym, ap}
 use Rattle.std.proofs.Common.{◌∙◌}
 use Rattle.std.proofs.lemmas.Bool.{false≢true}
@@ -21,7 +21,7 @@ use Rattle.exchange.specs.KeptLaws.{new-kept, step_kept}
 use Rattle.exchange.specs.State.{jacks_of, pcms_of, maps_of}
 use Rattle.exchange.specs.Tables.{look_by, look_of, sound_after}
 use Rattle.exchange.specs.Exchange.{list_of, step_of}
-use Rattle.worked.specs.Types.{Good, Track, Call, SetParams, Command, Remap, Streams, Supported, Xfer, Capture, Stage, Idle, JacksAsked, StreamsAsked, MapsAsked, Core, Look, Effect, Nothing, FillJacks, FillStreams, FillMaps, Plan, Sound, Step, Device}
+use Rattle.worked.specs.Types.{Track, Call, SetParams, Command, Remap, Streams, Supported, Xfer, Capture, Stage, Idle, JacksAsked, StreamsAsked, MapsAsked, Core, Look, Effect, Nothing, FillJacks, FillStreams, FillMaps, Plan, Sound, Step, Device}
 use Rattle.worked.specs.Talk.{Talk, talk_of, opened, relay, Fitting, Lent, new_for}
 use Rattle.model.specs.Control.{laid}
 use Rattle.worked.specs.TalkLaws.{after, Told, asked-length, calls}
@@ -54,12 +54,12 @@ finishing p n c s page quiet =
 -- a table more, before set-up is done
 fills : (s : Sound) (c : Core) (x : Effect) (page : List ℕ) → Allowed s.core x → c.counts ≡ s.core.counts → c.guard ≡ s.core.guard → s.core.ready ≡ false → consistent_of c ≡ true → Kept s → Kept (sound_after x c s page)
 fills s c x page a n g r e k =
-    step_kept s (record { core = c; say = Done value.Nothing; effect = x }) page k (record { counts = n; guard = g; ready = λ h. absurd (false≢true (sym r ∙ h)) }) (record { consistent = e; effect = a })
+    step_kept s (record { core = c; say = Ok (Done value.Nothing); effect = x }) page k (record { counts = n; guard = g; ready = λ h. absurd (false≢true (sym r ∙ h)) }) (record { consistent = e; effect = a })
 
 module _ (d : Device) (f : Fitting d) (call : Call) (fine : call_ok call ≡ true) where
   -- the last page
   ends : (t : Track) (p p₂ page m : List ℕ) → Lent t page m
-      → after (after_maps (asked_maps d call p p₂).core call Good (look_of (asked_maps d call p p₂) call)) (asked_maps d call p p₂) d page m ≡ opened (finished d call p p₂ page) t call d page m
+      → after (after_maps (asked_maps d call p p₂).core call (Ok tt) (look_of (asked_maps d call p p₂) call)) (asked_maps d call p p₂) d page m ≡ opened (finished d call p p₂ page) t call d page m
   unfolding after_maps guard
   ends t p p₂ page m l =
       let n = d.counts.maps in

@@ -1,6 +1,6 @@
 -- Set-up, query by query: what the driver sends, what the device answers, and the state that the page leaves.
 -- Assumes nothing.
-use Rattle.std.specs.Prelude.{◌≡◌, ℕ, ◌≤◌, Bool, true, false, List, [], length, refl}
+use Rattle.std.specs.Prelude.{◌≡◌, ℕ, ◌≤◌, Bool, true, false, List, [], length, refl, Ok}
 use Rattle.std.proofs.Common.{ap}
 use Rattle.codes.specs.Says.{guard}
 use Rattle.records.specs.Records.{jack_info_of, pcm_info_of, channel_map_of, jack_bytes, pcm_bytes, map_bytes}
@@ -15,7 +15,7 @@ use Rattle.exchange.specs.Exchange.{listed}
 use Rattle.model.specs.Control.{laid, rows_in}
 use Rattle.model.specs.DeviceLaws.{few-jacks, few-streams, few-maps}
 use Rattle.model.specs.ModelLaws.{jacks-answers, pcms-answers, maps-answers}
-use Rattle.worked.specs.Types.{Good, Track, Call, Stage, Idle, JacksAsked, StreamsAsked, MapsAsked, Core, Request, Nothing, FillJacks, FillStreams, FillMaps, Plan, Sound, Device}
+use Rattle.worked.specs.Types.{Track, Call, Stage, Idle, JacksAsked, StreamsAsked, MapsAsked, Core, Request, Nothing, FillJacks, FillStreams, FillMaps, Plan, Sound, Device}
 use Rattle.worked.specs.Talk.{talk_of, opened, relay, Fitting, Lent, counts_of, new_for}
 use Rattle.worked.specs.TalkLaws.{asking, after, calls, Told, told, queried}
 
@@ -108,6 +108,6 @@ module _ (d : Device) (f : Fitting d) (call : Call) (fine : call_ok call ≡ tru
           queried (pcms-answers d f.within f.pcms) page whole (asked_streams d call p) (listed []) m f.within long streams-ok (λ p. refl)
 
       pub maps-come : (p p₂ : List ℕ) → let s = asked_maps d call p p₂ in
-          relay (asking s (maps_query d) (listed []) d page m) ≡ after (after_maps s.core call Good (look_of s call)) s d (laid (maps_answer d) page) (laid (request_bytes (maps_query d)) m)
+          relay (asking s (maps_query d) (listed []) d page m) ≡ after (after_maps s.core call (Ok tt) (look_of s call)) s d (laid (maps_answer d) page) (laid (request_bytes (maps_query d)) m)
       maps-come p p₂ =
           queried (maps-answers d f.within f.maps) page whole (asked_maps d call p p₂) (listed []) m f.within long maps-ok (λ p. refl)

@@ -1,7 +1,7 @@
 -- A conversation of the driver and the model device: the driver's request goes to the device, and the page that it answers in is fed to the driver.
 -- Each step is what the contracts of the calls, of `feed` and of `control` say.
 -- Assumes nothing.
-use Rattle.std.specs.Prelude.{◌≡◌, ℕ, ◌^◌, ◌<◌, ◌≤◌, true, false, List, [], length, take, slice_index, slice_index_or}
+use Rattle.std.specs.Prelude.{◌≡◌, ℕ, ◌^◌, ◌<◌, ◌≤◌, true, false, List, [], length, take, slice_index, slice_index_or, None, Result, Ok, Err}
 use Rattle.layout.specs.Layout.{Fit}
 use Rattle.records.specs.Records.{jack_info, jack_info_values, pcm_info, pcm_info_values, channel_map, channel_map_values, jack_info_of, pcm_info_of, channel_map_of}
 use Rattle.pending.specs.Table.{none_in}
@@ -16,7 +16,7 @@ use Rattle.exchange.specs.Kept.{Kept}
 use Rattle.exchange.specs.Exchange.{step_of, call_of, feed_of}
 use Rattle.model.specs.Device.{within_of}
 use Rattle.model.specs.Control.{control_of}
-use Rattle.worked.specs.Types.{InFull, Track, Call, Idle, Plan, Reply, Sound, Step, Device}
+use Rattle.worked.specs.Types.{Track, Call, Idle, Plan, Reply, Sound, Step, Device, Refusal}
 
 -- where both stand: what the driver gave last (its state, its reply, its list of streams), the device, the answer page, and the message buffer
 pub record Talk : Type 0 where
@@ -38,13 +38,13 @@ abbrev pub fed_with : List ℕ → Talk → Talk
 fed_with request x =
     let s = x.driver.sound in
     let g = control_of x.device request x.page in
-    talk_of (feed_of InFull s g.lent (length x.message)) s g.lent g.answered.device g.lent x.message
+    talk_of (feed_of None s g.lent (length x.message)) s g.lent g.answered.device g.lent x.message
 
 -- ONE EXCHANGE: of a request of n bytes the first n of the message go to the device; after a result there is none. The page carries over
-abbrev pub relay_by : Reply → Talk → Talk
-relay_by (reply.Send n) x = fed_with (take n x.message) x
-relay_by (reply.Done v) x = x
-relay_by (reply.Refused r) x = x
+abbrev pub relay_by : Result Reply Refusal → Talk → Talk
+relay_by (Ok (reply.Send n)) x = fed_with (take n x.message) x
+relay_by (Ok (reply.Done v)) x = x
+relay_by (Err r) x = x
 
 unfoldable pub relay : Talk → Talk
 relay x = relay_by x.driver.reply x
@@ -95,7 +95,7 @@ pub record Settled (s : Sound) (t : Track) (d : Device) (page message : List ℕ
 
 -- a call, x, and the exchange after it, y: a request of n bytes goes out, the driver says Ok (number 0, no values), and all is ready for the next call
 pub record Took (t : Track) (n : ℕ) (request : List ℕ) (x y : Talk) : Type 0 where
-  pub asks : x.driver.reply ≡ reply.Send n
+  pub asks : x.driver.reply ≡ Ok (reply.Send n)
   pub sent : take n x.message ≡ request
-  pub says : y.driver.reply ≡ reply.Done value.Nothing
+  pub says : y.driver.reply ≡ Ok (reply.Done value.Nothing)
   pub settled : Settled y.driver.sound t y.device y.page y.message

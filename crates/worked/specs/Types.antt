@@ -1,19 +1,16 @@
 -- The types of the driver and of the device, and their cases, as definitions and laws name them. Where two bear one name, the other stands beside its use.
 -- Assumes nothing.
-pub use Rattle.tables.specs.declared.verdict.Verdict.{Verdict}
-pub use Rattle.tables.specs.declared.verdict.Verdict.TheVariants.{Good}
-pub use Rattle.tables.specs.declared.verdict.Written.TheVariants.{InFull}
+pub use Rattle.tables.specs.Tables.{Verdict}
+pub use Rattle.codes.specs.declared.answers.Refusal.{Refusal}
 pub use Rattle.turns.specs.declared.ring.Slot.{Slot}
 pub use Rattle.turns.specs.declared.ring.Track.{Track}
 pub use Rattle.turns.specs.declared.ring.Ring.{Ring}
-pub use Rattle.turns.specs.declared.ring.Sent.TheVariants.{Period}
-pub use Rattle.turns.specs.declared.ring.Heard.TheVariants.{Silent, Freed}
+pub use Rattle.turns.specs.Types.{sent_period}
+pub use Rattle.turns.specs.Types.{Heard, freed_slot}
 pub use Rattle.turns.specs.declared.ring.Said.TheVariants.{Going, Done, Ended}
-pub use Rattle.turns.specs.declared.reading.Reading.{Reading}
-pub use Rattle.turns.specs.declared.reading.Reading.TheVariants.{Quiet, Completed}
+pub use Rattle.turns.specs.Types.{Reading, completion}
 pub use Rattle.turns.specs.declared.rules.Choice.{Choice}
 pub use Rattle.turns.specs.declared.rules.Choice.TheVariants.{Submit, Finish}
-pub use Rattle.turns.specs.declared.calls.Offer.{Offer}
 pub use Rattle.sound_core.specs.declared.state.Params.{Params}
 pub use Rattle.sound_core.specs.declared.state.Kind.{Kind}
 pub use Rattle.sound_core.specs.declared.state.Kind.TheVariants.{Prepare, Release, Start, Stop}

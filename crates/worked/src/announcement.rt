@@ -1,7 +1,6 @@
 // Announcements of 50 bytes, by periods of 16, to a device that plays them.
 use crate::host::Host;
 use crate::{calls, host, numbers, show, transfer};
-use model::Count;
 use std::io;
 
 fn opened(rt: &impl Print, h: Host) -> io::Result<Host> {
@@ -17,14 +16,9 @@ fn closed(rt: &impl Print, h: Host) -> io::Result<Host> {
 }
 
 fn played(rt: &impl Print, h: Host) -> io::Result<()> {
-    let count = h.device.played(0);
-    match count {
-        Count::Is(n) => {
-            show::text(rt, b"  device played ")?;
-            show::decimal(rt, n)?;
-            show::text(rt, b" bytes of stream 0\n")
-        }
-        Count::InvalidParam => show::text(rt, b"  device has no stream 0\n"),
+    match h.device.played(0) {
+        Ok(n) => println!(rt; "  device played {n} bytes of stream 0"),
+        Err(_) => println!(rt; "  device has no stream 0"),
     }
 }
 
@@ -50,10 +44,8 @@ pub(crate) fn slow(rt: &impl Print) -> io::Result<()> {
         ..ready
     };
     let h = transfer::run(rt, h, &[7; 50], 13, b"..0..1..2..3.")?;
-    show::text(rt, b"  turns used ")?;
-    show::decimal(rt, h.turns)?;
-    show::text(rt, b", allowed ")?;
-    show::decimal(rt, h.ring.track.budget)?;
-    show::text(rt, b"\n")?;
+    let turns = h.turns;
+    let budget = h.ring.track.budget;
+    println!(rt; "  turns used {turns}, allowed {budget}")?;
     transfer::account(rt, h)
 }

@@ -1,8 +1,9 @@
 // The host between driver and device: it carries requests, answers and periods, and says what it
 // carried.
 use crate::show;
+use codes::Refusal;
 use exchange::{Sound, Step, StreamList};
-use model::{Control, Device};
+use model::Device;
 use sound_core::{MESSAGE, Reply, Value};
 use std::io;
 use tables::PAGE;
@@ -14,7 +15,7 @@ pub struct Host {
     pub device: Device,
     pub ring: Ring,
     // What the driver said last, and the request that it wrote.
-    pub reply: Reply,
+    pub reply: Result<Reply, Refusal>,
     pub streams: StreamList,
     pub message: [u8; MESSAGE],
     // The device's last answer to a request: its bytes and its status.
@@ -35,7 +36,7 @@ pub(crate) fn new(sound: Sound, device: Device) -> Host {
         sound,
         device,
         ring: Ring::new(),
-        reply: Reply::Done(Value::Nothing),
+        reply: Ok(Reply::Done(Value::Nothing)),
         streams: StreamList {
             count: 0,
             ids: [0; 127],
@@ -53,41 +54,33 @@ pub(crate) fn new(sound: Sound, device: Device) -> Host {
 
 // What a call or a feed led to.
 pub(crate) fn told(h: Host, step: Step, message: [u8; MESSAGE]) -> Host {
-    let sound = step.sound;
-    let reply = step.reply;
-    let streams = step.streams;
     Host {
-        sound,
-        reply,
-        streams,
+        sound: step.sound,
+        reply: step.reply,
+        streams: step.streams,
         message,
         ..h
     }
 }
 
-// The first bytes of a slice.
-pub(crate) fn part<'a>(s: &'a [u8], n: usize) -> &'a [u8] {
-    if s.len() < n {
-        return s;
-    }
-    &s[..n]
+// A call or a feed, with a message buffer of its own.
+pub(crate) fn called<F: FnOnce(&mut [u8]) -> Step>(h: Host, call: F) -> Host
+    requires { F.IsAlwaysCallable call }
+{
+    let mut message = [0u8; MESSAGE];
+    let step = call(&mut message);
+    told(h, step, message)
 }
 
+// The first bytes of a message.
 fn front<'a>(message: &'a [u8; MESSAGE], n: usize) -> &'a [u8] {
-    part(message, n)
-}
-
-fn length_of(said: Control) -> usize {
-    match said {
-        Control::Answer(n) => n,
-        Control::Refused(_) => 0,
-    }
+    &message[..n.min(MESSAGE)]
 }
 
 // The request goes to the device, and its answer to the driver.
 pub(crate) fn carry(h: Host) -> Host {
     let reply = h.reply;
-    let Reply::Send(n) = reply else {
+    let Ok(Reply::Send(n)) = reply else {
         return h;
     };
     let message = h.message;
@@ -97,7 +90,7 @@ pub(crate) fn carry(h: Host) -> Host {
     let said = a.said;
     let mut next = [0u8; MESSAGE];
     let step = exchange::feed(h.sound, &page, &mut next);
-    let answer = length_of(said);
+    let answer = said.unwrap_or(0);
     let status = layout::get_u32(&page, 0);
     let after = Host {
         device,
@@ -118,15 +111,15 @@ fn reply(rt: &impl Print, h: Host) -> io::Result<()> {
     let reply = h.reply;
     let message = h.message;
     match reply {
-        Reply::Send(n) => {
+        Ok(Reply::Send(n)) => {
             show::text(rt, b"  sends")?;
             show::bytes(rt, front(&message, n))?;
         }
-        Reply::Done(v) => {
+        Ok(Reply::Done(v)) => {
             show::text(rt, b"  says ")?;
             show::value(rt, v, h.streams)?;
         }
-        Reply::Refused(r) => {
+        Err(r) => {
             show::text(rt, b"  says ")?;
             show::refusal(rt, r)?;
         }
@@ -136,11 +129,9 @@ fn reply(rt: &impl Print, h: Host) -> io::Result<()> {
 
 // What the device answered last, and what the driver said to that.
 pub(crate) fn answered(rt: &impl Print, h: Host) -> io::Result<()> {
-    show::text(rt, b"  device answers ")?;
-    show::decimal(rt, h.answer as u64)?;
-    show::text(rt, b" bytes, ")?;
-    show::hex(rt, h.status as u64)?;
-    show::text(rt, b"\n")?;
+    let answer = h.answer;
+    let status = h.status;
+    println!(rt; "  device answers {answer} bytes, 0x{status:x}")?;
     reply(rt, h)
 }
 
@@ -153,7 +144,7 @@ pub(crate) fn said(rt: &impl Print, title: &[u8], h: Host) -> io::Result<()> {
 // One request and its answer, told.
 fn exchanged(rt: &impl Print, h: Host) -> io::Result<Host> {
     let reply = h.reply;
-    let Reply::Send(_) = reply else {
+    let Ok(Reply::Send(_)) = reply else {
         return Ok(h);
     };
     let after = carry(h);
@@ -164,8 +155,9 @@ fn exchanged(rt: &impl Print, h: Host) -> io::Result<Host> {
 // A call under its title: what it says first, and then each answer and what the driver says to it.
 pub(crate) fn finish(rt: &impl Print, title: &[u8], h: Host) -> io::Result<Host> {
     said(rt, title, h)?;
-    let h = exchanged(rt, h)?;
-    let h = exchanged(rt, h)?;
-    let h = exchanged(rt, h)?;
-    exchanged(rt, h)
+    let mut now = h;
+    for _ in 0..4 {
+        now = exchanged(rt, now)?;
+    }
+    Ok(now)
 }

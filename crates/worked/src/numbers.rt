@@ -1,10 +1,9 @@
 // The worked numbers of document 01, each under the paper's own words.
 use crate::host::Host;
 use crate::{calls, device, host, show, transfer};
-use codes::{Cause, Refusal, StatusCode};
+use codes::{Refusal, StatusCode};
 use exchange::Sound;
 use records::{Event, Notice};
-use sound_core::MESSAGE;
 use std::io;
 use tables::PAGE;
 use turns::Ring;
@@ -59,9 +58,10 @@ fn streams_fed() -> Host {
     layout::put_u32(&mut page, 0, StatusCode::OK);
     let h = host::new(Sound::new(0, 128, 0), device::streams(0));
     let asked = host::carry(calls::output_streams(h));
-    let mut message = [0u8; MESSAGE];
-    let step = exchange::feed(asked.sound, &page, &mut message);
-    host::told(asked, step, message)
+    host::called(
+        asked,
+        |message: &mut [u8]| exchange::feed(asked.sound, &page, message),
+    )
 }
 
 fn pages(rt: &impl Print) -> io::Result<()> {
@@ -101,13 +101,13 @@ fn indirect(rt: &impl Print, h: Host) -> io::Result<()> {
     transfer::ended(rt, transfer::run_quiet(Host { ring, ..h }, &[0; 132], 34))
 }
 
-fn notice(rt: &impl Print, n: Notice) -> io::Result<()> {
+fn notice(rt: &impl Print, said: Result<Option<Notice>, Refusal>) -> io::Result<()> {
     show::text(rt, b"  says ")?;
-    match n {
-        Notice::Is(_, data) => show::decimal(rt, data as u64)?,
-        Notice::Control(control, _) => show::decimal(rt, control as u64)?,
-        Notice::IoError => show::refusal(rt, Refusal::IoError(Cause::NoStatus))?,
-        Notice::Nothing => show::text(rt, b"nothing")?,
+    match said {
+        Ok(Some(Notice::Event(_, data))) => show::decimal(rt, data as u64)?,
+        Ok(Some(Notice::Control(control, _))) => show::decimal(rt, control as u64)?,
+        Ok(None) => show::text(rt, b"nothing")?,
+        Err(refusal) => show::refusal(rt, refusal)?,
     }
     show::text(rt, b"\n")
 }
@@ -118,7 +118,7 @@ fn events(rt: &impl Print) -> io::Result<()> {
         code: 0x1002,
         data: 0,
     };
-    event.write(&mut bytes);
+    let _ = event.write(&mut bytes);
     show::text(rt, b"Event code 0x1002 gives 2\n")?;
     notice(rt, records::latest_notification(&bytes))?;
     show::text(rt, b"7 bytes give \"nothing\"\n")?;

@@ -2,7 +2,6 @@
 use crate::host::Host;
 use crate::{calls, device, host, show};
 use exchange::Sound;
-use sound_core::MESSAGE;
 use std::io;
 
 fn told_of_0(rt: &impl Print, h: Host) -> io::Result<()> {
@@ -34,16 +33,18 @@ pub(crate) fn done(rt: &impl Print) -> io::Result<()> {
 
 // The queue fails the query that is out.
 fn failed(h: Host) -> Host {
-    let mut message = [0u8; MESSAGE];
-    let step = exchange::feed_failure(h.sound, &mut message);
-    host::told(h, step, message)
+    host::called(
+        h,
+        |message: &mut [u8]| exchange::feed_failure(h.sound, message),
+    )
 }
 
 fn short_page(h: Host) -> Host {
     let page = [0u8; 4095];
-    let mut message = [0u8; MESSAGE];
-    let step = exchange::feed(h.sound, &page, &mut message);
-    host::told(h, step, message)
+    host::called(
+        h,
+        |message: &mut [u8]| exchange::feed(h.sound, &page, message),
+    )
 }
 
 fn jacks_failed(rt: &impl Print, h: Host) -> io::Result<()> {

@@ -14,56 +14,30 @@ pub(crate) fn decimal(rt: &impl Print, n: u64) -> io::Result<()> {
 
 // In two columns.
 pub(crate) fn wide(rt: &impl Print, n: u64) -> io::Result<()> {
-    if n < 10 {
-        text(rt, b" ")?;
-    }
-    decimal(rt, n)
+    print!(rt; "{n:>2}")
 }
 
-pub(crate) fn hex(rt: &impl Print, n: u64) -> io::Result<()> {
-    print!(rt; "0x{n:x}")
-}
-
-// A space, and two digits of a byte.
-fn byte(rt: &impl Print, b: u8) -> io::Result<()> {
-    print!(rt; " {b:02x}")
-}
-
+// Before each byte a space.
 pub(crate) fn bytes(rt: &impl Print, s: &[u8]) -> io::Result<()> {
-    let mut i: usize = 0;
-    while i < s.len() {
-        byte(rt, s[i])?;
-        i += 1;
+    for b in s {
+        print!(rt; " {b:02x}")?;
     }
     Ok(())
 }
 
-// What caused 2 or 3, where the device said it.
-fn caused(rt: &impl Print, c: Cause) -> io::Result<()> {
+// The name of 2 or 3, and what caused it, where the device said that.
+fn caused(rt: &impl Print, name: &str, c: Cause) -> io::Result<()> {
     match c {
-        Cause::NoStatus => Ok(()),
-        Cause::Status(word) => {
-            text(rt, b", the device said ")?;
-            hex(rt, word as u64)
-        }
+        Cause::NoStatus => print!(rt; "{name}"),
+        Cause::Status(word) => print!(rt; "{name}, the device said 0x{word:x}"),
     }
-}
-
-fn io_error(rt: &impl Print, c: Cause) -> io::Result<()> {
-    text(rt, b"IoError")?;
-    caused(rt, c)
-}
-
-fn unsupported(rt: &impl Print, c: Cause) -> io::Result<()> {
-    text(rt, b"Unsupported")?;
-    caused(rt, c)
 }
 
 fn name(rt: &impl Print, r: Refusal) -> io::Result<()> {
     match r {
         Refusal::InvalidParam => text(rt, b"InvalidParam"),
-        Refusal::IoError(c) => io_error(rt, c),
-        Refusal::Unsupported(c) => unsupported(rt, c),
+        Refusal::IoError(c) => caused(rt, "IoError", c),
+        Refusal::Unsupported(c) => caused(rt, "Unsupported", c),
         Refusal::NoInfo => text(rt, b"NoInfo"),
         Refusal::TooMany => text(rt, b"TooMany"),
         Refusal::WrongToken => text(rt, b"WrongToken"),
@@ -85,26 +59,15 @@ pub(crate) fn ok(rt: &impl Print) -> io::Result<()> {
 }
 
 pub(crate) fn refusal(rt: &impl Print, r: Refusal) -> io::Result<()> {
-    decimal(rt, r.number() as u64)?;
-    text(rt, b" ")?;
+    let number = r.number();
+    print!(rt; "{number} ")?;
     name(rt, r)
 }
 
-// A space, and the id at a place of a list.
-fn id(rt: &impl Print, list: StreamList, i: usize) -> io::Result<()> {
-    if 127 <= i {
-        return Ok(());
-    }
-    text(rt, b" ")?;
-    decimal(rt, list.ids[i] as u64)
-}
-
+// Before each id of a list a space.
 fn ids(rt: &impl Print, list: StreamList) -> io::Result<()> {
-    let count = list.count;
-    let mut i: u32 = 0;
-    while i < count {
-        id(rt, list, i as usize)?;
-        i += 1;
+    for id in list.ids.iter().take(list.count as usize) {
+        print!(rt; " {id}")?;
     }
     Ok(())
 }
@@ -114,16 +77,8 @@ pub(crate) fn value(rt: &impl Print, v: Value, list: StreamList) -> io::Result<(
     ok(rt)?;
     match v {
         Value::Nothing => text(rt, b""),
-        Value::Number(n) => {
-            text(rt, b", ")?;
-            hex(rt, n)
-        }
-        Value::Range { min, max } => {
-            text(rt, b", ")?;
-            decimal(rt, min as u64)?;
-            text(rt, b" to ")?;
-            decimal(rt, max as u64)
-        }
+        Value::Number(n) => print!(rt; ", 0x{n:x}"),
+        Value::Range { min, max } => print!(rt; ", {min} to {max}"),
         Value::Streams { direction: _ } => {
             text(rt, b", streams")?;
             ids(rt, list)

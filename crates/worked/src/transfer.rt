@@ -1,16 +1,16 @@
 // A transfer, turn by turn.
 use crate::host::Host;
 use crate::{host, show};
-use codes::StatusCode;
+use codes::{Refusal, StatusCode};
 use exchange::{XferReply, XferStep};
 use model::{Answered, Device};
 use records::{Transfer, TransferStatus};
 use sound_core::MESSAGE;
 use std::io;
 use std::num::wrapping_add_u64;
-use turns::{Carried, Heard, Offer, Oldest, Reading, Ring, RingNumber, Said, Sent, Turned};
+use turns::{Completion, Freed, Period, Ring, Said, Turned};
 
-// A reading in numbers.
+// A reading in numbers, as `turn_lent` takes it: the turn in place is what C calls.
 #[derive(Clone, Copy)]
 struct Words {
     kind: u32,
@@ -52,27 +52,14 @@ pub(crate) fn run_quiet(h: Host, frames: &[u8], budget: u64) -> Host {
 
 // ---- what goes to the device
 
-fn copy(word: &[u8], out: &mut [u8]) {
-    let mut i: usize = 0;
-    while i < word.len() {
-        layout::put_u8(out, i, word[i]);
-        i += 1;
-    }
-}
-
-fn front<'a>(request: &'a [u8; 20], n: usize) -> &'a [u8] {
-    host::part(request, n)
-}
-
 // The stream's number and the period, which has at most 16 bytes here.
 fn send(d: Device, stream: u32, period: &[u8], answer: &mut [u8]) -> Answered {
+    let n = period.len().min(16);
     let mut request = [0u8; 20];
     let head = Transfer { stream };
-    head.write(&mut request);
-    copy(period, &mut request[4..]);
-    let n = period.len();
-    let all = if n < 16 { n + 4 } else { 20 };
-    model::transfer::transfer(d, front(&request, all), answer)
+    let _ = head.write(&mut request);
+    request[4..4 + n].copy_from_slice(&period[..n]);
+    model::transfer::transfer(d, &request[..4 + n], answer)
 }
 
 fn noted(h: Host, device: Device, slot: usize, status: u32) -> Host {
@@ -84,16 +71,11 @@ fn noted(h: Host, device: Device, slot: usize, status: u32) -> Host {
 }
 
 // The period that the next turn submits goes to the device, whose status is kept for the slot.
-fn submit(h: Host, frames: &[u8], offer: Offer) -> Host {
-    let Offer::Is(sent) = offer else {
+fn submit(h: Host, frames: &[u8], offer: Result<Option<Period>, Refusal>) -> Host {
+    let Ok(sent) = offer else {
         return h;
     };
-    let Sent::Period {
-        slot,
-        offset: _,
-        len: _,
-    } = sent
-    else {
+    let Some(p) = sent else {
         return h;
     };
     let period = turns::offered(h.ring, frames);
@@ -101,14 +83,13 @@ fn submit(h: Host, frames: &[u8], offer: Offer) -> Host {
     let t = send(h.device, h.ring.track.stream, period, &mut answer);
     let device = t.device;
     let status = layout::get_u32(&answer, 0);
-    noted(h, device, slot, status)
+    noted(h, device, p.slot, status)
 }
 
 // ---- a turn
 
 fn status_at(h: Host, slot: u32) -> u32 {
-    let i = slot as usize;
-    if i < 32 { h.statuses[i] } else { 0 }
+    h.statuses.get(slot as usize).copied().unwrap_or(0)
 }
 
 fn quiet() -> Words {
@@ -130,37 +111,33 @@ fn completed(slot: u32, status: u32) -> Words {
 // What a mark stands for: a digit is a slot, completed with the status that the model gave it; a
 // letter, from `a` for slot 0 on, is a slot with an I/O error; any other is quiet.
 fn in_words(h: Host, mark: u8) -> Words {
-    if mark < b'0' {
-        return quiet();
+    match mark {
+        b'0'..=b'9' => {
+            let slot = u32::from(mark - b'0');
+            completed(slot, status_at(h, slot))
+        }
+        b'a'..=255 => completed(u32::from(mark - b'a'), StatusCode::IO_ERR),
+        _ => quiet(),
     }
-    if mark <= b'9' {
-        let slot = (mark - b'0') as u32;
-        return completed(slot, status_at(h, slot));
-    }
-    if mark < b'a' {
-        return quiet();
-    }
-    completed((mark - b'a') as u32, StatusCode::IO_ERR)
 }
 
 fn advance(lent: bool, ring: Ring, frames: &[u8], w: Words) -> Turned {
     if lent {
         return turns::turn_lent(ring, frames, w.kind, w.slot, w.status);
     }
-    let reading = Reading::from_words(w.kind, w.slot, w.status);
+    let reading = Completion::from_words(w.kind, w.slot, w.status);
     turns::turn(ring, frames, reading)
 }
 
 // The bytes accepted so far, with those of a slot that was freed with 0x8000.
-fn accepted(before: u64, ring: Ring, heard: Heard) -> u64 {
-    let Heard::Freed { slot, status } = heard else {
+fn accepted(before: u64, ring: Ring, heard: Option<Freed>) -> u64 {
+    let Some(freed) = heard else {
         return before;
     };
-    if status != StatusCode::OK {
+    if freed.status != StatusCode::OK {
         return before;
     }
-    let carried = ring.carried(slot);
-    let Carried::Is(s) = carried else {
+    let Ok(s) = ring.carried(freed.slot) else {
         return before;
     };
     wrapping_add_u64(before, s.len as u64)
@@ -183,19 +160,19 @@ fn turned(h: Host, t: Turned) -> Host {
 
 // ---- its line
 
-fn offered(rt: &impl Print, offer: Offer) -> io::Result<()> {
-    let Offer::Is(sent) = offer else {
+fn offered(rt: &impl Print, offer: Result<Option<Period>, Refusal>) -> io::Result<()> {
+    let Ok(sent) = offer else {
         return Ok(());
     };
     match sent {
-        Sent::Nothing => show::text(rt, b"nothing                     "),
-        Sent::Period { slot, offset, len } => {
+        None => show::text(rt, b"nothing                     "),
+        Some(p) => {
             show::text(rt, b"slot ")?;
-            show::decimal(rt, slot as u64)?;
+            show::decimal(rt, p.slot as u64)?;
             show::text(rt, b", offset ")?;
-            show::wide(rt, offset as u64)?;
+            show::wide(rt, p.offset as u64)?;
             show::text(rt, b", length ")?;
-            show::wide(rt, len as u64)
+            show::wide(rt, p.len as u64)
         }
     }
 }
@@ -204,11 +181,9 @@ fn seen_in(rt: &impl Print, w: Words) -> io::Result<()> {
     if w.kind == 0 {
         return show::text(rt, b" | quiet          | ");
     }
-    show::text(rt, b" | slot ")?;
-    show::decimal(rt, w.slot as u64)?;
-    show::text(rt, b", ")?;
-    show::hex(rt, w.status as u64)?;
-    show::text(rt, b" | ")
+    let slot = w.slot;
+    let status = w.status;
+    print!(rt; " | slot {slot}, 0x{status:x} | ")
 }
 
 fn says(rt: &impl Print, said: Said) -> io::Result<()> {
@@ -220,7 +195,13 @@ fn says(rt: &impl Print, said: Said) -> io::Result<()> {
     }
 }
 
-fn line(rt: &impl Print, turns: u64, offer: Offer, w: Words, said: Said) -> io::Result<()> {
+fn line(
+    rt: &impl Print,
+    turns: u64,
+    offer: Result<Option<Period>, Refusal>,
+    w: Words,
+    said: Said,
+) -> io::Result<()> {
     show::text(rt, b"  turn ")?;
     show::wide(rt, turns)?;
     show::text(rt, b" | ")?;
@@ -245,10 +226,8 @@ fn turn(rt: &impl Print, h: Host, frames: &[u8], mark: u8) -> io::Result<Host> {
 // A turn for each mark.
 fn play(rt: &impl Print, h: Host, frames: &[u8], marks: &[u8]) -> io::Result<Host> {
     let mut now = h;
-    let mut i: usize = 0;
-    while i < marks.len() {
-        now = turn(rt, now, frames, marks[i])?;
-        i += 1;
+    for mark in marks {
+        now = turn(rt, now, frames, *mark)?;
     }
     Ok(now)
 }
@@ -266,10 +245,10 @@ pub(crate) fn run(
 
 // ---- after a turn
 
-fn number(rt: &impl Print, n: RingNumber) -> io::Result<()> {
+fn number(rt: &impl Print, n: Result<u64, Refusal>) -> io::Result<()> {
     match n {
-        RingNumber::Is(k) => show::decimal(rt, k),
-        RingNumber::InvalidParam => show::text(rt, b"no number of"),
+        Ok(k) => show::decimal(rt, k),
+        Err(_) => show::text(rt, b"no number of"),
     }
 }
 
@@ -279,30 +258,25 @@ pub(crate) fn ended(rt: &impl Print, h: Host) -> io::Result<()> {
     let ring = h.ring;
     show::text(rt, b"  says ")?;
     says(rt, said)?;
-    show::text(rt, b" on turn ")?;
-    show::decimal(rt, h.turns)?;
-    show::text(rt, b", ")?;
+    let turns = h.turns;
+    print!(rt; " on turn {turns}, ")?;
     number(rt, ring.in_flight())?;
     show::text(rt, b" in flight\n")
 }
 
-fn oldest(rt: &impl Print, o: Oldest) -> io::Result<()> {
-    match o {
-        Oldest::Slot(slot) => {
-            show::text(rt, b", the oldest slot ")?;
-            show::decimal(rt, slot as u64)
-        }
-        Oldest::Nothing => show::text(rt, b""),
-        Oldest::InvalidParam => show::text(rt, b""),
-    }
+fn oldest(rt: &impl Print, o: Result<Option<usize>, Refusal>) -> io::Result<()> {
+    let Ok(Some(slot)) = o else {
+        return Ok(());
+    };
+    show::text(rt, b", the oldest slot ")?;
+    show::decimal(rt, slot as u64)
 }
 
 // What was completed with 0x8000, and what is in flight.
 pub(crate) fn account(rt: &impl Print, h: Host) -> io::Result<()> {
     let ring = h.ring;
-    show::text(rt, b"  accepted ")?;
-    show::decimal(rt, h.accepted)?;
-    show::text(rt, b" bytes, ")?;
+    let accepted = h.accepted;
+    print!(rt; "  accepted {accepted} bytes, ")?;
     number(rt, ring.in_flight())?;
     show::text(rt, b" in flight")?;
     oldest(rt, ring.oldest())?;
@@ -312,7 +286,7 @@ pub(crate) fn account(rt: &impl Print, h: Host) -> io::Result<()> {
 // A drain turn, and its line.
 fn drain(rt: &impl Print, h: Host, mark: u8) -> io::Result<Host> {
     let w = in_words(h, mark);
-    let reading = Reading::from_words(w.kind, w.slot, w.status);
+    let reading = Completion::from_words(w.kind, w.slot, w.status);
     let t = turns::drain_turn(h.ring, reading);
     let ring = t.ring;
     let said = t.said;
@@ -328,10 +302,8 @@ fn drain(rt: &impl Print, h: Host, mark: u8) -> io::Result<Host> {
 // A drain turn for each mark.
 pub(crate) fn drains(rt: &impl Print, h: Host, marks: &[u8]) -> io::Result<Host> {
     let mut now = h;
-    let mut i: usize = 0;
-    while i < marks.len() {
-        now = drain(rt, now, marks[i])?;
-        i += 1;
+    for mark in marks {
+        now = drain(rt, now, *mark)?;
     }
     Ok(now)
 }

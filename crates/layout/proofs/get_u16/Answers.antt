@@ -1,15 +1,9 @@
--- `layout::get_u16` meets its contract: past the end, within the slice, or across its end. Assumes nothing.
-use mathlib.Core.Path.{sym, ap, ◌∙◌}
-use native.Mathlib.Omega.{arith}
-use Rattle.layout.specs.Bytes.{num_at}
-use Rattle.layout.specs.BytesLaws.{num_at-out, num_at-own}
-use borrow.Author.Rules.{rules}
+-- `layout::get_u16` meets its contract. Assumes nothing.
+use Rattle.std.proofs.Common.{◌∙◌, ap, arith}
+use Rattle.layout.specs.Bytes.{un, num_at}
+use Rattle.layout.specs.BytesLaws.{from_le_bytes-un_2}
 use Rattle.layout.proofs.get_u16.Goals as goal
 
-pub returns-then-n-at : goal.returns-then-n-at
-returns-then-n-at c = let a = c.args in sym (num_at-out a.at 2 a.s.now (search rules))
-
 pub returns : goal.returns
-returns c =
-    let a = c.args in
-    c.within_u16-2.ensures ∙ ap (num_at 0 2) c.eight-rest.ensures ∙ num_at-own a.at 2 8 a.s.now (omega arith)
+unfolding num_at
+returns c = c.from_le_bytes.ensures ∙ from_le_bytes-un_2 c.get_bytes.result (omega arith) ∙ ap un c.get_bytes.ensures

@@ -1,17 +1,10 @@
--- `layout::put_u16` meets its contract: past the end, within the slice, or across its end. Assumes nothing.
-use mathlib.Core.Path.{sym, ap, ◌∙◌}
-use lib.ListN.{take}
-use lib.Seq.{sets}
-use Rattle.layout.specs.Bytes.{le}
-use Rattle.layout.specs.StoreLaws.{sets-out}
-use borrow.Author.Rules.{rules}
+-- `layout::put_u16` meets its contract. Assumes nothing.
+use Rattle.std.proofs.Common.{◌∙◌, ap}
+use Rattle.std.proofs.lemmas.List.Edits.{sets}
+use Rattle.layout.specs.BytesLaws.{to_le_bytes-le_2}
 use Rattle.layout.proofs.put_u16.Goals as goal
 
-pub returns-then-n-at : goal.returns-then-n-at
-returns-then-n-at c = let a = c.args in sym (sets-out (le 2 a.v) a.out.now a.at (search rules))
-
 pub returns : goal.returns
-unfolding le
 returns c =
     let a = c.args in
-    c.put_some.ensures ∙ ap (λ l. sets a.out.now a.at (take 2 l)) c.within_put_u16-2.ensures
+    c.put_bytes.ensures ∙ ap (sets a.out.now a.at) (c.to_le_bytes.ensures ∙ to_le_bytes-le_2 a.v)

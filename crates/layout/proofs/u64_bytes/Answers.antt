@@ -1,7 +1,7 @@
 -- `layout::u64_bytes` meets its contract. Assumes nothing.
-use Rattle.layout.specs.Bytes.{le}
+use Rattle.std.proofs.Common.{◌∙◌}
+use Rattle.layout.specs.BytesLaws.{to_le_bytes-le_8}
 use Rattle.layout.proofs.u64_bytes.Goals as goal
 
 pub returns : goal.returns
-unfolding le
-returns c = c.within_put_u64.ensures
+returns c = c.to_le_bytes.ensures ∙ to_le_bytes-le_8 c.args.v

@@ -1,32 +1,22 @@
 -- `model_store::control` meets its contract. Assumes nothing.
-use Rattle.std.proofs.Common.{sym, ap, ◌∙◌, rules}
+use Rattle.std.proofs.Common.{sym, ap, ◌∙◌}
 use Rattle.model.specs.Device.{within_of}
-use Rattle.model_store.specs.ControlLaws.{short-store, short-result, long, control-short, control-page, control-many, control-gave}
+use Rattle.model_store.specs.ControlLaws.{control-short, control-page, control-many, control-gave}
 use Rattle.model_store.proofs.control.Goals as goal
 
-pub returns-then-device-lt-SIZE : goal.returns-then-device-lt-SIZE
-returns-then-device-lt-SIZE c =
+pub returns-then-not-roomy : goal.returns-then-not-roomy
+returns-then-not-roomy c =
     let a = c.args in
     let s = a.device.now in
     let r = a.res.now in
-    control-short s a.request.now a.page.now r (short-store s r c.if-device-lt-SIZE.true)
-
-pub returns-then-res-lt-RESULT : goal.returns-then-res-lt-RESULT
-returns-then-res-lt-RESULT c =
-    let a = c.args in
-    let s = a.device.now in
-    let r = a.res.now in
-    control-short s a.request.now a.page.now r (short-result s r c.if-device-lt-SIZE.false c.if-res-lt-RESULT.true)
+    control-short s a.request.now a.page.now r (sym c.roomy.ensures ∙ c.if-not-roomy.true)
 
 pub returns-then-page-ne-PAGE : goal.returns-then-page-ne-PAGE
 returns-then-page-ne-PAGE c =
     let a = c.args in
     let s = a.device.now in
     let r = a.res.now in
-    control-page s a.request.now a.page.now r (long s r c.if-device-lt-SIZE.false c.if-res-lt-RESULT.false) (λ k. (c.slice_known-1.given k).fits) c.if-page-ne-PAGE.true
-
-pub outcome-n-requires : goal.outcome-n-requires
-outcome-n-requires c = (search rules, search rules, c.counts_at-counts.ensures, sym c.within.ensures ∙ c.if-within.true)
+    control-page s a.request.now a.page.now r (sym c.roomy.ensures ∙ c.if-not-roomy.false) (λ k. (c.slice_known-1.given k).fits) c.if-page-ne-PAGE.true
 
 pub returns-then-within : goal.returns-then-within
 returns-then-within c =
@@ -34,7 +24,7 @@ returns-then-within c =
     let s = a.device.now in
     let r = a.res.now in
     let w = sym (c.within.ensures ∙ ap within_of c.counts_at-counts.ensures) ∙ c.if-within.true in
-    control-gave s a.request.now a.page.now r (long s r c.if-device-lt-SIZE.false c.if-res-lt-RESULT.false) c.if-page-ne-PAGE.false w _ _ _ _ c.outcome-n.ensures c.put_u64.ensures
+    control-gave s a.request.now a.page.now r (sym c.roomy.ensures ∙ c.if-not-roomy.false) c.if-page-ne-PAGE.false w _ _ _ _ c.outcome-n.ensures c.put_u64.ensures
 
 pub returns : goal.returns
 returns c =
@@ -42,4 +32,4 @@ returns c =
     let s = a.device.now in
     let r = a.res.now in
     let w = sym (c.within.ensures ∙ ap within_of c.counts_at-counts.ensures) ∙ c.if-within.false in
-    control-many s a.request.now a.page.now r (long s r c.if-device-lt-SIZE.false c.if-res-lt-RESULT.false) c.if-page-ne-PAGE.false (λ k. (c.slice_known-1.given k).fits) w
+    control-many s a.request.now a.page.now r (sym c.roomy.ensures ∙ c.if-not-roomy.false) c.if-page-ne-PAGE.false (λ k. (c.slice_known-1.given k).fits) w

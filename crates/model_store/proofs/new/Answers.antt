@@ -1,8 +1,6 @@
 -- `model_store::new` meets its contract. Assumes nothing.
-use Rattle.std.proofs.Common.{sym, refl, ◌∙◌, arith, rules}
-use Rattle.model.specs.DeviceLaws.{few-jacks, few-streams, few-maps}
-use Rattle.model_store.specs.Calls.{counts_in}
-use Rattle.model_store.specs.NewLaws.{new-short, new-jacks, new-pcms, new-maps, new-many, new-made, rooms}
+use Rattle.std.proofs.Common.{sym, refl, ◌∙◌}
+use Rattle.model_store.specs.NewLaws.{new-short, new-jacks, new-pcms, new-maps, new-many, new-made}
 use Rattle.model_store.proofs.new.Goals as goal
 
 pub returns-then-device-lt-SIZE : goal.returns-then-device-lt-SIZE
@@ -24,30 +22,6 @@ pub returns-then-maps-ne0 : goal.returns-then-maps-ne0
 returns-then-maps-ne0 c =
     let a = c.args in
     new-maps a.device.now a.jacks.now a.pcms.now a.maps.now c.if-device-lt-SIZE.false c.if-jacks-ne0.false c.if-pcms-ne0.false c.if-maps-ne0.true
-
-pub overflow_cast-counts : goal.overflow_cast-counts
-overflow_cast-counts c =
-    let a = c.args in
-    let h = few-jacks (counts_in a.jacks.now a.pcms.now a.maps.now) (sym c.few.ensures ∙ c.if-few.true) in
-    omega arith
-
-pub overflow_cast-counts-then-few : goal.overflow_cast-counts-then-few
-overflow_cast-counts-then-few c =
-    let a = c.args in
-    let h = few-streams (counts_in a.jacks.now a.pcms.now a.maps.now) (sym c.few.ensures ∙ c.if-few.true) in
-    omega arith
-
-pub overflow_cast-counts-then-few-2 : goal.overflow_cast-counts-then-few-2
-overflow_cast-counts-then-few-2 c =
-    let a = c.args in
-    let h = few-maps (counts_in a.jacks.now a.pcms.now a.maps.now) (sym c.few.ensures ∙ c.if-few.true) in
-    omega arith
-
-pub make-requires : goal.make-requires
-make-requires c =
-    let a = c.args in
-    let h = rooms a.device.now a.jacks.now a.pcms.now a.maps.now c.if-device-lt-SIZE.false c.if-jacks-ne0.false c.if-pcms-ne0.false c.if-maps-ne0.false (sym c.few.ensures ∙ c.if-few.true) in
-    (search rules, h.0, h.1, h.2)
 
 pub returns-then-few : goal.returns-then-few
 returns-then-few c =

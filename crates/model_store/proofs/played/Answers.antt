@@ -1,23 +1,15 @@
 -- `model_store::played` meets its contract. Assumes nothing.
 use Rattle.std.proofs.Common.{true, false, sym, ◌∙◌}
 use Rattle.model.specs.DeviceLaws.{stream-below}
-use Rattle.model_store.specs.ControlLaws.{short-store, short-result, long}
 use Rattle.model_store.specs.ReadsLaws.{stream-by, played-short, played-bad, played-word}
 use Rattle.model_store.proofs.played.Goals as goal
 
-pub returns-then-device-lt-SIZE : goal.returns-then-device-lt-SIZE
-returns-then-device-lt-SIZE c =
+pub returns-then-not-roomy : goal.returns-then-not-roomy
+returns-then-not-roomy c =
     let a = c.args in
     let s = a.device.now in
     let r = a.res.now in
-    played-short s a.stream r (short-store s r c.if-device-lt-SIZE.true)
-
-pub returns-then-res-lt-RESULT : goal.returns-then-res-lt-RESULT
-returns-then-res-lt-RESULT c =
-    let a = c.args in
-    let s = a.device.now in
-    let r = a.res.now in
-    played-short s a.stream r (short-result s r c.if-device-lt-SIZE.false c.if-res-lt-RESULT.true)
+    played-short s a.stream r (sym c.roomy.ensures ∙ c.if-not-roomy.true)
 
 pub returns-then-stream_ok : goal.returns-then-stream_ok
 returns-then-stream_ok c =
@@ -25,7 +17,7 @@ returns-then-stream_ok c =
     let s = a.device.now in
     let r = a.res.now in
     let t = sym c.stream_ok.ensures ∙ c.if-stream_ok.true in
-    played-word s a.stream r (long s r c.if-device-lt-SIZE.false c.if-res-lt-RESULT.false) (stream-by s a.stream _ c.counts_at-counts.ensures true t) (stream-below c.counts_at-counts.result a.stream t) _ _
+    played-word s a.stream r (sym c.roomy.ensures ∙ c.if-not-roomy.false) (stream-by s a.stream _ c.counts_at-counts.ensures true t) (stream-below c.counts_at-counts.result a.stream t) _ _
     c.get_u64-n.ensures
     c.put_u64.ensures
 
@@ -35,4 +27,4 @@ returns c =
     let s = a.device.now in
     let r = a.res.now in
     let t = sym c.stream_ok.ensures ∙ c.if-stream_ok.false in
-    played-bad s a.stream r (long s r c.if-device-lt-SIZE.false c.if-res-lt-RESULT.false) (stream-by s a.stream _ c.counts_at-counts.ensures false t)
+    played-bad s a.stream r (sym c.roomy.ensures ∙ c.if-not-roomy.false) (stream-by s a.stream _ c.counts_at-counts.ensures false t)

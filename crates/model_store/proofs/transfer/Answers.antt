@@ -1,5 +1,5 @@
 -- `model_store::transfer` meets its contract. Assumes nothing.
-use Rattle.std.proofs.Common.{sym, ap, ◌∙◌, rules}
+use Rattle.std.proofs.Common.{sym, ap, ◌∙◌}
 use Rattle.model.specs.Device.{within_of}
 use Rattle.model_store.specs.TransferLaws.{transfer-short, transfer-answer, transfer-many, transfer-told}
 use Rattle.model_store.proofs.transfer.Goals as goal
@@ -13,9 +13,6 @@ pub returns-then-answer-lt-SIZE : goal.returns-then-answer-lt-SIZE
 returns-then-answer-lt-SIZE c =
     let a = c.args in
     transfer-answer a.device.now a.request.now a.answer.now c.if-device-lt-SIZE.false (λ k. (c.slice_known-1.given k).fits) c.if-answer-lt-SIZE.true
-
-pub play-status-requires : goal.play-status-requires
-play-status-requires c = (search rules, c.counts_at-counts.ensures, sym c.within.ensures ∙ c.if-within.true)
 
 pub returns-then-within : goal.returns-then-within
 returns-then-within c =

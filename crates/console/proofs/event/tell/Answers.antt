@@ -1,5 +1,5 @@
 -- `console::event::tell` meets its contract: the list of its stores, by what the event says. Assumes nothing.
-use Rattle.std.proofs.Common.{ℕ, [], ◌∷◌, sym, ap, ◌∙◌}
+use Rattle.std.proofs.Common.{◌≡◌, rules, ℕ, [], ◌∷◌, sym, ap, ◌∙◌}
 use lib.Seq.{sets}
 use Rattle.layout.specs.Bytes.{le}
 use Rattle.layout.specs.Rows.{rows_bytes}
@@ -7,31 +7,28 @@ use Rattle.layout.specs.ChainLaws.{stored}
 use Rattle.layout.specs.ChainLaws.Stored.{put, end}
 use Rattle.layout.specs.Lent.{shown}
 use Rattle.codes.specs.Events.{event_code}
+use Rattle.std.specs.Prelude.{Option, Some, Result, Ok}
+use Rattle.codes.specs.declared.answers.Refusal.{Refusal}
 use Rattle.records.specs.declared.event.Notice.{Notice}
+use Rattle.records.specs.declared.event.Notice.TheVariants.{Event, Control}
 use Rattle.console.specs.Private.{noticed}
 use Rattle.console.proofs.event.tell.Goals as goal
 
-pub returns-in-Is : goal.returns-in-Is
+pub returns-in-Ok-Some-Event : goal.returns-in-Ok-Some-Event
 unfolding rows_bytes
-returns-in-Is c =
+returns-in-Ok-Some-Event c =
     let r = c.args.res.now in
+    let e : c.args.said ≡ Ok (Some (Event c.in-Ok-Some-Event.kind c.in-Ok-Some-Event.data)) = search rules in
     ap (shown 0)
-    (stored _ r 0 (4 ∷ 4 ∷ []) (event_code c.in-Is.kind ∷ c.in-Is.data ∷ [])
-    (put (c.put_u32.ensures ∙ ap (λ (x : ℕ). sets r 0 (le 4 x)) c.code.ensures) (put c.put_u32-in-Is.ensures end)))
-    ∙ sym (ap (λ (x : Notice). noticed x r) c.in-Is.is)
+    (stored _ r 0 (4 ∷ 4 ∷ []) (event_code c.in-Ok-Some-Event.kind ∷ c.in-Ok-Some-Event.data ∷ [])
+    (put (c.put_u32.ensures ∙ ap (λ (x : ℕ). sets r 0 (le 4 x)) c.code.ensures) (put c.put_u32-in-Ok-Some-Event.ensures end)))
+    ∙ sym (ap (λ (x : Result (Option Notice) Refusal). noticed x r) e)
 
-pub returns-in-Control : goal.returns-in-Control
+pub returns-in-Ok-Some-Control : goal.returns-in-Ok-Some-Control
 unfolding rows_bytes
-returns-in-Control c =
+returns-in-Ok-Some-Control c =
     let r = c.args.res.now in
+    let e : c.args.said ≡ Ok (Some (Control c.in-Ok-Some-Control.id c.in-Ok-Some-Control.mask)) = search rules in
     ap (shown 0)
-    (stored _ r 0 (4 ∷ 4 ∷ 4 ∷ []) (0x1200 ∷ c.in-Control.id ∷ c.in-Control.mask ∷ []) (put c.put_u32-in-Control.ensures (put c.put_u32-in-Control-2.ensures (put c.put_u32-in-Control-3.ensures end))))
-    ∙ sym (ap (λ (x : Notice). noticed x r) c.in-Control.is)
-
-pub returns-in-IoError : goal.returns-in-IoError
-returns-in-IoError c =
-    let r = c.args.res.now in
-    ap (λ (n : ℕ). shown n r) c.word.ensures ∙ sym (ap (λ (x : Notice). noticed x r) c.in-IoError.is)
-
-pub returns-in-Nothing : goal.returns-in-Nothing
-returns-in-Nothing c = sym (ap (λ (x : Notice). noticed x c.args.res.now) c.in-Nothing.is)
+    (stored _ r 0 (4 ∷ 4 ∷ 4 ∷ []) (0x1200 ∷ c.in-Ok-Some-Control.id ∷ c.in-Ok-Some-Control.mask ∷ []) (put c.put_u32-in-Ok-Some-Control.ensures (put c.put_u32-in-Ok-Some-Control-2.ensures (put c.put_u32-in-Ok-Some-Control-3.ensures end))))
+    ∙ sym (ap (λ (x : Result (Option Notice) Refusal). noticed x r) e)

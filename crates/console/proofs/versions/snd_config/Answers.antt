@@ -18,15 +18,15 @@ unfolding config_entry
 returns-in_default c =
     let a = c.args in
     passes _ _ _ (le-leb _ _ c.if-res-lt-RESULT.false)
-    (stops _ _ _ (config-refused (has_controls a.version a.features) _ a.config.now _ c.has_controls-controls.ensures c.read.ensures c.in_default.is) refl)
+    (stops _ _ _ (config-refused (has_controls a.version a.features) _ a.config.now _ c.has_controls-controls.ensures c.read.ensures _ c.in_default.is) refl)
 
-pub returns-in_default-from_number : goal.returns-in_default-from_number
+pub returns-in_default-try_from : goal.returns-in_default-try_from
 unfolding config_entry
-returns-in_default-from_number c =
+returns-in_default-try_from c =
     let a = c.args in
     passes _ _ _ (le-leb _ _ c.if-res-lt-RESULT.false)
-    (passes _ _ _ (config-fits (has_controls a.version a.features) _ a.config.now _ c.has_controls-controls.ensures c.read.ensures _ c.in-Is.is)
-    (stops _ _ _ (version-unknown a.version _ c.in_default-from_number.is c.from_number.ensures) refl))
+    (passes _ _ _ (config-fits (has_controls a.version a.features) _ a.config.now _ c.has_controls-controls.ensures c.read.ensures _ c.in-Ok.is)
+    (stops _ _ _ (version-unknown a.version _ _ c.in_default-try_from.is c.try_from.ensures) refl))
 
 pub returns : goal.returns
 unfolding config_entry
@@ -34,6 +34,6 @@ returns c =
     let a = c.args in
     let controls = has_controls a.version a.features in
     passes _ _ _ (le-leb _ _ c.if-res-lt-RESULT.false)
-    (passes _ _ _ (config-fits controls _ a.config.now _ c.has_controls-controls.ensures c.read.ensures _ c.in-Is.is)
-    (passes _ _ _ (version-known a.version _ _ c.in-Is-from_number.is c.from_number.ensures)
-    (ap (shown 0) (c.put_config.ensures ∙ ap (λ (l : List ℕ). sets a.res.now 0 l) (config-counts controls _ a.config.now _ c.has_controls-controls.ensures c.read.ensures _ c.in-Is.is)))))
+    (passes _ _ _ (config-fits controls _ a.config.now _ c.has_controls-controls.ensures c.read.ensures _ c.in-Ok.is)
+    (passes _ _ _ (version-known a.version _ _ c.in-Ok-try_from.is c.try_from.ensures)
+    (ap (shown 0) (c.put_config.ensures ∙ ap (λ (l : List ℕ). sets a.res.now 0 l) (config-counts controls _ a.config.now _ c.has_controls-controls.ensures c.read.ensures _ c.in-Ok.is)))))

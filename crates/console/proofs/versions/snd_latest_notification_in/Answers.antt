@@ -14,14 +14,14 @@ pub returns-in_default : goal.returns-in_default
 unfolding notice_entry_in
 returns-in_default c =
     let a = c.args in
-    passes _ _ _ (le-leb _ _ c.if-res-lt-RESULT.false) (stops _ _ _ (version-unknown a.version _ c.in_default.is c.from_number.ensures) refl)
+    passes _ _ _ (le-leb _ _ c.if-res-lt-RESULT.false) (stops _ _ _ (version-unknown a.version _ _ c.in_default.is c.try_from.ensures) refl)
 
 pub returns : goal.returns
 unfolding notice_entry_in
 returns c =
     let a = c.args in
     passes _ _ _ (le-leb _ _ c.if-res-lt-RESULT.false)
-    (passes _ _ _ (version-known a.version _ _ c.in-Is.is c.from_number.ensures)
+    (passes _ _ _ (version-known a.version _ _ c.in-Ok.is c.try_from.ensures)
     (c.tell.ensures
     ∙ noticed-is c.has_controls-controls.result a.event.now a.res.now c.latest_notification_in-said.result c.latest_notification_in-said.ensures
     ∙ ap (λ (controls : Bool). notice_shown controls a.event.now a.res.now) c.has_controls-controls.ensures))

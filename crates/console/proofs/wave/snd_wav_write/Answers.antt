@@ -1,25 +1,27 @@
 -- `console::wave::snd_wav_write` meets its contract: by what writing said. Assumes nothing.
+use Prim.Native.Nat.{ℕ}
+use Rattle.std.specs.Prelude.{Result, Err}
 use Rattle.std.proofs.Common.{sym, ap, ◌∙◌}
 use Rattle.layout.specs.Lent.{made}
 use Rattle.wav.specs.Wave.{says_wrote}
-use Rattle.wav.specs.declared.writer.WroteWave.{WroteWave}
+use Rattle.wav.specs.declared.writer.WriteError.{WriteError}
 use Rattle.console.specs.Entries.{file_entry}
 use Rattle.console.proofs.wave.snd_wav_write.Goals as goal
 
-pub returns-in-Done : goal.returns-in-Done
+pub returns-in-Ok : goal.returns-in-Ok
 unfolding file_entry
-returns-in-Done c =
-    let said = ap (λ (r : WroteWave). (says_wrote r).number) (sym c.in-Done.is ∙ c.write-said.ensures.value) in
-    λ i. made (said i) (c.write-said.ensures.out_after i)
+returns-in-Ok c =
+    let said = ap (λ (r : Result ℕ WriteError). (says_wrote r).number) (sym c.in-Ok.is ∙ c.write.ensures.value) in
+    λ i. made (said i) (c.write.ensures.out_after i)
 
-pub returns-in-BadSound : goal.returns-in-BadSound
+pub returns-in-Err-BadSound : goal.returns-in-Err-BadSound
 unfolding file_entry
-returns-in-BadSound c =
-    let said = ap (λ (r : WroteWave). (says_wrote r).number) (sym c.in-BadSound.is ∙ c.write-said.ensures.value) in
-    λ i. made (said i) (c.write-said.ensures.out_after i)
+returns-in-Err-BadSound c =
+    let said = ap (λ (r : Result ℕ WriteError). (says_wrote r).number) (sym (ap Err c.in-Err-BadSound.field-0-is) ∙ sym c.in-Err-BadSound.is ∙ c.write.ensures.value) in
+    λ i. made (said i) (c.write.ensures.out_after i)
 
-pub returns-in-BadLength : goal.returns-in-BadLength
+pub returns-in-Err-BadLength : goal.returns-in-Err-BadLength
 unfolding file_entry
-returns-in-BadLength c =
-    let said = ap (λ (r : WroteWave). (says_wrote r).number) (sym c.in-BadLength.is ∙ c.write-said.ensures.value) in
-    λ i. made (said i) (c.write-said.ensures.out_after i)
+returns-in-Err-BadLength c =
+    let said = ap (λ (r : Result ℕ WriteError). (says_wrote r).number) (sym (ap Err c.in-Err-BadLength.field-0-is) ∙ sym c.in-Err-BadLength.is ∙ c.write.ensures.value) in
+    λ i. made (said i) (c.write.ensures.out_after i)

@@ -1,9 +1,9 @@
 -- `exchange::calls::feed_failure` meets its contract: the length, then the answer. Assumes nothing.
-use Rattle.std.proofs.Common.{[], length, refl, ap, ◌∙◌, le-leb}
+use Rattle.std.proofs.Common.{Err, [], length, refl, ap, ◌∙◌, le-leb}
 use borrow.Author.Tests.{lt-leb}
 use Rattle.exchange.specs.StepLaws.{stepped, moved}
 use Rattle.exchange.specs.Types.{QueueFailed}
-use Rattle.tables.specs.declared.verdict.Verdict.TheVariants.{Refused}
+use Rattle.tables.specs.declared.verdict.Fault.TheVariants.{Refused}
 use Rattle.sound_core.specs.Plan.{answer_of}
 use Rattle.exchange.specs.Exchange.{fail_of}
 use Rattle.codes.specs.SaysLaws.{passes, stops}
@@ -22,5 +22,5 @@ unfolding fail_of
 returns c =
     let a = c.args in
     moved (fail_of a.s (length a.message.now)) a.s [] a.message.now
-    (passes _ _ _ (le-leb _ _ c.if-message-lt-MESSAGE.false) (c.answer-plan.ensures ∙ ap (answer_of a.s.core (Refused QueueFailed)) c.pending_look-found.ensures))
+    (passes _ _ _ (le-leb _ _ c.if-message-lt-MESSAGE.false) (c.answer-plan.ensures ∙ ap (answer_of a.s.core (Err (Refused QueueFailed))) c.pending_look-found.ensures))
     c.finish.ensures

@@ -1,5 +1,5 @@
 -- `exchange::effect::params_at` meets its contract: past the end there is 0. Assumes nothing.
-use Rattle.std.proofs.Common.{◌≡◌, ◌≤◌, length, sym, arith, rules}
+use Rattle.std.proofs.Common.{◌≡◌, ◌≤◌, length, sym, ◌∙◌, arith, rules}
 use lib.ListN.{get_or-eq_default}
 use Rattle.sound_core.specs.State.{unset}
 use Rattle.exchange.proofs.effect.params_at.Goals as goal
@@ -9,4 +9,5 @@ returns-then-i-ge127 c =
     let a = c.args in
     let n : length a.params ≡ 127 = search rules in
     let h : length a.params ≤ a.stream = omega arith in
-    sym (get_or-eq_default a.params unset h)
+    let z : c.default.result ≡ unset = search rules in
+    z ∙ sym (get_or-eq_default a.params unset h)

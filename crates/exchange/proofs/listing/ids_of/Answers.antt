@@ -6,36 +6,16 @@ use Rattle.tables.specs.Tables.{pcm_at, pcms_place, pcms_in}
 use Rattle.exchange.specs.ListLaws.{length_ids, listed_more}
 use Rattle.exchange.proofs.listing.ids_of.Goals as goal
 
-pub loop-i-init : goal.loop-i-init
-loop-i-init c = (omega arith, c.no_ids-list.ensures)
-
 pub with_id-list-requires : goal.with_id-list-requires
 with_id-list-requires c =
     let a = c.args in
     let t = pcms_in a.tables.now in
     let n : length t ≡ 127 = length-rows pcm_at 32 pcms_place 127 a.tables.now in
-    rw c.loop-i.invariant.1 (omega (arith, length_ids a.direction 0 (take c.loop-i.i t), length-take-le c.loop-i.i t (omega arith)))
+    rw c.loop-i.invariant (omega (arith, length_ids a.direction 0 (take c.loop-i.i t), length-take-le c.loop-i.i t (omega arith)))
 
 pub loop-i-preserved : goal.loop-i-preserved
 loop-i-preserved c =
     let a = c.args in
     let t = pcms_in a.tables.now in
     let n : length t ≡ 127 = length-rows pcm_at 32 pcms_place 127 a.tables.now in
-    (omega arith, simp (c.with_id-list.ensures, c.direction_at-found.ensures, c.loop-i.invariant.1) (listed_more a.direction c.loop-i.i t (pcm_info_of []) (omega arith) (omega arith)))
-
-pub returns : goal.returns
-returns c =
-    let e : c.loop-i.i ≡ c.args.n = omega arith in
-    simp (c.loop-i.invariant.1, e)
-
-pub overflow_cast-i : goal.overflow_cast-i
-overflow_cast-i c = omega arith
-
-pub overflow_cast-i-in-loop-i : goal.overflow_cast-i-in-loop-i
-overflow_cast-i-in-loop-i c = omega arith
-
-pub overflow_add-i : goal.overflow_add-i
-overflow_add-i c = omega arith
-
-pub loop-i-smaller : goal.loop-i-smaller
-loop-i-smaller c = omega arith
+    simp (c.with_id-list.ensures, c.direction_at-found.ensures, c.loop-i.invariant) (listed_more a.direction c.loop-i.i t (pcm_info_of []) (omega arith) (omega arith))

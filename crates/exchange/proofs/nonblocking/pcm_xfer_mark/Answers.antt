@@ -7,12 +7,12 @@ use Rattle.exchange.proofs.nonblocking.pcm_xfer_mark.Goals as goal
 pub returns-then-not-consistent : goal.returns-then-not-consistent
 returns-then-not-consistent c = let a = c.args in c.barred_end.ensures ∙ mark-barred a.s a.reading (failed c.consistent.ensures c.if-not-consistent.true-raw)
 
-pub returns-in-Quiet : goal.returns-in-Quiet
-returns-in-Quiet c =
+pub returns-in-None : goal.returns-in-None
+returns-in-None c =
     let a = c.args in
-    mark-quiet a.s a.reading (passed c.consistent.ensures c.if-not-consistent.false-raw) c.in-Quiet.is
+    mark-quiet a.s a.reading (passed c.consistent.ensures c.if-not-consistent.false-raw) c.in-None.is
 
-pub returns-in-Completed : goal.returns-in-Completed
-returns-in-Completed c =
+pub returns-in-Some : goal.returns-in-Some
+returns-in-Some c =
     let a = c.args in
-    mark-told a.s a.reading _ _ _ _ (passed c.consistent.ensures c.if-not-consistent.false-raw) c.in-Completed.is c.mark-j.ensures c.end_by.ensures
+    mark-told a.s a.reading _ _ _ _ (passed c.consistent.ensures c.if-not-consistent.false-raw) c.in-Some.is c.mark-j.ensures c.end_by.ensures

@@ -14,7 +14,7 @@ pub returns-in_default : goal.returns-in_default
 returns-in_default c =
     let a = c.args in
     let h : 4 + a.i * 32 + 32 ≤ length a.page.now = omega arith in
-    absurd (row-never pcm_info a.page.now (4 + a.i * 32) h (sym (ap says_pcm_info c.in_default.is) ∙ c.read.ensures))
+    absurd (row-never pcm_info a.page.now (4 + a.i * 32) h _ (sym (ap says_pcm_info c.in_default.is) ∙ c.read.ensures))
 
 pub returns : goal.returns
 unfolding pcm_at
@@ -22,5 +22,5 @@ returns c =
     let a = c.args in
     let h : 4 + a.i * 32 + 32 ≤ length a.page.now = omega (arith, c.requires.0) in
     gives
-    (ap (stream_line a.i) (ap pcm_info_of (row_is pcm_info a.page.now (4 + a.i * 32) h _ (sym (ap says_pcm_info c.in-Is.is) ∙ c.read.ensures))))
+    (ap (stream_line a.i) (ap pcm_info_of (row_is pcm_info a.page.now (4 + a.i * 32) h _ (sym (ap says_pcm_info c.in-Ok.is) ∙ c.read.ensures))))
     c.stream_line.ensures

@@ -1,5 +1,5 @@
 -- `model::control::control` meets its contract. Assumes nothing.
-use Rattle.std.proofs.Common.{sym, refl, ◌∙◌, rules, eq-eqb, ne_eqb}
+use Rattle.std.proofs.Common.{sym, refl, ◌∙◌, eq-eqb, ne_eqb}
 use Rattle.codes.specs.SaysLaws.{passes, stops}
 use Rattle.layout.specs.Lent.{page_size}
 use Rattle.model.specs.Control.{control_of}
@@ -18,7 +18,3 @@ returns-then-within c =
 pub returns : goal.returns
 unfolding control_of
 returns c = passes _ _ _ (eq-eqb _ page_size c.if-page-ne-PAGE.false) (stops _ _ _ (sym c.within.ensures ∙ c.if-within.false) refl)
-
--- the page has its length, and the counts are within
-pub outcome-requires : goal.outcome-requires
-outcome-requires c = (search rules, sym c.within.ensures ∙ c.if-within.true)

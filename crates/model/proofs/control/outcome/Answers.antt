@@ -1,7 +1,7 @@
 -- `model::control::outcome` meets its contract. Assumes nothing.
 use Rattle.std.proofs.Common.{sym, ap, ◌∙◌}
 use Rattle.codes.specs.Requests.{says_request}
-use Rattle.codes.specs.declared.requests.FoundRequest.TheVariants as found
+use Rattle.std.specs.Prelude.{Ok, Err}
 use Rattle.model.specs.ControlLaws.{gives, outcome-short, outcome-by}
 use Rattle.model.proofs.control.outcome.Goals as goal
 
@@ -14,12 +14,12 @@ pub returns-in_default : goal.returns-in_default
 returns-in_default c =
     let a = c.args in
     gives _
-    (outcome-by a.request.now a.d found.InvalidParam _ c.if-request-lt-HEADER.false (sym (ap says_request c.in_default.is) ∙ c.from_code.ensures) c.get_u32.ensures)
+    (outcome-by a.request.now a.d (Err c.in_default.field-0) _ c.if-request-lt-HEADER.false (sym (ap says_request c.in_default.is) ∙ c.try_from.ensures) c.get_u32.ensures)
     c.tell-in_default.ensures
 
 pub returns : goal.returns
 returns c =
     let a = c.args in
     gives _
-    (outcome-by a.request.now a.d (found.Is c.in-Is.code) _ c.if-request-lt-HEADER.false (sym (ap says_request c.in-Is.is) ∙ c.from_code.ensures) c.get_u32.ensures)
+    (outcome-by a.request.now a.d (Ok c.in-Ok.code) _ c.if-request-lt-HEADER.false (sym (ap says_request c.in-Ok.is) ∙ c.try_from.ensures) c.get_u32.ensures)
     c.answer.ensures

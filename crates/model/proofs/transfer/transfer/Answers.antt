@@ -1,20 +1,15 @@
 -- `model::transfer::transfer` meets its contract. Assumes nothing.
-use Rattle.std.proofs.Common.{sym, refl, ◌∙◌, rules, le-leb}
+use Rattle.std.proofs.Common.{sym, refl, ◌∙◌, le-leb}
 use borrow.Author.Tests.{lt-leb}
 use Rattle.layout.specs.Layout.{size}
 use Rattle.records.specs.Records.{transfer_status}
 use Rattle.codes.specs.SaysLaws.{passes, stops}
-use Rattle.model.specs.DeviceLaws.{few-streams}
 use Rattle.model.specs.Transfer.{transfer_call}
 use Rattle.model.proofs.transfer.transfer.Goals as goal
 
 pub returns-then-answer-lt-SIZE : goal.returns-then-answer-lt-SIZE
 unfolding transfer_call
 returns-then-answer-lt-SIZE c = stops _ _ _ (lt-leb (size transfer_status) _ c.if-answer-lt-SIZE.true) refl
-
--- the answer has its length, and the counts are within
-pub done-requires : goal.done-requires
-done-requires c = (search rules, few-streams c.args.d.counts (sym c.within.ensures ∙ c.if-within.true))
 
 pub returns-then-within : goal.returns-then-within
 unfolding transfer_call

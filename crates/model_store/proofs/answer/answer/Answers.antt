@@ -1,30 +1,10 @@
 -- `model_store::answer::answer` meets its contract: an arm for each code. Assumes nothing.
-use Rattle.std.proofs.Common.{refl, ap, arith, rules}
+use Rattle.std.proofs.Common.{refl}
 use Rattle.layout.specs.Bytes.{le, Bytes}
-use Rattle.model.specs.DeviceLaws.{few-jacks, few-streams, few-maps}
 use Rattle.model.specs.Control.{bad}
-use Rattle.model_store.specs.Types.{Counts}
 use Rattle.model_store.specs.Store.{device_of}
 use Rattle.model_store.specs.AnswerLaws.{unchanged, jacks-place, pcms-place, maps-place, command-place}
 use Rattle.model_store.proofs.answer.answer.Goals as goal
-
-pub rows-requires : goal.rows-requires
-rows-requires c =
-    let h = few-jacks c.args.n c.requires.3 in
-    (search rules, omega arith, omega arith)
-
-pub rows-requires-in-RPcmInfo : goal.rows-requires-in-RPcmInfo
-rows-requires-in-RPcmInfo c =
-    let h = few-streams c.args.n c.requires.3 in
-    (search rules, omega arith, omega arith)
-
-pub setting-requires : goal.setting-requires
-setting-requires c = (search rules, search rules, ap (λ (k : Counts). k.streams) c.requires.2, few-streams c.args.n c.requires.3)
-
-pub rows-requires-in-RChmapInfo : goal.rows-requires-in-RChmapInfo
-rows-requires-in-RChmapInfo c =
-    let h = few-maps c.args.n c.requires.3 in
-    (search rules, omega arith, omega arith)
 
 pub returns-in-RJackInfo : goal.returns-in-RJackInfo
 returns-in-RJackInfo c =
@@ -42,9 +22,6 @@ returns-in-RPcmInfo c =
     let a = c.args in
     let b : Bytes a.device.now = λ k. (c.slice_known-1.given k).fits in
     rw c.in-RPcmInfo.is (unchanged a.device.now b _ _ (pcms-place a.device.now b a.n c.requires.2 c.requires.3 a.request.now) c.rows-in-RPcmInfo.ensures)
-
-pub returns-in-RPcmSetParams : goal.returns-in-RPcmSetParams
-returns-in-RPcmSetParams c = rw c.in-RPcmSetParams.is c.setting.ensures
 
 pub returns-in-RPcmPrepare : goal.returns-in-RPcmPrepare
 returns-in-RPcmPrepare c =

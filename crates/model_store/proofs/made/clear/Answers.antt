@@ -1,38 +1,20 @@
--- `model_store::made::clear` meets its contract: each turn clears one byte more. Assumes nothing.
-use Rattle.std.proofs.Common.{◌≡◌, ℕ, ◌+◌, refl, ap, ◌∙◌, arith, length-set}
+-- `model_store::made::clear` meets its contract. Assumes nothing.
+use Rattle.std.proofs.Common.{◌≡◌, ℕ, ◌+◌, ◌-◌, length, take, drop, replicate, ap, ◌∙◌, arith, length-drop, length-take-le}
+use Rattle.std.proofs.lemmas.List.{length-replicate}
+use borrow.Rule.Slice.PartMut.{put_mid}
 use lib.Seq.{sets}
 use Rattle.layout.specs.Bytes.{zeros}
-use Rattle.model_store.specs.NewLaws.{clear-more}
+use Rattle.model.specs.PageLaws.{stored_in}
 use Rattle.model_store.proofs.made.clear.Goals as goal
 
-pub loop-i-init : goal.loop-i-init
-unfolding zeros
-loop-i-init c = (omega arith, refl, refl)
-
-pub loop-i-preserved : goal.loop-i-preserved
-loop-i-preserved c =
-    let a = c.args in
-    let l = c.loop-i in
-    (omega arith, length-set l.to (a.at + l.i) 0 ∙ l.invariant.1, clear-more a.to.now a.at l.i l.to l.invariant.2)
-
 pub returns : goal.returns
+unfolding zeros
 returns c =
     let a = c.args in
-    let l = c.loop-i in
-    let e : l.i ≡ a.n = omega arith in
-    l.invariant.2 ∙ ap (λ (k : ℕ). sets a.to.now a.at (zeros k)) e
-
-pub overflow_add-to : goal.overflow_add-to
-overflow_add-to c = omega arith
-
-pub bounds-to-at : goal.bounds-to-at
-bounds-to-at c = omega arith
-
-pub overflow_add-i : goal.overflow_add-i
-overflow_add-i c = omega arith
-
-pub loop-i-smaller : goal.loop-i-smaller
-loop-i-smaller c = omega arith
-
-pub shape_of-to : goal.shape_of-to
-shape_of-to c = omega arith
+    let part = c.fill.new.self in
+    let k : a.at + a.n - a.at ≡ a.n = omega arith in
+    let e : part ≡ replicate a.n 0 =
+    c.fill.ensures.after (λ y p. p) ∙ ap (λ (j : ℕ). replicate j 0) (ap (λ (j : ℕ). length (take j (drop a.at a.to.now))) k ∙ length-take-le a.n (drop a.at a.to.now) (simp length-drop (omega arith))) in
+    ap (λ (j : ℕ). put_mid a.at j a.to.now part) k
+    ∙ stored_in a.to.now part a.at a.n (omega arith) (ap length e ∙ length-replicate a.n 0)
+    ∙ ap (sets a.to.now a.at) e

@@ -16,4 +16,4 @@ unfolding capture_start_in
 returns c =
     let a = c.args in
     stepped a.ring.now _ _ (λ k. (c.slice_known-1.given k).fits) c.if-ring-lt-SIZE.false
-    (◌∙◌ {b = capture_start c.get_track-t.result a.stream a.periods a.period a.len a.budget} c.capture_start_track-step.ensures (ap (λ (u : Track). capture_start u a.stream a.periods a.period a.len a.budget) c.get_track-t.ensures)) c.leave.ensures
+    (◌∙◌ {b = capture_start c.track-t.result a.stream a.periods a.period a.len a.budget} c.capture_start_track-step.ensures (ap (λ (u : Track). capture_start u a.stream a.periods a.period a.len a.budget) c.track-t.ensures)) c.leave.ensures

@@ -14,7 +14,7 @@ returns-then-ring-lt-SIZE c =
 pub returns : goal.returns
 returns c =
     let a = c.args in
-    caught-stepped a.ring.now a.recording.now a.kind a.slot a.written a.bytes.now c.get_track-t.result c.capture_track-step.result
-    (λ k. (c.slice_known-1.given k).fits) c.if-ring-lt-SIZE.false c.get_track-t.ensures
-    (c.capture_track-step.ensures ∙ ap (λ (k : Catch). capture_call c.get_track-t.result (length a.recording.now) k) c.from_words-c.ensures)
+    caught-stepped a.ring.now a.recording.now a.kind a.slot a.written a.bytes.now c.track-t.result c.capture_track-step.result
+    (λ k. (c.slice_known-1.given k).fits) c.if-ring-lt-SIZE.false c.track-t.ensures
+    (c.capture_track-step.ensures ∙ ap (λ (k : Catch). capture_call c.track-t.result (length a.recording.now) k) c.from_words-c.ensures)
     c.leave.ensures c.copy.ensures

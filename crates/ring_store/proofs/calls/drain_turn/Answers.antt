@@ -16,4 +16,4 @@ pub returns : goal.returns
 unfolding drain_in drain_words ring_of
 returns c =
     stepped c.args.ring.now _ _ (λ k. (c.slice_known-1.given k).fits) c.if-ring-lt-SIZE.false
-    (c.drain_track-step.ensures ∙ (λ j. drain_call (c.get_track-t.ensures j) (c.from_words-reading.ensures j))) c.leave.ensures
+    (c.drain_track-step.ensures ∙ (λ j. drain_call (c.track-t.ensures j) (c.from_words-reading.ensures j))) c.leave.ensures

@@ -16,4 +16,4 @@ unfolding start_in
 returns c =
     let a = c.args in
     stepped a.ring.now _ _ (λ k. (c.slice_known-1.given k).fits) c.if-ring-lt-SIZE.false
-    (◌∙◌ {b = start_call c.get_track-t.result a.stream a.len a.period a.budget} c.start_track-step.ensures (ap (λ (u : Track). start_call u a.stream a.len a.period a.budget) c.get_track-t.ensures)) c.leave.ensures
+    (◌∙◌ {b = start_call c.track-t.result a.stream a.len a.period a.budget} c.start_track-step.ensures (ap (λ (u : Track). start_call u a.stream a.len a.period a.budget) c.track-t.ensures)) c.leave.ensures

@@ -16,4 +16,4 @@ unfolding start_traced_in
 returns c =
     let a = c.args in
     stepped a.ring.now _ _ (λ k. (c.slice_known-1.given k).fits) c.if-ring-lt-SIZE.false
-    (◌∙◌ {b = start_traced c.get_track-t.result a.stream a.len a.period a.budget a.room} c.traced_start_track-step.ensures (ap (λ (u : Track). start_traced u a.stream a.len a.period a.budget a.room) c.get_track-t.ensures)) c.leave.ensures
+    (◌∙◌ {b = start_traced c.track-t.result a.stream a.len a.period a.budget a.room} c.traced_start_track-step.ensures (ap (λ (u : Track). start_traced u a.stream a.len a.period a.budget a.room) c.track-t.ensures)) c.leave.ensures

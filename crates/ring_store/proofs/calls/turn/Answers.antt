@@ -21,9 +21,9 @@ unfolding turn_in turn_words ring_of
 returns-then-not-t c =
     let a = c.args in
     let r = reading_of a.kind a.slot a.status in
-    stepped a.ring.now (refused_of InvalidParam c.get_track-t.result) (turn_call (track_at a.ring.now) a.len r)
+    stepped a.ring.now (refused_of InvalidParam c.track-t.result) (turn_call (track_at a.ring.now) a.len r)
     (λ k. (c.slice_known-1.given k).fits) c.if-ring-lt-SIZE.false
-    (turn-idle c.get_track-t.result a.len r (not-true _ c.if-not-t.true) ∙ ap (λ (u : Track). turn_call u a.len r) c.get_track-t.ensures)
+    (turn-idle c.track-t.result a.len r (not-true _ c.if-not-t.true) ∙ ap (λ (u : Track). turn_call u a.len r) c.track-t.ensures)
     refl
 
 pub returns : goal.returns
@@ -31,4 +31,4 @@ unfolding turn_in turn_words ring_of
 returns c =
     let a = c.args in
     stepped a.ring.now _ _ (λ k. (c.slice_known-1.given k).fits) c.if-ring-lt-SIZE.false
-    (c.turn_track-step.ensures ∙ (λ j. turn_call (c.get_track-t.ensures j) a.len (c.from_words-reading.ensures j))) c.leave.ensures
+    (c.turn_track-step.ensures ∙ (λ j. turn_call (c.track-t.ensures j) a.len (c.from_words-reading.ensures j))) c.leave.ensures

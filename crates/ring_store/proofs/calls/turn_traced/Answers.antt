@@ -10,6 +10,6 @@ returns-then-ring-lt-SIZE c =
 pub returns : goal.returns
 returns c =
     let a = c.args in
-    traced-stepped a.ring.now a.len a.room.now a.kind a.slot a.status c.get_track-t.result c.from_words-reading.result c.turn_traced-step.result
-    (λ k. (c.slice_known-1.given k).fits) c.if-ring-lt-SIZE.false c.get_track-t.ensures c.from_words-reading.ensures c.turn_traced-step.ensures.0
+    traced-stepped a.ring.now a.len a.room.now a.kind a.slot a.status c.track-t.result c.from_words-reading.result c.turn_traced-step.result
+    (λ k. (c.slice_known-1.given k).fits) c.if-ring-lt-SIZE.false c.track-t.ensures c.from_words-reading.ensures c.turn_traced-step.ensures.0
     c.leave.ensures c.turn_traced-step.ensures.1

@@ -10,4 +10,4 @@ pub returns : goal.returns
 unfolding ring_of
 returns c =
     let a = c.args in
-    told a.ring.now a.res.now _ _ ((λ j. guard (c.is_slot-sound.ensures j) (says 1 []) (says 0 ((c.get_slot-found.ensures j).offset ∷ (c.get_slot-found.ensures j).len ∷ []))) ∙ guards _ _ _ _) c.tell_two.ensures
+    told a.ring.now a.res.now _ _ ((λ j. guard (c.is_slot-sound.ensures j) (says 1 []) (says 0 ((c.get_slot-found.ensures j).offset ∷ (c.get_slot-found.ensures j).len ∷ []))) ∙ guards _ _ _ _) c.tell.ensures

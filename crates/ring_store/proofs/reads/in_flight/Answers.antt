@@ -8,4 +8,4 @@ use Rattle.ring_store.proofs.reads.in_flight.Goals as goal
 pub returns : goal.returns
 returns c =
     let a = c.args in
-    told a.ring.now a.res.now _ _ (read_by _ _ _ (λ (t : Track). t.inflight ∷ []) _ c.track-t.ensures c.is_consistent-sound.ensures refl) c.tell_one.ensures
+    told a.ring.now a.res.now _ _ (read_by _ _ _ (λ (t : Track). t.inflight ∷ []) _ c.track-t.ensures c.is_consistent-sound.ensures refl) c.tell.ensures

@@ -10,4 +10,4 @@ use Rattle.ring_store.proofs.reads.running.Goals as goal
 pub returns : goal.returns
 returns c =
     let a = c.args in
-    told a.ring.now a.res.now _ _ (read_by _ _ _ (λ (t : Track). pick t.running 1 0 ∷ []) _ c.track-t.ensures c.is_consistent-sound.ensures (ap (λ (n : ℕ). n ∷ []) c.flag_of-flag.ensures)) c.tell_one.ensures
+    told a.ring.now a.res.now _ _ (read_by _ _ _ (λ (t : Track). pick t.running 1 0 ∷ []) _ c.track-t.ensures c.is_consistent-sound.ensures (ap (λ (n : ℕ). n ∷ []) c.flag_of-flag.ensures)) c.tell.ensures

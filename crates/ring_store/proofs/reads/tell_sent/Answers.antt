@@ -1,8 +1,11 @@
 -- By what was sent. Assumes nothing.
+use Rattle.codes.specs.Says.{guard}
 use Rattle.ring_store.proofs.reads.tell_sent.Goals as goal
 
-pub returns-in-Nothing : goal.returns-in-Nothing
-returns-in-Nothing c = rw c.in-Nothing.is c.tell_four.ensures
+pub returns-in-None : goal.returns-in-None
+unfolding guard
+returns-in-None c = rw c.in-None.is c.tell.ensures
 
-pub returns-in-Period : goal.returns-in-Period
-returns-in-Period c = rw c.in-Period.is c.tell_four-in-Period.ensures
+pub returns-in-Some : goal.returns-in-Some
+unfolding guard
+returns-in-Some c = rw c.in-Some.is c.tell-in-Some.ensures

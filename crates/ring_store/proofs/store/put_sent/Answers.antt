@@ -1,5 +1,5 @@
 -- By what was sent. Assumes nothing.
 use Rattle.ring_store.proofs.store.put_sent.Goals as goal
 
-pub returns-in-Period : goal.returns-in-Period
-returns-in-Period c = rw c.in-Period.is c.put_slot.ensures
+pub returns-in-Some : goal.returns-in-Some
+returns-in-Some c = rw c.in-Some.is c.put_slot.ensures

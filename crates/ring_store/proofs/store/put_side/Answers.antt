@@ -13,7 +13,7 @@ use Rattle.ring_store.proofs.store.put_side.Goals as goal
 pub returns : goal.returns
 returns c =
     let a = c.args in
-    stored _ a.ring.now side_place side_row _ (put c.put_word.ensures (put c.put_word-2.ensures (put c.put_half.ensures (put c.put_word-3.ensures end))))
+    stored _ a.ring.now side_place side_row _ (put c.put_u64.ensures (put c.put_u64-2.ensures (put c.put_u32.ensures (put c.put_u64-3.ensures end))))
     ∙ ap (λ (n : ℕ). sets a.ring.now side_place (write side_row (a.t.lent ∷ a.t.kept ∷ n ∷ a.t.written ∷ []))) c.flag_of-flag.ensures
 
 pub shape_of-ring : goal.shape_of-ring

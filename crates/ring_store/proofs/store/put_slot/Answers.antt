@@ -1,5 +1,4 @@
 -- Its two stores, where it is one of the 32. Assumes nothing.
-use native.Mathlib.Omega.{arith}
 use Rattle.layout.specs.ChainLaws.Stored.{put, end}
 use Rattle.ring_store.specs.StoreLaws.{slot-stored, slot-none}
 use Rattle.ring_store.proofs.store.put_slot.Goals as goal
@@ -10,10 +9,4 @@ returns-then-slot-ge-SLOTS c = slot-none _ _ _ c.if-slot-ge-SLOTS.true
 pub returns : goal.returns
 returns c =
     let a = c.args in
-    slot-stored _ a.ring.now a.slot a.carried c.if-slot-ge-SLOTS.false (put c.put_word.ensures (put c.put_word-2.ensures end))
-
-pub put_word-requires : goal.put_word-requires
-put_word-requires c = omega arith
-
-pub put_word-requires-2 : goal.put_word-requires-2
-put_word-requires-2 c = omega arith
+    slot-stored _ a.ring.now a.slot a.carried c.if-slot-ge-SLOTS.false (put c.put_u64.ensures (put c.put_u64-2.ensures end))

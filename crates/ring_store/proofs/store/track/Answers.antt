@@ -1,12 +1,8 @@
 -- By the store's length. Assumes nothing.
-use borrow.Author.Rules.{rules}
+use Rattle.std.proofs.Common.{ap, ◌∙◌}
+use Rattle.ring_store.specs.Store.{track_at}
+use Rattle.ring_store.specs.StoreLaws.{track-front}
 use Rattle.ring_store.proofs.store.track.Goals as goal
 
-pub returns-then-ring-lt-SIZE : goal.returns-then-ring-lt-SIZE
-returns-then-ring-lt-SIZE c = c.short_track.ensures
-
-pub get_track-requires : goal.get_track-requires
-get_track-requires c = search rules
-
-pub returns : goal.returns
-returns c = c.get_track.ensures
+pub returns-in-Some : goal.returns-in-Some
+returns-in-Some c = c.read_track.ensures ∙ ap track_at c.in-Some.ensures.cases.same ∙ track-front c.args.ring.now

@@ -8,16 +8,16 @@ use Rattle.sound_core.proofs.decide.answer.Goals as goal
 
 pub returns-then-wrong : goal.returns-then-wrong
 unfolding answer_of
-returns-then-wrong c = stops _ _ _ (ap not (sym c.refused_by-wrong.ensures ∙ c.if-wrong.true)) c.refuse.ensures
+returns-then-wrong c = stops _ _ _ (ap not (sym (rw c.number.ensures at c.refused_by-wrong.ensures) ∙ c.if-wrong.true)) c.refuse.ensures
 
 pub returns-then-not-consistent : goal.returns-then-not-consistent
 unfolding answer_of
 returns-then-not-consistent c =
-    passes _ _ _ (ap not (sym c.refused_by-wrong.ensures ∙ c.if-wrong.false))
+    passes _ _ _ (ap not (sym (rw c.number.ensures at c.refused_by-wrong.ensures) ∙ c.if-wrong.false))
     (stops _ _ _ (failed c.consistent.ensures c.if-not-consistent.true-raw) c.refuse-then-not-consistent.ensures)
 
 pub returns : goal.returns
 unfolding answer_of
 returns c =
-    passes _ _ _ (ap not (sym c.refused_by-wrong.ensures ∙ c.if-wrong.false))
+    passes _ _ _ (ap not (sym (rw c.number.ensures at c.refused_by-wrong.ensures) ∙ c.if-wrong.false))
     (passes _ _ _ (passed c.consistent.ensures c.if-not-consistent.false-raw) c.answer_by.ensures)

@@ -5,13 +5,13 @@ use Rattle.sound_core.proofs.decide.own_command.Goals as goal
 
 pub returns-then-not-there : goal.returns-then-not-there
 unfolding own_command
-returns-then-not-there c = stops _ _ _ (failed c.held_to-there.ensures c.if-not-there.true-raw) c.end.ensures
+returns-then-not-there c = stops _ _ _ (failed c.held_to-there.ensures c.if-not-there.true-raw) c.end_refused.ensures
 
 pub returns-then-not-permitted : goal.returns-then-not-permitted
 unfolding own_command
 returns-then-not-permitted c =
     passes _ _ _ (passed c.held_to-there.ensures c.if-not-there.false-raw)
-    (stops _ _ _ (failed (rw c.kind_life.ensures at c.may-permitted.ensures) c.if-not-permitted.true-raw) c.end-then-not-permitted.ensures)
+    (stops _ _ _ (failed (rw c.kind_life.ensures at c.may-permitted.ensures) c.if-not-permitted.true-raw) c.end_refused-then-not-permitted.ensures)
 
 pub returns : goal.returns
 unfolding own_command

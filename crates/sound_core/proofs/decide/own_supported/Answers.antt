@@ -6,8 +6,8 @@ use Rattle.sound_core.proofs.decide.own_supported.Goals as goal
 
 pub returns-then-c-stream : goal.returns-then-c-stream
 unfolding own_supported
-returns-then-c-stream c = stops _ _ _ (le-ltb _ _ c.if-c-stream.true) c.end.ensures
+returns-then-c-stream c = stops _ _ _ (le-ltb _ _ c.if-c-stream.true) c.end_refused.ensures
 
 pub returns : goal.returns
 unfolding own_supported
-returns c = passes _ _ _ (lt-ltb _ _ c.if-c-stream.false) (simp (c.end-2.ensures, c.found.ensures))
+returns c = passes _ _ _ (lt-ltb _ _ c.if-c-stream.false) (simp (c.end.ensures, c.found.ensures))

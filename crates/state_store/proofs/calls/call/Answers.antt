@@ -1,5 +1,5 @@
 -- `state_store::calls::call` meets its contract: the lengths, then the call. Assumes nothing.
-use Rattle.std.proofs.Common.{sym, ap, ◌∙◌, arith, le-leb}
+use Rattle.std.proofs.Common.{sym, ap, ◌∙◌, le-leb}
 use borrow.Author.Tests.{lt-leb, not-true, not-false}
 use Rattle.state_store.specs.Store.{whole_head}
 use Rattle.state_store.specs.Store.{core_of}
@@ -16,11 +16,6 @@ returns-then-message-lt-MESSAGE c =
     let a = c.args in
     call-short a.state.now a.message.now a.res.now (sym c.both.ensures ∙ not-false _ c.if-not-both.false-raw) a.t a.asked
     (λ k. (c.slice_known-1.given k).fits) (lt-leb 24 _ c.if-message-lt-MESSAGE.true)
-
-pub get_head-h-requires : goal.get_head-h-requires
-get_head-h-requires c =
-    let a = c.args in
-    omega (arith, long-state a.state.now a.res.now (sym c.both.ensures ∙ not-false _ c.if-not-both.false-raw))
 
 pub look-found-requires : goal.look-found-requires
 look-found-requires c =

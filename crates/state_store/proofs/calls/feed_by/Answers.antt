@@ -1,5 +1,5 @@
 -- `state_store::calls::feed_by` meets its contract: the lengths, then the answer. Assumes nothing.
-use Rattle.std.proofs.Common.{◌≡◌, Bool, ◌&&◌, leb, length, sym, ap, ◌∙◌, arith}
+use Rattle.std.proofs.Common.{◌≡◌, Bool, ◌&&◌, leb, length, sym, ap, ◌∙◌}
 use borrow.Author.Tests.{not-true, not-false}
 use Rattle.layout.specs.Lent.{message_size}
 use Rattle.state_store.specs.Store.{whole_head}
@@ -21,11 +21,6 @@ returns-then-not-both-2 c =
     let a = c.args in
     feed-short a.state.now a.message.now a.res.now (sym c.both.ensures ∙ not-false _ c.if-not-both.false-raw) a.w a.page.now
     (λ k. (c.slice_known-1.given k).fits) (tested (leb message_size (length a.message.now)) c.page_ok.ensures c.both-2.ensures ∙ not-true _ c.if-not-both-2.true-raw)
-
-pub get_head-h-requires : goal.get_head-h-requires
-get_head-h-requires c =
-    let a = c.args in
-    omega (arith, long-state a.state.now a.res.now (sym c.both.ensures ∙ not-false _ c.if-not-both.false-raw))
 
 pub pending_look-found-requires : goal.pending_look-found-requires
 pending_look-found-requires c =

@@ -8,4 +8,4 @@ pub returns : goal.returns
 returns c =
     let a = c.args in
     stored _ a.s.now 0 counts_row (counts_values a.counts a.read)
-    (put c.put_half.ensures (put c.put_half-2.ensures (put c.put_half-3.ensures (put c.put_half-4.ensures (put c.put_half-5.ensures (put c.put_half-6.ensures end))))))
+    (put c.put_u32.ensures (put c.put_u32-2.ensures (put c.put_u32-3.ensures (put c.put_u32-4.ensures (put c.put_u32-5.ensures (put c.put_u32-6.ensures end))))))

@@ -1,5 +1,6 @@
 -- `state_store::nonblocking::pcm_xfer_nb` meets its contract: by what the checks come to. Assumes nothing.
-use Rattle.std.proofs.Common.{ℕ, sym, ap, ◌∙◌, arith}
+use Rattle.std.proofs.Common.{ℕ, sym, ap, ◌∙◌}
+use Rattle.exchange.specs.StepLaws.{came}
 use borrow.Author.Tests.{not-true, not-false}
 use Rattle.layout.specs.Bytes.{Bytes}
 use Rattle.state_store.specs.Store.{whole_head, core_of}
@@ -12,11 +13,6 @@ pub returns-then-not-both : goal.returns-then-not-both
 returns-then-not-both c =
     let a = c.args in
     nb-unread a.state.now a.t a.stream a.payload.now a.places.now a.message.now a.res.now (sym c.both.ensures ∙ not-true _ c.if-not-both.true-raw)
-
-pub get_head-h-requires : goal.get_head-h-requires
-get_head-h-requires c =
-    let a = c.args in
-    omega (arith, long-state a.state.now a.res.now (sym c.both.ensures ∙ not-false _ c.if-not-both.false-raw))
 
 pub life_at-life-requires : goal.life_at-life-requires
 life_at-life-requires c =
@@ -33,10 +29,10 @@ set_up-requires c =
     let r = a.res.now in
     let l = sym c.both.ensures ∙ not-false _ c.if-not-both.false-raw in
     let g = nb-gated s a.t a.stream e p m r (c.core_by-c.ensures ∙ ap core_of c.get_head-h.ensures) c.params_at-params.ensures c.life_at-life.ensures c.xfer_gate-gate.ensures in
-    (long-state s r l, nb-long s a.t a.stream e p m r (sym c.in-SetUp.is ∙ g))
+    (long-state s r l, nb-long s a.t a.stream e p m r (came c.in-Ok-SetUp.is (rw c.in-Ok-SetUp.is at c.in-Ok-SetUp.field-0-is) ∙ g))
 
-pub returns-in-Shut : goal.returns-in-Shut
-returns-in-Shut c =
+pub returns-in-Err : goal.returns-in-Err
+returns-in-Err c =
     let a = c.args in
     let s = a.state.now in
     let e = a.payload.now in
@@ -46,10 +42,10 @@ returns-in-Shut c =
     let l = sym c.both.ensures ∙ not-false _ c.if-not-both.false-raw in
     let g = nb-gated s a.t a.stream e p m r (c.core_by-c.ensures ∙ ap core_of c.get_head-h.ensures) c.params_at-params.ensures c.life_at-life.ensures c.xfer_gate-gate.ensures in
     let b : Bytes s = λ k. (c.slice_known-1.given k).fits in
-    ap (λ (n : ℕ). submitted n s p m r) c.word.ensures ∙ nb-shut s a.t a.stream e p m r l b _ (sym c.in-Shut.is ∙ g)
+    ap (λ (n : ℕ). submitted n s p m r) c.word.ensures ∙ nb-shut s a.t a.stream e p m r l b _ (sym c.in-Err.is ∙ g)
 
-pub returns-in-SetUp : goal.returns-in-SetUp
-returns-in-SetUp c =
+pub returns-in-Ok-SetUp : goal.returns-in-Ok-SetUp
+returns-in-Ok-SetUp c =
     let a = c.args in
     let s = a.state.now in
     let e = a.payload.now in
@@ -59,10 +55,10 @@ returns-in-SetUp c =
     let l = sym c.both.ensures ∙ not-false _ c.if-not-both.false-raw in
     let g = nb-gated s a.t a.stream e p m r (c.core_by-c.ensures ∙ ap core_of c.get_head-h.ensures) c.params_at-params.ensures c.life_at-life.ensures c.xfer_gate-gate.ensures in
     let h = c.get_head-h.ensures in
-    nb-set-up s a.t a.stream e p m r l (c.is_whole-whole.ensures ∙ ap whole_head h) (c.core_by-c.ensures ∙ ap core_of h) (sym c.in-SetUp.is ∙ g) c.set_up.ensures
+    nb-set-up s a.t a.stream e p m r l (c.is_whole-whole.ensures ∙ ap whole_head h) (c.core_by-c.ensures ∙ ap core_of h) (came c.in-Ok-SetUp.is (rw c.in-Ok-SetUp.is at c.in-Ok-SetUp.field-0-is) ∙ g) c.set_up.ensures
 
-pub returns-in-Open : goal.returns-in-Open
-returns-in-Open c =
+pub returns-in-Ok-Open : goal.returns-in-Ok-Open
+returns-in-Ok-Open c =
     let a = c.args in
     let s = a.state.now in
     let e = a.payload.now in
@@ -72,7 +68,7 @@ returns-in-Open c =
     let l = sym c.both.ensures ∙ not-false _ c.if-not-both.false-raw in
     let g = nb-gated s a.t a.stream e p m r (c.core_by-c.ensures ∙ ap core_of c.get_head-h.ensures) c.params_at-params.ensures c.life_at-life.ensures c.xfer_gate-gate.ensures in
     let b : Bytes s = λ k. (c.slice_known-1.given k).fits in
-    nb-open s a.t a.stream e p m r l b _ (sym c.in-Open.is ∙ g) c.places_of-many.ensures c.submit.ensures
+    nb-open s a.t a.stream e p m r l b _ (came c.in-Ok-Open.is (rw c.in-Ok-Open.is at c.in-Ok-Open.field-0-is) ∙ g) c.places_of-many.ensures c.submit.ensures
 
 pub core_by-c-requires : goal.core_by-c-requires
 core_by-c-requires c = c.is_whole-whole.ensures

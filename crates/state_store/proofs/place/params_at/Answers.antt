@@ -1,11 +1,14 @@
 -- `state_store::place::params_at` meets its contract: the record stands at its place. Assumes nothing.
-use Rattle.std.proofs.Common.{sym}
+use Rattle.std.proofs.Common.{◌≡◌, sym, ◌∙◌, rules}
+use Rattle.sound_core.specs.State.{unset}
 use Rattle.state_store.specs.Store.{params_at}
 use Rattle.state_store.specs.PlaceLaws.{params_in, params-out}
 use Rattle.state_store.proofs.place.params_at.Goals as goal
 
 pub returns-then-i-ge127 : goal.returns-then-i-ge127
-returns-then-i-ge127 c = sym (params-out _ _ c.if-i-ge127.true)
+returns-then-i-ge127 c =
+    let z : c.default.result ≡ unset = search rules in
+    z ∙ sym (params-out _ _ c.if-i-ge127.true)
 
 pub returns : goal.returns
 unfolding params_at

@@ -1,5 +1,5 @@
 -- `state_store::tokens::pcm_xfer_ok` meets its contract: the length, the test, then the token. Assumes nothing.
-use Rattle.std.proofs.Common.{ap, ◌∙◌, arith}
+use Rattle.std.proofs.Common.{ap, ◌∙◌}
 use Rattle.codes.specs.SaysLaws.{passed, failed}
 use Rattle.pending.specs.Table.{finish_token}
 use Rattle.state_store.specs.Store.{core_of}
@@ -8,9 +8,6 @@ use Rattle.state_store.proofs.tokens.pcm_xfer_ok.Goals as goal
 
 pub returns-then-state-lt-SIZE : goal.returns-then-state-lt-SIZE
 returns-then-state-lt-SIZE c = let a = c.args in finish-short a.state.now a.token c.if-state-lt-SIZE.true
-
-pub get_head-requires : goal.get_head-requires
-get_head-requires c = omega (arith, c.if-state-lt-SIZE.false)
 
 pub returns-then-not-consistent : goal.returns-then-not-consistent
 returns-then-not-consistent c =

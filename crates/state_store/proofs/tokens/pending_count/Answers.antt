@@ -1,18 +1,12 @@
 -- `state_store::tokens::pending_count` meets its contract: the lengths, then the count. Assumes nothing.
-use Rattle.std.proofs.Common.{sym, ap, ◌∙◌, arith}
+use Rattle.std.proofs.Common.{sym, ap, ◌∙◌}
 use borrow.Author.Tests.{not-true, not-false}
 use Rattle.state_store.specs.Store.{core_of}
-use Rattle.state_store.specs.FinishLaws.{long-state}
 use Rattle.state_store.specs.TokenLaws.{pending-unread, pending-told}
 use Rattle.state_store.proofs.tokens.pending_count.Goals as goal
 
 pub returns-then-not-both : goal.returns-then-not-both
 returns-then-not-both c = let a = c.args in pending-unread a.state.now a.res.now (sym c.both.ensures ∙ not-true _ c.if-not-both.true-raw)
-
-pub get_head-requires : goal.get_head-requires
-get_head-requires c =
-    let a = c.args in
-    omega (arith, long-state a.state.now a.res.now (sym c.both.ensures ∙ not-false _ c.if-not-both.false-raw))
 
 pub returns : goal.returns
 returns c =

@@ -1,19 +1,13 @@
 -- `state_store::tokens::pending_token` meets its contract: the lengths, the tests, then the token. Assumes nothing.
-use Rattle.std.proofs.Common.{sym, ap, ◌∙◌, arith}
+use Rattle.std.proofs.Common.{sym, ap, ◌∙◌}
 use borrow.Author.Tests.{not-true, not-false}
 use Rattle.codes.specs.SaysLaws.{passed, failed}
 use Rattle.state_store.specs.Store.{core_of}
-use Rattle.state_store.specs.FinishLaws.{long-state}
 use Rattle.state_store.specs.TokenLaws.{seen-unread, seen-barred, seen-past, seen-told}
 use Rattle.state_store.proofs.tokens.pending_token.Goals as goal
 
 pub returns-then-not-both : goal.returns-then-not-both
 returns-then-not-both c = let a = c.args in seen-unread a.state.now a.res.now a.token (sym c.both.ensures ∙ not-true _ c.if-not-both.true-raw)
-
-pub get_head-requires : goal.get_head-requires
-get_head-requires c =
-    let a = c.args in
-    omega (arith, long-state a.state.now a.res.now (sym c.both.ensures ∙ not-false _ c.if-not-both.false-raw))
 
 pub returns-then-not-consistent : goal.returns-then-not-consistent
 returns-then-not-consistent c =

@@ -1,48 +1,11 @@
--- `tables::kept::copy` meets its contract, a byte at a time. Assumes nothing.
-use mathlib.Core.Path.{◌≡◌, refl, ap, ◌∙◌}
-use Prim.Native.Nat.{ℕ, ◌+◌}
-use lib.ListN.{get_or, length-set}
-use lib.Seq.{sets}
-use Rattle.layout.specs.Bytes.{bytes_at}
-use Rattle.layout.specs.StoreLaws.{copy_more}
-use native.Mathlib.Omega.{arith}
+-- `tables::kept::copy` meets its contract: that part of the page, stored. Assumes nothing.
+use Rattle.std.proofs.Common.{sym, ap, ◌∙◌, arith, ◌≡◌, ℕ, ◌+◌, ◌-◌, take, drop}
+use Rattle.std.proofs.lemmas.List.Edits.{sets}
+use Rattle.layout.specs.BytesLaws.{bytes_at-part}
 use Rattle.tables.proofs.kept.copy.Goals as goal
-
-pub loop-i-init : goal.loop-i-init
-unfolding bytes_at
-loop-i-init c = (omega arith, (refl, refl))
-
-pub loop-i-preserved : goal.loop-i-preserved
-loop-i-preserved c =
-    let a = c.args in
-    let l = c.loop-i in
-    let v = get_or a.page.now (4 + l.i) 0 in
-    (omega arith, (length-set l.s (a.at + l.i) v ∙ l.invariant.1.0, copy_more a.s.now a.page.now a.at 4 l.i l.s l.invariant.1.1))
 
 pub returns : goal.returns
 returns c =
     let a = c.args in
-    let l = c.loop-i in
-    let e : l.i ≡ a.n = omega arith in
-    l.invariant.1.1 ∙ ap (λ (k : ℕ). sets a.s.now a.at (bytes_at 4 k a.page.now)) e
-
-pub overflow_add-s : goal.overflow_add-s
-overflow_add-s c = omega arith
-
-pub bounds-page-i : goal.bounds-page-i
-bounds-page-i c = omega arith
-
-pub overflow_add-s-in-loop-i : goal.overflow_add-s-in-loop-i
-overflow_add-s-in-loop-i c = omega arith
-
-pub bounds-s-at : goal.bounds-s-at
-bounds-s-at c = omega arith
-
-pub overflow_add-i : goal.overflow_add-i
-overflow_add-i c = omega arith
-
-pub loop-i-smaller : goal.loop-i-smaller
-loop-i-smaller c = omega arith
-
-pub shape_of-s : goal.shape_of-s
-shape_of-s c = omega arith
+    let n : 4 + a.n - 4 ≡ a.n = omega arith in
+    c.put_bytes.ensures ∙ ap (sets a.s.now a.at) (ap (λ (k : ℕ). take k (drop 4 a.page.now)) n ∙ sym (bytes_at-part 4 a.n a.page.now c.requires))

@@ -25,7 +25,7 @@ pub copy-requires : goal.copy-requires
 copy-requires c =
     let a = c.args in
     let f = fits-facts a.page.now a.count a.size (sym c.holds.ensures ∙ not-false _ c.if-not-holds.false-raw) in
-    (leb-true _ _ (sym c.has_room.ensures ∙ not-false _ c.if-not-has_room.false-raw), omega (arith, f))
+    omega (arith, f)
 
 pub returns : goal.returns
 returns c =

@@ -4,8 +4,8 @@ use borrow.Author.Tests.{not-true, not-false}
 use Rattle.codes.specs.SaysLaws.{passes, stops}
 use Rattle.trace.proofs.course.done_by.Goals as goal
 
-pub returns-then-not-ok : goal.returns-then-not-ok
-returns-then-not-ok c = stops _ _ _ (sym c.may_free-ok.ensures ∙ not-true _ c.if-not-ok.true-raw) refl
+pub returns-then-not-may_free : goal.returns-then-not-may_free
+returns-then-not-may_free c = stops _ _ _ (sym c.may_free.ensures ∙ not-true _ c.if-not-may_free.true-raw) refl
 
 pub returns : goal.returns
-returns c = passes _ _ _ (sym c.may_free-ok.ensures ∙ not-false _ c.if-not-ok.false-raw) c.freed_moved.ensures
+returns c = passes _ _ _ (sym c.may_free.ensures ∙ not-false _ c.if-not-may_free.false-raw) c.freed_moved.ensures

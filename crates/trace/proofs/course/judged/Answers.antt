@@ -1,13 +1,13 @@
 -- 18 over the whole trace, then 19. Assumes nothing.
-use mathlib.Core.Path.{refl, sym, ◌∙◌}
+use mathlib.Core.Path.{refl}
+use Rattle.std.proofs.lemmas.Result.{err_from_is_err_and}
 use Rattle.trace.specs.CourseLaws.{judges-scanned}
 use Rattle.trace.proofs.course.judged.Goals as goal
 
-pub returns-in-Accepted : goal.returns-in-Accepted
-returns-in-Accepted c = judges-scanned _ _ _ _ (sym c.in-Accepted.is ∙ c.scan_fields-scanned.ensures) c.opened.ensures
+pub returns-in_err-scan_fields : goal.returns-in_err-scan_fields
+returns-in_err-scan_fields c =
+    let p = err_from_is_err_and c.from_residual.result c.from_residual.ensures.1 in
+    rw (p.1, p.2) (judges-scanned _ _ _ _ c.in_err-scan_fields.ensures refl)
 
-pub returns-in-BadTrace : goal.returns-in-BadTrace
-returns-in-BadTrace c = judges-scanned _ _ _ _ (sym c.in-BadTrace.is ∙ c.scan_fields-scanned.ensures) refl
-
-pub returns-in-NotARun : goal.returns-in-NotARun
-returns-in-NotARun c = judges-scanned _ _ _ _ (sym c.in-NotARun.is ∙ c.scan_fields-scanned.ensures) refl
+pub returns : goal.returns
+returns c = judges-scanned _ _ _ _ c.in_ok-scan_fields.ensures c.opened.ensures

@@ -8,33 +8,33 @@ use Rattle.trace.proofs.course.walk.Goals as goal
 pub returns-in_default : goal.returns-in_default
 returns-in_default c =
     let l = c.loop-at in
-    course-bad _ _ _ _ _ l.invariant c.loop-at-test.true _ c.field_at-found.ensures _ c.in_default.is c.rest.ensures
+    course-bad _ _ _ _ _ l.invariant c.loop-at-test.true _ c.field_at.ensures _ c.in_default.is c.rest.ensures
 
 pub overflow_add-result : goal.overflow_add-result
 overflow_add-result c =
-    let h = off-inside _ _ _ _ _ c.loop-at.invariant c.loop-at-test.true _ c.field_at-found.ensures _ c.in-Is.is _ c.moved-m.ensures _ c.in-Off.is in
+    let h = off-inside _ _ _ _ _ c.loop-at.invariant c.loop-at-test.true _ c.field_at.ensures _ c.in-Some.is _ c.moved.ensures _ c.in-Err.is in
     search (rules, h)
 
-pub returns-in-Off : goal.returns-in-Off
-returns-in-Off c =
-    course-off _ _ _ _ _ c.loop-at.invariant c.loop-at-test.true _ c.field_at-found.ensures _ c.in-Is.is _ c.moved-m.ensures _ c.in-Off.is
+pub returns-in-Err : goal.returns-in-Err
+returns-in-Err c =
+    course-off _ _ _ _ _ c.loop-at.invariant c.loop-at-test.true _ c.field_at.ensures _ c.in-Some.is _ c.moved.ensures _ c.in-Err.is
 
 pub overflow_add-at : goal.overflow_add-at
 overflow_add-at c =
-    let k = course-next _ _ _ _ _ c.loop-at.invariant c.loop-at-test.true _ c.field_at-found.ensures _ c.in-Is.is _ c.moved-m.ensures _ _ _ c.in-On.is c.size-at.ensures in
+    let k = course-next _ _ _ _ _ c.loop-at.invariant c.loop-at-test.true _ c.field_at.ensures _ c.in-Some.is _ c.moved.ensures _ _ _ c.in-Ok.is c.size-at.ensures in
     let h = k.inside in
     search (rules, h)
 
 pub loop-at-smaller : goal.loop-at-smaller
 loop-at-smaller c =
-    let k = course-next _ _ _ _ _ c.loop-at.invariant c.loop-at-test.true _ c.field_at-found.ensures _ c.in-Is.is _ c.moved-m.ensures _ _ _ c.in-On.is c.size-at.ensures in
+    let k = course-next _ _ _ _ _ c.loop-at.invariant c.loop-at-test.true _ c.field_at.ensures _ c.in-Some.is _ c.moved.ensures _ _ _ c.in-Ok.is c.size-at.ensures in
     let h = k.inside in
-    let b = size-told _ _ _ c.in-Is.is c.size-at.ensures in
+    let b = size-told _ _ _ c.in-Some.is c.size-at.ensures in
     omega (arith, b, h)
 
 pub loop-at-preserved : goal.loop-at-preserved
 loop-at-preserved c =
-    course-next _ _ _ _ _ c.loop-at.invariant c.loop-at-test.true _ c.field_at-found.ensures _ c.in-Is.is _ c.moved-m.ensures _ _ _ c.in-On.is c.size-at.ensures
+    course-next _ _ _ _ _ c.loop-at.invariant c.loop-at-test.true _ c.field_at.ensures _ c.in-Some.is _ c.moved.ensures _ _ _ c.in-Ok.is c.size-at.ensures
 
 pub returns : goal.returns
 returns c = course-done _ _ _ _ _ c.loop-at.invariant _ c.loop-at-test.false c.rest-2.ensures
@@ -42,5 +42,5 @@ returns c = course-done _ _ _ _ _ c.loop-at.invariant _ c.loop-at-test.false c.r
 pub loop-at-init : goal.loop-at-init
 loop-at-init c = c.requires
 
-pub moved-m-requires : goal.moved-m-requires
-moved-m-requires c = c.loop-at.invariant.kept.ready
+pub moved-requires : goal.moved-requires
+moved-requires c = c.loop-at.invariant.kept.ready

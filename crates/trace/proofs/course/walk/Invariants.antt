@@ -5,7 +5,7 @@ use Rattle.trace.specs.Private.{Course}
 use Rattle.trace.proofs.course.walk.Given as goal
 
 abbrev pub invariant-loop-at : goal.invariant-loop-at
-invariant-loop-at l = Course l.per l.s l.at l.stage l.track
+invariant-loop-at l = Course l.per l.s l.at l.state.stage l.state.track
 
 abbrev pub decreases-loop-at : goal.decreases-loop-at
 decreases-loop-at l = length l.s - l.at

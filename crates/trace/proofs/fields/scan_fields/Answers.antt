@@ -10,13 +10,13 @@ pub loop-at-init : goal.loop-at-init
 loop-at-init c = scans-first _
 
 pub returns-in_default : goal.returns-in_default
-returns-in_default c = scans-bad _ _ _ c.loop-at.invariant c.loop-at-test.true c.field_at-found.ensures c.in_default.is
+returns-in_default c = scans-bad _ _ _ c.loop-at.invariant c.loop-at-test.true c.field_at.ensures c.in_default.is
 
 pub overflow_add-at : goal.overflow_add-at
 overflow_add-at c =
     let a = c.args in
     let at = c.loop-at.at in
-    let k : Scans a.s.now (at + c.size-at.result) = scans-next _ _ _ _ _ c.loop-at.invariant c.loop-at-test.true c.field_at-found.ensures c.in-Is.is c.size-at.ensures in
+    let k : Scans a.s.now (at + c.size-at.result) = scans-next _ _ _ _ _ c.loop-at.invariant c.loop-at-test.true c.field_at.ensures c.in-Some.is c.size-at.ensures in
     let h : at + c.size-at.result ≤ length a.s.now = k.inside in
     search (rules, h)
 
@@ -24,13 +24,13 @@ pub loop-at-smaller : goal.loop-at-smaller
 loop-at-smaller c =
     let a = c.args in
     let at = c.loop-at.at in
-    let k : Scans a.s.now (at + c.size-at.result) = scans-next _ _ _ _ _ c.loop-at.invariant c.loop-at-test.true c.field_at-found.ensures c.in-Is.is c.size-at.ensures in
+    let k : Scans a.s.now (at + c.size-at.result) = scans-next _ _ _ _ _ c.loop-at.invariant c.loop-at-test.true c.field_at.ensures c.in-Some.is c.size-at.ensures in
     let h : at + c.size-at.result ≤ length a.s.now = k.inside in
-    let b : 4 ≤ c.size-at.result = size-told _ _ _ c.in-Is.is c.size-at.ensures in
+    let b : 4 ≤ c.size-at.result = size-told _ _ _ c.in-Some.is c.size-at.ensures in
     omega (arith, b, h)
 
 pub loop-at-preserved : goal.loop-at-preserved
-loop-at-preserved c = scans-next _ _ _ _ _ c.loop-at.invariant c.loop-at-test.true c.field_at-found.ensures c.in-Is.is c.size-at.ensures
+loop-at-preserved c = scans-next _ _ _ _ _ c.loop-at.invariant c.loop-at-test.true c.field_at.ensures c.in-Some.is c.size-at.ensures
 
 pub returns : goal.returns
 returns c = scans-done _ _ c.loop-at.invariant c.loop-at-test.false

@@ -7,13 +7,13 @@ use Rattle.trace.specs.Trace.{heard_then}
 use Rattle.trace.proofs.pen.put_heard.Goals as goal
 
 pub overflow_cast-f : goal.overflow_cast-f
-overflow_cast-f c = let h = heard-fits _ _ _ c.in-Freed.is c.requires.0 in search (rules, h)
+overflow_cast-f c = let h = heard-fits _ _ _ c.in-Some.is c.requires.0 in search (rules, h)
 
 pub put-requires : goal.put-requires
-put-requires c = room-one _ _ _ _ (ap (λ x. heard_then x []) c.in-Freed.is) c.requires.1
+put-requires c = room-one _ _ _ _ (ap (λ x. heard_then x []) c.in-Some.is) c.requires.1
 
-pub returns-in-Silent : goal.returns-in-Silent
-returns-in-Silent c = writes-none _ _ _ (ap (λ x. heard_then x []) c.in-Silent.is)
+pub returns-in-None : goal.returns-in-None
+returns-in-None c = writes-none _ _ _ (ap (λ x. heard_then x []) c.in-None.is)
 
-pub returns-in-Freed : goal.returns-in-Freed
-returns-in-Freed c = writes_one _ _ _ _ _ _ (ap (λ x. heard_then x []) c.in-Freed.is) c.put.ensures
+pub returns-in-Some : goal.returns-in-Some
+returns-in-Some c = writes_one _ _ _ _ _ _ (ap (λ x. heard_then x []) c.in-Some.is) c.put.ensures

@@ -7,19 +7,19 @@ use Rattle.trace.specs.Trace.{sent_then}
 use Rattle.trace.proofs.pen.put_sent.Goals as goal
 
 pub overflow_cast-f : goal.overflow_cast-f
-overflow_cast-f c = let h = (sent-fits _ _ _ _ c.in-Period.is c.requires.0).0 in search (rules, h)
+overflow_cast-f c = let h = (sent-fits _ _ _ _ c.in-Some.is c.requires.0).0 in search (rules, h)
 
-pub overflow_cast-f-in-Period : goal.overflow_cast-f-in-Period
-overflow_cast-f-in-Period c = let h = (sent-fits _ _ _ _ c.in-Period.is c.requires.0).1 in search (rules, h)
+pub overflow_cast-f-in-Some : goal.overflow_cast-f-in-Some
+overflow_cast-f-in-Some c = let h = (sent-fits _ _ _ _ c.in-Some.is c.requires.0).1 in search (rules, h)
 
-pub overflow_cast-f-in-Period-2 : goal.overflow_cast-f-in-Period-2
-overflow_cast-f-in-Period-2 c = let h = (sent-fits _ _ _ _ c.in-Period.is c.requires.0).2 in search (rules, h)
+pub overflow_cast-f-in-Some-2 : goal.overflow_cast-f-in-Some-2
+overflow_cast-f-in-Some-2 c = let h = (sent-fits _ _ _ _ c.in-Some.is c.requires.0).2 in search (rules, h)
 
 pub put-requires : goal.put-requires
-put-requires c = room-one _ _ _ _ (ap (λ x. sent_then x []) c.in-Period.is) c.requires.1
+put-requires c = room-one _ _ _ _ (ap (λ x. sent_then x []) c.in-Some.is) c.requires.1
 
-pub returns-in-Nothing : goal.returns-in-Nothing
-returns-in-Nothing c = writes-none _ _ _ (ap (λ x. sent_then x []) c.in-Nothing.is)
+pub returns-in-None : goal.returns-in-None
+returns-in-None c = writes-none _ _ _ (ap (λ x. sent_then x []) c.in-None.is)
 
-pub returns-in-Period : goal.returns-in-Period
-returns-in-Period c = writes_one _ _ _ _ _ _ (ap (λ x. sent_then x []) c.in-Period.is) c.put.ensures
+pub returns-in-Some : goal.returns-in-Some
+returns-in-Some c = writes_one _ _ _ _ _ _ (ap (λ x. sent_then x []) c.in-Some.is) c.put.ensures

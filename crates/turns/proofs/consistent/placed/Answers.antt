@@ -1,35 +1,32 @@
--- Each `return` refutes one fact of the test; the last fact is the result. Assumes nothing.
-use borrow.Author.Rules.{rules}
-use Prim.Native.Nat.{◌<◌}
+-- The last test decides once the others passed; each of them refutes the whole where it fails. Assumes nothing.
 use native.Mathlib.Omega.{arith}
-use Rattle.turns.specs.ConsistentLaws.{refuted, mode-facts, mode-true, mode_small, placed-facts, few, placed-last}
-use Rattle.turns.specs.CallLaws.{passed, failed}
-use mathlib.Core.Path.{sym, ◌∙◌}
+use borrow.Author.Tests.{ltb-true, leb-true, leb-false}
+use Rattle.turns.specs.ConsistentLaws.{refuted, mode-facts, mode-true, placed-facts, few, placed-last}
+use mathlib.Core.Logic.{inl, inr}
 use mathlib.Core.Bool.{false≢true}
-use native.Mathlib.Nat.{div-le_self}
+use mathlib.Core.Path.{sym, ◌∙◌, refl}
+use Prim.Native.Nat.{◌<◌}
 use Rattle.turns.proofs.consistent.placed.Goals as goal
+use Rattle.turns.proofs.consistent.placed.Goals.{then-mode_ok, else-mode_ok, then-t-lt32, else-t-lt32}
 
-pub returns-then-not-mode : goal.returns-then-not-mode
-returns-then-not-mode c = refuted _ (λ e. false≢true (sym (failed c.mode_ok-mode.ensures c.if-not-mode.true-raw) ∙ mode-true _ (placed-facts _ e).mode))
+pub returns-then-t : goal.returns-then-t
+returns-then-t c =
+    let t = c.args.t in
+    elim c.if-t-lt32.branch [
+      | then-t-lt32 w ↦ placed-last t _ (mode-facts _ (sym c.mode_ok.ensures ∙ w.if-t-lt32.true.0)) w.if-t-lt32.true.1 (leb-true _ _ (sym w.value-is ∙ c.if-t.true)) refl
+      | else-t-lt32 w ↦ elim c.if-mode_ok.branch [
+        | then-mode_ok v ↦ let l : t.tail < 32 = ltb-true t.tail 32 (sym v.t-4-is ∙ sym w.value-is ∙ c.if-t.true) in elim w.if-t-lt32.either [ inl p ↦ absurd (omega arith) | inr q ↦ absurd cc ]
+        | else-mode_ok v ↦ absurd cc
+      ]
+    ]
 
-pub returns-then-t-ge32 : goal.returns-then-t-ge32
-returns-then-t-ge32 c = refuted _ (λ e. let p = placed-facts _ e in omega arith)
-
-pub returns-then-t-inflight : goal.returns-then-t-inflight
-returns-then-t-inflight c = refuted _ (λ e. let p = few _ (placed-facts _ e) in omega (arith, p))
-
-pub returns : goal.returns
-returns c =
-    placed-last _ _ (mode-facts _ (passed c.mode_ok-mode.ensures c.if-not-mode.false-raw)) (search rules) (search rules) (search rules)
-
-pub nonzero_div-t : goal.nonzero_div-t
-nonzero_div-t c =
-    let a = c.args in
-    let d : 0 < a.t.descriptors = (mode_small a.t.descriptors (mode-facts a.t.descriptors (passed c.mode_ok-mode.ensures c.if-not-mode.false-raw))).0 in
-    omega arith
-
-pub overflow_add-result : goal.overflow_add-result
-overflow_add-result c =
-    let a = c.args in
-    let most = div-le_self 32 a.t.descriptors in
-    omega (arith, most)
+pub returns-else-t : goal.returns-else-t
+returns-else-t c =
+    let t = c.args.t in
+    c.if-t.false ∙ elim c.if-t-lt32.branch [
+      | then-t-lt32 w ↦ refuted _ (λ e. let p = few _ (placed-facts t e) in let m = leb-false _ _ (sym w.value-is ∙ c.if-t.false) in omega (arith, p, m))
+      | else-t-lt32 w ↦ elim w.if-t-lt32.either [
+        | inl p ↦ refuted _ (λ e. let q = placed-facts t e in omega (arith, q))
+        | inr q ↦ refuted _ (λ e. false≢true (sym q ∙ c.mode_ok.ensures ∙ mode-true _ (placed-facts t e).mode))
+      ]
+    ]

@@ -9,8 +9,8 @@ use Rattle.turns.proofs.rules.judge.Goals as goal
 pub returns-then-not-oldest : goal.returns-then-not-oldest
 returns-then-not-oldest c = judges-wrong _ _ _ (search (rules, failed))
 
-pub returns-in-Fine : goal.returns-in-Fine
-returns-in-Fine c = sym (ap verdict_of c.in-Fine.is) ∙ judges _ _ _ (passed c.is_oldest-oldest.ensures c.if-not-oldest.false-raw)
+pub returns-in-Ok : goal.returns-in-Ok
+returns-in-Ok c = sym (ap verdict_of c.in-Ok.is) ∙ judges _ _ _ (passed c.is_oldest-oldest.ensures c.if-not-oldest.false-raw)
 
-pub returns-in-Fails : goal.returns-in-Fails
-returns-in-Fails c = sym (ap verdict_of c.in-Fails.is) ∙ judges _ _ _ (passed c.is_oldest-oldest.ensures c.if-not-oldest.false-raw)
+pub returns-in-Err : goal.returns-in-Err
+returns-in-Err c = sym (ap verdict_of c.in-Err.is) ∙ judges _ _ _ (passed c.is_oldest-oldest.ensures c.if-not-oldest.false-raw)

@@ -1,5 +1,6 @@
 -- `wav::chunks::walk` meets its contract: a turn of the loop passes a chunk; the walk ends with the bytes, or at a chunk that goes past them. Assumes nothing.
-use mathlib.Core.Path.{◌≡◌, refl}
+use mathlib.Core.Path.{◌≡◌, refl, ap, ◌∙◌}
+use Rattle.std.specs.Option.{option_or}
 use Prim.Native.Nat.{◌-◌, ◌+◌, ◌<◌}
 use native.Mathlib.Omega.{arith}
 use Rattle.layout.specs.Bytes.{num_at}
@@ -29,9 +30,9 @@ loop-at-preserved c =
     let a = c.args in
     let s = a.s.now in (
       omega arith,
-      turns-on s (chunks_at s 12 0 (a.end - 12)) c.loop-at.at a.end _ c.loop-at.fmt c.loop-at.frames c.first-fmt.result c.first-frames.result
-          c.get_u32-size.result c.get_u32-tag.result (omega arith) c.get_u32-size.ensures c.get_u32-tag.ensures refl (omega (arith, c.if-left-takes.false))
-          c.first-fmt.ensures c.first-frames.ensures c.loop-at.invariant.1,
+      turns-on s (chunks_at s 12 0 (a.end - 12)) c.loop-at.at a.end _ c.get_u32-size.result c.get_u32-tag.result c.loop-at.fmt c.loop-at.frames _ _
+          (omega arith) c.get_u32-size.ensures c.get_u32-tag.ensures refl (omega (arith, c.if-left-takes.false))
+          (c.or-fmt.ensures ∙ ap (option_or c.loop-at.fmt) c.then_some.ensures) (c.or-frames.ensures ∙ ap (option_or c.loop-at.frames) c.then_some-in-loop-at.ensures) c.loop-at.invariant.1,
     )
 
 pub returns : goal.returns

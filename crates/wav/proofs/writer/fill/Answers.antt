@@ -19,14 +19,14 @@ pub returns-in_default : goal.returns-in_default
 returns-in_default c =
     let a = c.args in
     let fits = (done a.channels a.format a.rate (length a.frames.now) (length a.out.now) (44 + padded (length a.frames.now)) (sym c.requires)).1 in
-    let n = not-held a.format (sym (ap says_format c.in_default.is) ∙ c.held.ensures) in
+    let n = not-held a.format _ (sym (ap says_format c.in_default.is) ∙ c.held.ensures) in
     absurd (never (sym n ∙ fits.format))
 
-pub returns-in_default-from_number : goal.returns-in_default-from_number
-returns-in_default-from_number c =
+pub returns-in_default-try_from : goal.returns-in_default-try_from
+returns-in_default-try_from c =
     let a = c.args in
     let fits = (done a.channels a.format a.rate (length a.frames.now) (length a.out.now) (44 + padded (length a.frames.now)) (sym c.requires)).1 in
-    let n = ltb-false a.rate 14 (no_number 14 a.rate (sym (ap says_rate c.in_default-from_number.is) ∙ c.from_number.ensures)) in
+    let n = ltb-false a.rate 14 (no_number 14 a.rate _ (sym (ap says_rate c.in_default-try_from.is) ∙ c.try_from.ensures)) in
     absurd (omega (arith, n, fits.rate))
 
 -- what was judged before: the contract's `requires`
@@ -39,8 +39,8 @@ overflow_cast-len c =
 
 pub put_header-requires : goal.put_header-requires
 put_header-requires c =
-    let r = c.in-Is-from_number.r in
-    let f = c.in-Is.f in
+    let r = c.in-Ok-try_from.r in
+    let f = c.in-Ok.f in
     let a = c.args in
     let fits = (done a.channels a.format a.rate (length a.frames.now) (length a.out.now) (44 + padded (length a.frames.now)) (sym c.requires)).1 in
     let e : c.storage_bits.result ≡ storage_bits f = c.storage_bits.ensures in
@@ -60,8 +60,8 @@ unfolding header_of
 returns c =
     let a = c.args in
     let fits = (done a.channels a.format a.rate (length a.frames.now) (length a.out.now) (44 + padded (length a.frames.now)) (sym c.requires)).1 in
-    let q = is_number 14 a.rate (rate_number c.in-Is-from_number.r) (sym (ap says_rate c.in-Is-from_number.is) ∙ c.from_number.ensures) in
-    let t = is_held a.format (format_number c.in-Is.f) (sym (ap says_format c.in-Is.is) ∙ c.held.ensures) in
+    let q = is_number 14 a.rate (rate_number c.in-Ok-try_from.r) (sym (ap says_rate c.in-Ok-try_from.is) ∙ c.try_from.ensures) in
+    let t = is_held a.format (format_number c.in-Ok.f) (sym (ap says_format c.in-Ok.is) ∙ c.held.ensures) in
     let hz : c.hz.result ≡ get_or hz_table a.rate 0 = c.hz.ensures ∙ ap (λ (n : ℕ). get_or hz_table n 0) q.1 in
     let whole : c.block-whole.result ≡ block_of a.channels a.format = c.block-whole.ensures ∙ ap (block_of a.channels) t.1 in
     let bits : c.storage_bits.result ≡ get_or storage_table a.format 0 = c.storage_bits.ensures ∙ ap (λ (n : ℕ). get_or storage_table n 0) t.1 in

@@ -1,33 +1,21 @@
 -- `wav::writer::write` meets its contract: by what was judged. Assumes nothing.
-use mathlib.Core.Path.{◌≡◌, sym, ap, ◌∙◌}
+use mathlib.Core.Path.{sym, ap, ◌∙◌}
+use Prim.Native.Nat.{ℕ}
+use Rattle.std.specs.Prelude.{Result, Ok}
 use lib.ListN.{length}
-use Rattle.wav.specs.Wave.{wrote_of, written_by, file_of}
+use Rattle.wav.specs.Wave.{written_by, file_of}
 use Rattle.wav.specs.WriteLaws.{done}
-use Rattle.wav.specs.Types.{WroteWave, Done, BadLength}
-use Rattle.wav.specs.declared.writer.WroteWave.TheVariants.{BadSound}
+use Rattle.wav.specs.Types.{WriteError}
 use Rattle.wav.proofs.writer.write.Goals as goal
 
 pub fill-requires : goal.fill-requires
 fill-requires c =
     let a = c.args in
-    let e : Done c.in-Done.n ≡ wrote_of a.channels a.format a.rate (length a.frames.now) (length a.out.now) = sym c.in-Done.is ∙ c.judge-said.ensures in
-    sym e ∙ ap Done (done a.channels a.format a.rate (length a.frames.now) (length a.out.now) c.in-Done.n e).0
+    let n = (done a.channels a.format a.rate (length a.frames.now) (length a.out.now) c.in_ok-n.n c.in_ok-n.ensures).0 in
+    sym c.in_ok-n.ensures ∙ ap Ok n
 
-pub returns-in-Done : goal.returns-in-Done
-returns-in-Done c =
+pub returns-clause-out_after : goal.returns-clause-out_after
+returns-clause-out_after c =
     let a = c.args in
-    let e : Done c.in-Done.n ≡ wrote_of a.channels a.format a.rate (length a.frames.now) (length a.out.now) = sym c.in-Done.is ∙ c.judge-said.ensures in
-    let n = (done a.channels a.format a.rate (length a.frames.now) (length a.out.now) c.in-Done.n e).0 in
-    record { value = e; out_after = c.fill.ensures ∙ ap (λ (x : WroteWave). written_by x (file_of a.channels a.format a.rate a.frames.now) a.out.now) (sym (ap Done n) ∙ e) }
-
-pub returns-in-BadSound : goal.returns-in-BadSound
-returns-in-BadSound c =
-    let a = c.args in
-    let e : BadSound ≡ wrote_of a.channels a.format a.rate (length a.frames.now) (length a.out.now) = sym c.in-BadSound.is ∙ c.judge-said.ensures in
-    record { value = e; out_after = ap (λ (x : WroteWave). written_by x (file_of a.channels a.format a.rate a.frames.now) a.out.now) e }
-
-pub returns-in-BadLength : goal.returns-in-BadLength
-returns-in-BadLength c =
-    let a = c.args in
-    let e : BadLength ≡ wrote_of a.channels a.format a.rate (length a.frames.now) (length a.out.now) = sym c.in-BadLength.is ∙ c.judge-said.ensures in
-    record { value = e; out_after = ap (λ (x : WroteWave). written_by x (file_of a.channels a.format a.rate a.frames.now) a.out.now) e }
+    let n = (done a.channels a.format a.rate (length a.frames.now) (length a.out.now) c.in_ok-n.n c.in_ok-n.ensures).0 in
+    c.fill.ensures ∙ ap (λ (x : Result ℕ WriteError). written_by x (file_of a.channels a.format a.rate a.frames.now) a.out.now) (sym (ap Ok n) ∙ c.in_ok-n.ensures)

@@ -1,28 +1,24 @@
--- `codes::rates::PcmRate::from_hz` meets its contract: what was passed in the table was not the rate. Assumes nothing.
-use mathlib.Core.Path.{sym, ap, ◌∙◌}
-use Prim.Native.Nat.{ℕ, ◌≤◌}
-use native.Mathlib.Omega.{arith}
-use borrow.Author.Rules.{rules}
-use borrow.Author.Tests.{le-ltb}
-use Rattle.codes.specs.Codes.{number_says}
+-- `codes::rates::PcmRate::from_hz` meets its contract: the first place of the number in the table. Assumes nothing.
+use Rattle.std.proofs.Common.{rules, tests, ◌≡◌, ◌∙◌, sym, ap, ℕ, eqb, Some, None}
+use Rattle.std.specs.List.{position}
+use Rattle.std.proofs.lemmas.Iterator.{YieldsList-from_slice}
+use Rattle.std.proofs.lemmas.Iterator.Search.{position_from_yields_List}
 use Rattle.codes.specs.SaysLaws.{skips}
-use Rattle.codes.specs.Rates.{hz_table, place_of}
-use Rattle.codes.specs.RatesLaws.{found_here, goes-past}
+use Rattle.codes.specs.Codes.{number_says}
+use Rattle.codes.specs.Rates.{hz_table}
+use Rattle.codes.specs.RatesLaws.{place-found, place-missed}
 use Rattle.codes.proofs.rates.PcmRate.from_hz.Goals as goal
 
-pub returns-then-at-hz : goal.returns-then-at-hz
-returns-then-at-hz c =
-    let l = c.loop-i in
+pub returns-in-Some : goal.returns-in-Some
+returns-in-Some c =
     let hz = c.args.hz in
-    c.from_number.ensures ∙ sym (ap (λ (n : ℕ). number_says 14 n n) (found_here hz hz_table l.i l.invariant.1 c.loop-i-test.true c.if-at-hz.true))
+    let e : Some c.in-Some.at ≡ position (λ y. eqb y hz) hz_table =
+    position_from_yields_List (λ y. eqb y hz) _ _ _ c.in-Some.ensures.ran (YieldsList-from_slice hz_table c.iter.ensures.rest) (λ x b q k. search (rules, tests)) in
+    c.try_from.ensures ∙ sym (ap (λ (n : ℕ). number_says 14 n n) (place-found hz hz_table c.in-Some.at (sym e)))
 
-pub loop-i-preserved : goal.loop-i-preserved
-loop-i-preserved c =
-    let l = c.loop-i in
-    (search rules, goes-past c.args.hz hz_table l.i l.invariant.1 c.loop-i-test.true c.if-at-hz.false)
-
-pub returns : goal.returns
-returns c =
+pub returns-in-None : goal.returns-in-None
+returns-in-None c =
     let hz = c.args.hz in
-    let h : 14 ≤ place_of hz hz_table = omega arith in
-    sym (skips _ _ _ (le-ltb (place_of hz hz_table) 14 h))
+    let e : None ≡ position (λ y. eqb y hz) hz_table =
+    position_from_yields_List (λ y. eqb y hz) _ _ _ c.in-None.ensures.ran (YieldsList-from_slice hz_table c.iter.ensures.rest) (λ x b q k. search (rules, tests)) in
+    sym (skips _ _ _ (place-missed hz hz_table (sym e)))

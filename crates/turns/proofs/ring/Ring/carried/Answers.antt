@@ -9,8 +9,8 @@ use Rattle.turns.proofs.ring.Ring.carried.Goals as goal
 pub returns-then-slot-ge32 : goal.returns-then-slot-ge32
 returns-then-slot-ge32 c = stops _ _ _ (search (rules, le-ltb)) refl
 
-pub returns-then-not-sound : goal.returns-then-not-sound
-returns-then-not-sound c = passes _ _ _ (search (rules, lt-ltb)) (stops _ _ _ (search (rules, failed)) refl)
+pub returns-then-not-is_consistent : goal.returns-then-not-is_consistent
+returns-then-not-is_consistent c = passes _ _ _ (search (rules, lt-ltb)) (stops _ _ _ (search (rules, failed)) refl)
 
 pub returns : goal.returns
 returns c = passes _ _ _ (search (rules, lt-ltb)) (passes _ _ _ (search (rules, passed)) refl)

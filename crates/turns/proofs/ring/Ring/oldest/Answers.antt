@@ -6,8 +6,8 @@ use Rattle.codes.specs.SaysLaws.{passes, stops}
 use Rattle.turns.specs.CallLaws.{passed, failed}
 use Rattle.turns.proofs.ring.Ring.oldest.Goals as goal
 
-pub returns-then-not-sound : goal.returns-then-not-sound
-returns-then-not-sound c = stops _ _ _ (search (rules, failed)) refl
+pub returns-then-not-is_consistent : goal.returns-then-not-is_consistent
+returns-then-not-is_consistent c = stops _ _ _ (search (rules, failed)) refl
 
 pub returns-then-t-eq0 : goal.returns-then-t-eq0
 returns-then-t-eq0 c = passes _ _ _ (search (rules, passed)) (rw (eq-eqb _ _ c.if-t-eq0.true))

@@ -1,8 +1,0 @@
--- `layout::within_u16` meets its contract: 2 bytes are 1 and 1. Assumes nothing.
-use Rattle.layout.specs.BytesLaws.{num_at-split}
-use Rattle.layout.proofs.within_u16.Goals as goal
-
-pub returns : goal.returns
-returns c =
-    let a = c.args in
-    cc (num_at-split 1 1 a.at a.s.now)

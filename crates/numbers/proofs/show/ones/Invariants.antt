@@ -1,9 +1,0 @@
--- `numbers::show::ones` ends, and its count stays within the slice. Assumes nothing.
-use Rattle.std.specs.Prelude.{◌-◌, ◌≤◌, length}
-use Rattle.numbers.proofs.show.ones.Given as goal
-
-abbrev pub invariant-loop-i : goal.invariant-loop-i
-invariant-loop-i l = (l.n ≤ l.i) × (l.i ≤ length l.s)
-
-abbrev pub decreases-loop-i : goal.decreases-loop-i
-decreases-loop-i l = length l.s - l.i

@@ -1,8 +1,0 @@
--- `state_store::tokens::word_of` meets its contract: case by case. Assumes nothing.
-use Rattle.state_store.proofs.tokens.word_of.Goals as goal
-
-pub returns-in-Done : goal.returns-in-Done
-returns-in-Done c = rw c.in-Done.is
-
-pub returns-in-Refused : goal.returns-in-Refused
-returns-in-Refused c = rw c.in-Refused.is c.word.ensures

@@ -1,9 +1,0 @@
--- `worked::show::ids` is safe and ends. Assumes nothing.
-use Rattle.std.specs.Prelude.{◌-◌, ◌≤◌}
-use Rattle.worked.proofs.show.ids.Given as goal
-
-abbrev pub invariant-loop-i : goal.invariant-loop-i
-invariant-loop-i g l = l.i ≤ l.count
-
-abbrev pub decreases-loop-i : goal.decreases-loop-i
-decreases-loop-i g l = l.count - l.i
