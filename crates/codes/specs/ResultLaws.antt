@@ -49,10 +49,11 @@ un-refusal refusal.BadCapture = refl
 
 -- ---- UNIQUENESS of a call that may be refused: `back` leads from the values of Ok to what was returned
 
-un_result : {A : Type 0} → (List ℕ → A) → Says → Result A Refusal
+-- number 0 is what was returned, made of the values; any other is the refusal
+pub un_result : {A : Type 0} → (List ℕ → A) → Says → Result A Refusal
 un_result back s = pick (eqb s.number 0) (Ok (back s.values)) (Err (un_refusal s))
 
-result-back : {A : Type 0} (values : A → List ℕ) (back : List ℕ → A) → ((a : A) → back (values a) ≡ a) → (x : Result A Refusal) → un_result back (says_result values x) ≡ x
+pub result-back : {A : Type 0} (values : A → List ℕ) (back : List ℕ → A) → ((a : A) → back (values a) ≡ a) → (x : Result A Refusal) → un_result back (says_result values x) ≡ x
 unfolding un_result
 result-back values back h (Ok a) = ap Ok (h a)
 result-back values back h (Err r) =

@@ -23,5 +23,9 @@ ok-is (Ok c) code e = ap (λ (n : ℕ). eqb n 0x8000) (value-by (among code stat
 ok-is (Err u) code e = sym (none-by (eqb code 0x8000) (among code (0x8001 ∷ 0x8002 ∷ 0x8003 ∷ [])) code u.word e)
 
 -- the status is ok where the header's word is
-pub header : (found word : ℕ) {b : Bool} → found ≡ word → b ≡ eqb found 0x8000 → b ≡ eqb word 0x8000
-header found word w i = i ∙ ap (λ (n : ℕ). eqb n 0x8000) w
+pub header-word : (found word : ℕ) {b : Bool} → found ≡ word → b ≡ eqb found 0x8000 → b ≡ eqb word 0x8000
+header-word found word w i = i ∙ ap (λ (n : ℕ). eqb n 0x8000) w
+
+-- the status that was found is ok where the header's word is
+pub header : (f : Result StatusCode UnknownStatus) (found word : ℕ) {b : Bool} → says_status f ≡ status_says found → found ≡ word → b ≡ is_ok f → b ≡ eqb word 0x8000
+header f found word e w i = header-word found word w (i ∙ ok-is f found e)

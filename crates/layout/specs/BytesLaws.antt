@@ -69,7 +69,15 @@ bytes_at-in o (suc n) m a s h =
     λ i. (get_or-take m (drop a s) o 0 (omega arith) ∙ get_or-drop a s o 0) i
     ∷ (bytes_at-in (suc o) n m a s (omega arith) ∙ ap (λ (k : ℕ). bytes_at k n s) (add-suc a o)) i
 
-bytes_at-zeros : (o n : ℕ) (s : List ℕ) → length s ≤ o → bytes_at o n s ≡ replicate n 0
+-- bytes in what is left from a place on are the slice's own
+pub bytes_at-drop : (k n a : ℕ) (s : List ℕ) → bytes_at k n (drop a s) ≡ bytes_at (a + k) n s
+unfolding bytes_at
+bytes_at-drop k zero a s = refl
+bytes_at-drop k (suc n) a s =
+    λ i. get_or-drop a s k 0 i
+    ∷ (bytes_at-drop (suc k) n a s ∙ ap (λ (z : ℕ). bytes_at z n s) (add-suc a k)) i
+
+pub bytes_at-zeros : (o n : ℕ) (s : List ℕ) → length s ≤ o → bytes_at o n s ≡ replicate n 0
 unfolding bytes_at
 bytes_at-zeros o zero s h = refl
 bytes_at-zeros o (suc n) s h = λ i. get_or-eq_default s 0 h i ∷ bytes_at-zeros (suc o) n s (omega arith) i

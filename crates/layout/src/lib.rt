@@ -5,7 +5,7 @@
 // access to memory, and only a number that reaches past the end goes byte by byte.
 #![tactic(auto)]
 
-ghost use Rattle.std.specs.Prelude.{◌≡◌, take, drop};
+ghost use Rattle.std.specs.Prelude.{◌≡◌, ◌≤◌, ◌+◌, length, take, drop};
 ghost use Rattle.std.proofs.lemmas.List.Edits.{sets};
 ghost use Rattle.layout.specs.Bytes.{le, un, bytes_at, num_at};
 
@@ -41,24 +41,31 @@ pub fn u64_bytes(v: u64) -> [u8; 8]
 
 // ---- any place; a width stands in the name, as the layout at the call has it
 
-// What stands in a slice from a place on; past its end there is nothing.
-fn rest_of(s: &[u8], at: usize) -> &[u8]
-    ensures { result.now ≡ drop at s.now }
+// The bytes of a slice; those past its end are 0. A byte at a time: a copy would call the host's `memcpy`.
+#[cold]
+#[inline(never)]
+fn cut_bytes<const N: usize>(s: &[u8]) -> [u8; N]
+    ensures { result ≡ bytes_at 0 N s.now }
 {
-    s.get(at..).unwrap_or(&[])
+    let mut bytes = [0u8; N];
+    for i in 0..N {
+        bytes[i] = get_u8(s, i);
+    }
+    bytes
 }
 
 // The bytes from a place on; those past the end are 0.
 fn get_bytes<const N: usize>(s: &[u8], at: usize) -> [u8; N]
     ensures { result ≡ bytes_at at N s.now }
 {
-    let rest = rest_of(s, at);
+    if s.len() <= at {
+        return [0u8; N];
+    }
+    let rest = &s[at..];
     if let Some(whole) = rest.first_chunk() {
         return *whole;
     }
-    let mut bytes = [0u8; N];
-    bytes[..rest.len()].copy_from_slice(rest);
-    bytes
+    cut_bytes(rest)
 }
 
 // The byte at a place.
@@ -100,25 +107,63 @@ pub fn put_u8(out: &mut [u8], at: usize, v: u8)
     }
 }
 
+// A whole slice within another, from a place on. A byte at a time: a copy would call the host's `memmove`.
+fn copy(out: &mut [u8], at: usize, from: &[u8])
+    requires { at + length from.now ≤ length out.old }
+    ensures { out.new ≡ sets out.old at from.now }
+{
+    for i in 0..from.len() {
+        out[at + i] = from[i];
+    }
+}
+
+// A number's bytes that reach past the end, stored as far as it goes.
+#[cold]
+#[inline(never)]
+fn put_cut(out: &mut [u8], at: usize, bytes: &[u8])
+    requires { (at ≤ length out.old) × (length bytes.now ≤ 8) }
+    ensures { out.new ≡ sets out.old at bytes.now }
+{
+    for i in 0..bytes.len() {
+        put_u8(out, at + i, bytes[i]);
+    }
+}
+
+// A number's bytes stored from a place on; those past the end are not.
+fn put_number(out: &mut [u8], at: usize, bytes: &[u8])
+    requires { length bytes.now ≤ 8 }
+    ensures { out.new ≡ sets out.old at bytes.now }
+{
+    let n = out.len();
+    if n <= at {
+        return;
+    }
+    if bytes.len() <= n - at {
+        copy(out, at, bytes);
+        return;
+    }
+    put_cut(out, at, bytes);
+}
+
 // A number stored in the 2 bytes at a place.
 pub fn put_u16(out: &mut [u8], at: usize, v: u16)
     ensures { out.new ≡ sets out.old at (le 2 v) }
 {
-    put_bytes(out, at, &u16::to_le_bytes(v));
+    put_number(out, at, &u16::to_le_bytes(v));
 }
 
 // A number stored in the 4 bytes at a place.
 pub fn put_u32(out: &mut [u8], at: usize, v: u32)
     ensures { out.new ≡ sets out.old at (le 4 v) }
 {
-    put_bytes(out, at, &u32_bytes(v));
+    put_number(out, at, &u32_bytes(v));
 }
 
 // A number stored in the 8 bytes at a place.
 pub fn put_u64(out: &mut [u8], at: usize, v: u64)
     ensures { out.new ≡ sets out.old at (le 8 v) }
 {
-    put_bytes(out, at, &u64_bytes(v));
+    put_number(out, at, &u64_bytes(v));
 }
 
 // A whole slice, stored from a place on; bytes that reach past the end are not.
@@ -129,12 +174,12 @@ pub fn put_bytes(out: &mut [u8], at: usize, from: &[u8])
     if n <= at {
         return;
     }
-    // one test of both lengths here, and no `min`: the length copied is then that of `from`, which a number's width fixes
-    if from.len() <= n - at {
-        out[at..at + from.len()].copy_from_slice(from);
+    let room = n - at;
+    if from.len() <= room {
+        copy(out, at, from);
         return;
     }
-    out[at..].copy_from_slice(&from[..n - at]);
+    copy(out, at, &from[..room]);
 }
 
 // What there is of len bytes of a slice from an offset on.

@@ -43,5 +43,5 @@ pub(crate) fn copy(to: &mut [u8], at: usize, from: &[u8], start: usize, n: usize
     requires { (at + n ≤ length to.old) × (start + n ≤ length from.now) }
     ensures { to.new ≡ sets to.old at (bytes_at start n from.now) }
 {
-    to[at..at + n].copy_from_slice(&from[start..start + n]);
+    layout::put_bytes(to, at, &from[start..start + n]);
 }

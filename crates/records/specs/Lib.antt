@@ -8,6 +8,7 @@ pub mod Config
 pub mod Versions
 -- laws
 pub mod SliceLaws
+pub mod BackLaws
 pub mod RoundLaws
 pub mod RowLaws
 pub mod PositionLaws

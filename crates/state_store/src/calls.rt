@@ -72,6 +72,7 @@ fn change_core(state: &mut [u8], whole: bool, core: Core)
 }
 
 // The result is put first: it lists the table that the state had.
+#[inline(always)]
 fn finish(
     state: &mut [u8],
     whole: bool,

@@ -1,12 +1,10 @@
 -- What the private functions take and promise, where the public definitions have no name for it.
 -- Assumes nothing.
-use Rattle.std.specs.Prelude.{List, [], ◌≡◌, ℕ, ◌+◌, ◌*◌, ◌≤◌, ◌<◌, length, Some, None, zero, suc, Option, Ok}
+use Rattle.std.specs.Prelude.{List, [], ◌≡◌, ℕ, ◌+◌, ◌*◌, ◌≤◌, ◌<◌, length, Some, None, Ok}
 use Rattle.trace.specs.Judge.{walk_of, judged_by}
 use Rattle.trace.specs.Fields.{fields_from}
 use Rattle.trace.specs.Trace.{sent_then, heard_then, said_then}
 use Rattle.trace.specs.Types.{Track, Field, Stage, Judgement, Sent, Heard, Said, TraceError, BadTrace, NotARun}
-use Rattle.layout.specs.Bytes.{num_at}
-use Rattle.trace.specs.declared.field.Field.TheVariants as field
 
 -- a track that the judge keeps: slots in line, frames under 2^32 bytes
 pub record Ready (t : Track) : Type 0 where
@@ -16,14 +14,6 @@ pub record Ready (t : Track) : Type 0 where
   pub tail-in : t.tail < 32
   pub within : t.next ≤ t.total
   pub short : t.total < 4294967296
-
--- what the contents behind a tag say, whatever the length says
-abbrev pub contents_at : ℕ → ℕ → List ℕ → Option Field
-contents_at zero o s = Some (field.Start (num_at (o + 3) 4 s) (num_at (o + 7) 4 s) (num_at (o + 11) 4 s))
-contents_at (suc zero) o s = Some (field.Submitted (num_at (o + 3) 1 s) (num_at (o + 4) 4 s) (num_at (o + 8) 4 s))
-contents_at (suc (suc zero)) o s = Some (field.Completed (num_at (o + 3) 1 s) (num_at (o + 4) 4 s))
-contents_at (suc (suc (suc zero))) o s = Some (field.End (num_at (o + 3) 1 s))
-contents_at (suc (suc (suc (suc n)))) o s = None
 
 -- the offset that a refusal tells
 abbrev pub error_at : TraceError → ℕ

@@ -6,9 +6,7 @@ use Rattle.std.proofs.Common.{sym, ap, ◌∙◌, arith, le-leb, leb-true, leb-f
 use Rattle.layout.specs.Bytes.{num_at}
 use Rattle.codes.specs.Says.{guard}
 use Rattle.codes.specs.SaysLaws.{passes, stops}
-use Rattle.trace.specs.Field.{size_of}
 use Rattle.trace.specs.Fields.{sized, tagged_at, field_at}
-use Rattle.trace.specs.Private.{contents_at}
 use Rattle.trace.specs.Types.{Field}
 
 pub other_length : (told n o : ℕ) (s : List ℕ) → told ≡ num_at (o + 1) 2 s → (told ≡ n → ⊥) → false ≡ (eqb (num_at (o + 1) 2 s) n && leb (o + (3 + n)) (length s))
@@ -55,40 +53,3 @@ no-tag o s (suc (suc (suc (suc n)))) a b c d = refl
 
 pub untagged : (o tag : ℕ) (s : List ℕ) → o + 3 ≤ length s → tag ≡ num_at o 1 s → (tag ≡ 0 → ⊥) → (tag ≡ 1 → ⊥) → (tag ≡ 2 → ⊥) → (tag ≡ 3 → ⊥) → None ≡ field_at o s
 untagged o tag s room e a b c d = tagged o tag tag s None room e refl (no-tag o s tag a b c d)
-
--- ---- the contents behind a tag, and then the length that goes with them
-
-the_field : Field → Option Field → Field
-the_field g (Some f) = f
-the_field g None = g
-
-is_some : Option Field → ℕ
-is_some (Some f) = 1
-is_some None = 0
-
-no-tagged : (k o : ℕ) (s : List ℕ) → None ≡ contents_at k o s → None ≡ tagged_at k o s
-unfolding is_some
-no-tagged zero o s e = let z : ◌≡◌ {A = ℕ} 0 1 = ap is_some e in absurd (omega arith)
-no-tagged (suc zero) o s e = let z : ◌≡◌ {A = ℕ} 0 1 = ap is_some e in absurd (omega arith)
-no-tagged (suc (suc zero)) o s e = let z : ◌≡◌ {A = ℕ} 0 1 = ap is_some e in absurd (omega arith)
-no-tagged (suc (suc (suc zero))) o s e = let z : ◌≡◌ {A = ℕ} 0 1 = ap is_some e in absurd (omega arith)
-no-tagged (suc (suc (suc (suc n)))) o s e = refl
-
-by_contents : (k o : ℕ) (s : List ℕ) (f : Field) → Some f ≡ contents_at k o s → sized (size_of f - 3) o s f ≡ tagged_at k o s
-unfolding the_field is_some
-by_contents zero o s f e = ap (λ (g : Field). sized (size_of g - 3) o s g) (ap (the_field f) e)
-by_contents (suc zero) o s f e = ap (λ (g : Field). sized (size_of g - 3) o s g) (ap (the_field f) e)
-by_contents (suc (suc zero)) o s f e = ap (λ (g : Field). sized (size_of g - 3) o s g) (ap (the_field f) e)
-by_contents (suc (suc (suc zero))) o s f e = ap (λ (g : Field). sized (size_of g - 3) o s g) (ap (the_field f) e)
-by_contents (suc (suc (suc (suc n)))) o s f e = let z : ◌≡◌ {A = ℕ} 1 0 = ap is_some e in absurd (omega arith)
-
-module _ (o tag : ℕ) (s : List ℕ) (room : o + 3 ≤ length s) (e : tag ≡ num_at o 1 s) where
-  pub no-contents : None ≡ contents_at tag o s → None ≡ field_at o s
-  no-contents q = tagged o tag tag s None room e refl (no-tagged tag o s q)
-
-  module _ (f : Field) (n : ℕ) (q : Some f ≡ contents_at tag o s) (z : n ≡ size_of f) (b : Bool) (w : b ≡ (eqb (num_at (o + 1) 2 s) (n - 3) && leb (o + (3 + (n - 3))) (length s))) where
-    pub cut_field : b ≡ false → None ≡ field_at o s
-    cut_field t = tagged o tag tag s None room e refl (sized-not (n - 3) o s f (sym w ∙ t) ∙ ap (λ (k : ℕ). sized (k - 3) o s f) z ∙ by_contents tag o s f q)
-
-    pub whole_field : b ≡ true → Some f ≡ field_at o s
-    whole_field t = tagged o tag tag s (Some f) room e refl (sized-is (n - 3) o s f f (sym w ∙ t) refl ∙ ap (λ (k : ℕ). sized (k - 3) o s f) z ∙ by_contents tag o s f q)

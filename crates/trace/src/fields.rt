@@ -2,8 +2,7 @@
 ghost use Rattle.std.specs.Prelude.{◌≡◌, ◌+◌, ◌≤◌, length, leb, eqb, ◌&&◌};
 ghost use Rattle.layout.specs.Bytes.{num_at};
 ghost use Rattle.trace.specs.Field.{size_of};
-ghost use Rattle.trace.specs.Fields.{field_at, scan_from, scan_of};
-ghost use Rattle.trace.specs.Private.{contents_at};
+ghost use Rattle.trace.specs.Fields.{tagged_at, field_at, scan_from, scan_of};
 
 use crate::field::{Field, Judgement, TraceError};
 use layout;
@@ -17,27 +16,28 @@ fn whole(s: &[u8], at: usize, n: usize) -> bool
     told == n && 3 + n <= s.len() - at
 }
 
-// What the contents behind a tag say, whatever the length says.
+// The field behind a tag. None: an unknown tag, a wrong length or a cut field. Each is read where it is known to be whole.
+#[tactic(auto, unfolding(codes::specs::Says::guard))]
 fn contents_at(s: &[u8], at: usize, tag: u8) -> Option<Field>
     requires { at + 3 ≤ length s.now }
-    ensures { result ≡ contents_at tag at s.now }
+    ensures { result ≡ tagged_at tag at s.now }
 {
     match tag {
-        0 => Some(Field::Start {
+        0 if whole(s, at, 12) => Some(Field::Start {
             stream: layout::get_u32(s, at + 3),
             total: layout::get_u32(s, at + 7),
             period: layout::get_u32(s, at + 11),
         }),
-        1 => Some(Field::Submitted {
+        1 if whole(s, at, 9) => Some(Field::Submitted {
             slot: layout::get_u8(s, at + 3),
             offset: layout::get_u32(s, at + 4),
             len: layout::get_u32(s, at + 8),
         }),
-        2 => Some(Field::Completed {
+        2 if whole(s, at, 5) => Some(Field::Completed {
             slot: layout::get_u8(s, at + 3),
             status: layout::get_u32(s, at + 4),
         }),
-        3 => Some(Field::End {
+        3 if whole(s, at, 1) => Some(Field::End {
             answer: layout::get_u8(s, at + 3),
         }),
         _ => None,
@@ -55,12 +55,7 @@ pub(crate) fn field_at(s: &[u8], at: usize) -> Option<Field>
     if n - at < 3 {
         return None;
     }
-    let f = contents_at(s, at, layout::get_u8(s, at))?;
-    if whole(s, at, size(f) - 3) {
-        Some(f)
-    } else {
-        None
-    }
+    contents_at(s, at, layout::get_u8(s, at))
 }
 
 // The bytes that a field takes.

@@ -7,4 +7,4 @@ use Rattle.layout.proofs.put_u16.Goals as goal
 pub returns : goal.returns
 returns c =
     let a = c.args in
-    c.put_bytes.ensures ∙ ap (sets a.out.now a.at) (c.to_le_bytes.ensures ∙ to_le_bytes-le_2 a.v)
+    c.put_number.ensures ∙ ap (sets a.out.now a.at) (c.to_le_bytes.ensures ∙ to_le_bytes-le_2 a.v)

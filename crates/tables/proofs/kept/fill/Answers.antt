@@ -1,7 +1,7 @@
 -- `tables::kept::fill` meets its contract: the page holds the records and the store has room for them, then the copy. Assumes nothing.
 use mathlib.Core.Path.{sym, ◌∙◌}
 use native.Mathlib.Omega.{arith}
-use borrow.Author.Tests.{leb-true, not-true, not-false}
+use borrow.Author.Tests.{not-true, not-false}
 use Rattle.tables.specs.TablesLaws.{fits-facts}
 use Rattle.tables.specs.FillLaws.{copied-unheld, copied-no-room, copied_all}
 use Rattle.tables.proofs.kept.fill.Goals as goal
