@@ -2,16 +2,18 @@
 # every single instruction of the archive (tests/redzone.c); one function that does keep a number there is seen. tests/sweep.sh does it with interrupts, in QEMU.
 cd "$(dirname "$0")/.." || exit 2
 [ "$(uname -m)" = x86_64 ] || { echo "the red zone is x86-64's: nothing to try on $(uname -m)"; exit 77; }
-for tool in gcc objcopy objdump; do
+for tool in gcc ld; do
     command -v $tool >/dev/null || { echo "$tool is not there: install gcc and binutils"; exit 1; }
 done
 archive=${SND_LIB:-target/staticlib/libconsole.a}
 [ -r "$archive" ] || { echo "$archive is not there: make it by tools/staticlib"; exit 1; }
 made=$(mktemp -d) || exit 2
 trap 'rm -rf "$made"' EXIT
-mapfile -t names < <(objdump -h "$archive" | awk '$2 ~ /^\.text/ { print "--rename-section=" $2 "=driver" }')
-objcopy "${names[@]}" "$archive" "$made/libdriver.a" || exit 1
-gcc -std=c11 -Wall -Wextra -Werror -O1 -I host/include -o "$made/redzone" tests/redzone.c "$made/libdriver.a" || exit 1
+# All code of the archive in one section, whose ends the linker knows. (objcopy can rename no section whose name has a `=`, as that of a
+# function for one width has.)
+echo 'SECTIONS { driver : { *(.text .text.*) } }' >"$made/one_section.ld"
+ld -r --whole-archive -T "$made/one_section.ld" -o "$made/driver.o" "$archive" || exit 1
+gcc -std=c11 -Wall -Wextra -Werror -O1 -I host/include -o "$made/redzone" tests/redzone.c "$made/driver.o" || exit 1
 "$made/redzone"
 case $? in
 0) ;;
